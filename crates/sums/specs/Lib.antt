@@ -1,0 +1,4 @@
+pub mod Sum
+pub mod Bits
+pub mod Tests
+pub mod Counts

@@ -1,0 +1,1 @@
+// Finite sums, counts and tests over natural numbers: theory only, in specs/.
