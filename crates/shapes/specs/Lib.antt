@@ -1,2 +1,5 @@
 pub mod Ancestors
 pub mod Directions
+pub mod Paths
+pub mod Centres
+pub mod Quartets

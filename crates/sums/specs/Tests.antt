@@ -139,3 +139,14 @@ some-true n q i l e = T-true (some n q) (some-iff n q .1 (i, l, rw e tt))
 pub some-false : (n : ℕ) (q : ℕ → Bool) → ((i : ℕ) → i < n → q i ≡ false) → some n q ≡ false
 some-false n q h =
     T-false (some n q) (λ t. let r = some-iff n q .0 t in subst T (h (r .0) (r .1)) (r .2))
+
+-- tests that agree below n
+pub every-ext : (n : ℕ) (q q' : ℕ → Bool) → ((i : ℕ) → i < n → q i ≡ q' i) → every n q ≡ every n q'
+every-ext n q q' h = same-test (every n q) (every n q')
+    (λ t. every-iff n q' .1 (λ i l. subst T (h i l) (every-iff n q .0 t i l)))
+    (λ t. every-iff n q .1 (λ i l. subst T (sym (h i l)) (every-iff n q' .0 t i l)))
+
+pub some-ext : (n : ℕ) (q q' : ℕ → Bool) → ((i : ℕ) → i < n → q i ≡ q' i) → some n q ≡ some n q'
+some-ext n q q' h = same-test (some n q) (some n q')
+    (λ t. let r = some-iff n q .0 t in some-iff n q' .1 (r .0, r .1, subst T (h (r .0) (r .1)) (r .2)))
+    (λ t. let r = some-iff n q' .0 t in some-iff n q .1 (r .0, r .1, subst T (sym (h (r .0) (r .1))) (r .2)))

@@ -1,0 +1,97 @@
+-- A tree table: its words, its parts, and which labels lie beyond an edge.
+-- Assumes nothing.
+use mathlib.Core.Path.{_≡_, refl, sym, _∙_, ap, ap₂}
+use mathlib.Core.Bool.{Bool, true, false}
+use mathlib.Core.List.{List, [], _∷_, _++_}
+use Prim.Native.Nat.{ℕ, zero, suc, _+_, _*_, _≤_, _<_}
+use native.Mathlib.Omega.{arith}
+use lib.Dec.{eqb}
+use lib.ListN.{length, getD, take, drop, length-drop, length-append, take-append-drop}
+use lib.Seq.{take-at, drop-at, take-all, length-take-le}
+use Rattle.shapes.specs.Ancestors.{anc}
+
+abbrev pub Table : Type 0
+Table = List ℕ
+
+-- the word at i, and 0 past the end
+abbrev pub word : List ℕ → ℕ → ℕ
+word l i = getD l i 0
+
+-- 'Word 0 is n, the tips.'
+unfoldable pub tips : Table → ℕ
+tips t = word t 0
+
+-- 'Word 1 is m, the nodes.'
+unfoldable pub nodes : Table → ℕ
+nodes t = word t 1
+
+-- 'The parents start at word 2, ..'
+unfoldable pub parents : Table → List ℕ
+parents t = take (nodes t) (drop 2 t)
+
+-- '.. the labels at word 2 + m. Each array has m words, one for each node 0 to m − 1.'
+unfoldable pub labels : Table → List ℕ
+labels t = take (nodes t) (drop (2 + nodes t) t)
+
+unfoldable pub parent : Table → ℕ → ℕ
+parent t = word (parents t)
+
+unfoldable pub label : Table → ℕ → ℕ
+label t = word (labels t)
+
+-- the last node below k with the label x
+unfoldable pub nodeBelow : (ℕ → ℕ) → ℕ → ℕ → ℕ
+nodeBelow lab zero x = 0
+nodeBelow lab (suc k) x = elim (eqb (lab k) x) [ true ↦ k | false ↦ nodeBelow lab k x ]
+
+-- the node with the label x
+unfoldable pub nodeOf : Table → ℕ → ℕ
+nodeOf t x = nodeBelow (label t) (nodes t) x
+
+-- 'The labels beyond edge i are those on node i's side, away from tip 0.'
+unfoldable pub beyond : Table → ℕ → ℕ → Bool
+beyond t i x = anc (parent t) i (nodeOf t x)
+
+-- ---- a table from its parts
+
+unfoldable pub tableOf : ℕ → List ℕ → List ℕ → Table
+tableOf n ps ls = n ∷ length ps ∷ (ps ++ ls)
+
+pub tips-of : (n : ℕ) (ps ls : List ℕ) → tips (tableOf n ps ls) ≡ n
+unfolding tips tableOf
+tips-of n ps ls = refl
+
+pub nodes-of : (n : ℕ) (ps ls : List ℕ) → nodes (tableOf n ps ls) ≡ length ps
+unfolding nodes tableOf
+nodes-of n ps ls = refl
+
+pub parents-of : (n : ℕ) (ps ls : List ℕ) → parents (tableOf n ps ls) ≡ ps
+unfolding parents nodes tableOf
+parents-of n ps ls = take-at ps ls (length ps) refl
+
+two-more : (k : ℕ) → 2 + k ≡ suc (suc k)
+two-more k = omega arith
+
+pub labels-of : (n : ℕ) (ps ls : List ℕ) → length ls ≡ length ps → labels (tableOf n ps ls) ≡ ls
+unfolding labels nodes tableOf
+labels-of n ps ls e =
+    ap (λ (j : ℕ). take (length ps) (drop j (n ∷ length ps ∷ (ps ++ ls)))) (two-more (length ps))
+    ∙ ap (take (length ps)) (drop-at ps ls (length ps) refl)
+    ∙ take-all (length ps) ls (omega arith)
+
+pub length-of : (n : ℕ) (ps ls : List ℕ) → length ls ≡ length ps
+    → length (tableOf n ps ls) ≡ 2 + 2 * length ps
+unfolding tableOf
+length-of n ps ls e = omega (arith, length-append ps ls)
+
+-- a table of the right length is made of its parts
+pub table-of-parts : (t : Table) → length t ≡ 2 + 2 * nodes t → tableOf (tips t) (parents t) (labels t) ≡ t
+unfolding tableOf tips nodes parents labels
+table-of-parts [] e = absurd (omega arith)
+table-of-parts (n ∷ []) e = absurd (omega arith)
+table-of-parts (n ∷ m ∷ r) e =
+    ap₂ (λ (k : ℕ) (l : List ℕ). n ∷ k ∷ l)
+    (length-take-le m r (omega arith))
+    (ap (λ (j : ℕ). take m r ++ take m (drop j (n ∷ m ∷ r))) (two-more m)
+    ∙ ap (λ (l : List ℕ). take m r ++ l) (take-all m (drop m r) (omega (arith, length-drop m r)))
+    ∙ take-append-drop m r)

@@ -1,0 +1,61 @@
+-- The walk: the labels depth first from node 0, children in rising node number.
+-- Assumes nothing.
+use mathlib.Core.Bool.{Bool, true, false}
+use mathlib.Core.List.{List, [], _∷_, _++_}
+use Prim.Native.Nat.{ℕ, zero, suc, _+_, _*_, _≤_, _<_}
+use lib.Dec.{eqb, ltb}
+use lib.ListN.{length, take, drop}
+use Rattle.sums.specs.Sum.{sum}
+use Rattle.sums.specs.Bits.{bit}
+use Rattle.sums.specs.Counts.{count}
+use Rattle.trees.specs.Table.{Table, tips, nodes, parent, label, beyond}
+use Rattle.trees.specs.TreeCheck.{isChild}
+
+-- the label of a tip; an inner node has none
+unfoldable pub own : Table → ℕ → List ℕ
+own t v = elim (ltb (label t v) (tips t)) [ true ↦ label t v ∷ [] | false ↦ [] ]
+
+-- the lists of those below k that pass the test, in rising order
+unfoldable pub inTurn : ℕ → (ℕ → Bool) → (ℕ → List ℕ) → List ℕ
+inTurn zero q g = []
+inTurn (suc k) q g = inTurn k q g ++ (elim (q k) [ true ↦ g k | false ↦ [] ])
+
+-- 'the labels depth first .., children in rising node number', at most f levels deep
+unfoldable pub visit : Table → ℕ → ℕ → List ℕ
+visit t zero v = []
+visit t (suc f) v = own t v ++ inTurn (nodes t) (isChild (parent t) v) (λ c. visit t f c)
+
+-- the labels of node v and of all nodes below it
+unfoldable pub subtree : Table → ℕ → List ℕ
+subtree t v = visit t (nodes t) v
+
+-- '.. depth first from node 0'
+unfoldable pub walk : Table → List ℕ
+walk t = subtree t 0
+
+-- the lent cells once the walk is written: 'cells from n on stay'
+unfoldable pub walked : Table → List ℕ → List ℕ
+walked t cells = walk t ++ drop (tips t) cells
+
+-- ---- the part of a walk that belongs to an edge
+
+-- how many labels lie beyond edge i
+unfoldable pub below : Table → ℕ → ℕ
+below t i = count (tips t) (beyond t i)
+
+-- how many labels the walk has before node v's: those before its parent's, the parent's own,
+-- and those of the parent's earlier children
+unfoldable pub startIn : Table → ℕ → ℕ → ℕ
+startIn t zero v = 0
+startIn t (suc f) v = elim (eqb v 0) [
+  | true ↦ 0
+  | false ↦ startIn t f (parent t v) + length (own t (parent t v))
+      + sum v (λ c. bit (isChild (parent t) (parent t v) c) * below t c)
+]
+
+unfoldable pub start : Table → ℕ → ℕ
+start t v = startIn t v v
+
+-- 'handed back as that part of the lent walk, chosen by position alone'
+unfoldable pub part : Table → ℕ → List ℕ → List ℕ
+part t i w = take (below t i) (drop (start t i) w)
