@@ -3,3 +3,4 @@ pub mod Directions
 pub mod Paths
 pub mod Centres
 pub mod Quartets
+pub mod Totals

@@ -1,11 +1,11 @@
 -- What the tree check answers.
 -- Assumes nothing.
-use mathlib.Core.Path.{_≡_, refl, sym, _∙_, ap}
-use mathlib.Core.Logic.{_≢_, _↔_}
+use mathlib.Core.Path.{_≡_, refl, ap}
+use mathlib.Core.Logic.{_≢_}
 use Prim.Native.Nat.{ℕ, zero, suc}
 use Rattle.trees.specs.declared.table.Checked.{Checked}
 use Rattle.trees.specs.declared.table.Checked.the-variants.{Tree, Refused}
-use Rattle.trees.specs.Table.{Table, tips, nodes}
+use Rattle.trees.specs.Table.{Table, word, tips, nodes}
 use Rattle.trees.specs.Refusals.{refusal}
 use Rattle.trees.specs.TreeCheck.{treeOrder}
 
@@ -17,7 +17,34 @@ verdict (suc k) t = Refused (suc k)
 unfoldable pub checked : Table → Checked
 checked t = verdict (refusal (treeOrder t)) t
 
--- document 01's number and values of each case
+-- document 01's number and values of each case: 0 with n and m, or the number with zeros
 abbrev pub numberOf : Checked → ℕ
 numberOf (Tree n m) = 0
 numberOf (Refused k) = k
+
+abbrev pub tipsOf : Checked → ℕ
+tipsOf (Tree n m) = n
+tipsOf (Refused k) = 0
+
+abbrev pub nodesOf : Checked → ℕ
+nodesOf (Tree n m) = m
+nodesOf (Refused k) = 0
+
+-- ---- the two answers
+
+pub number-of-checked : (t : Table) → numberOf (checked t) ≡ refusal (treeOrder t)
+unfolding checked verdict
+number-of-checked t = go (refusal (treeOrder t))
+  where
+    go : (k : ℕ) → numberOf (verdict k t) ≡ k
+    go zero = refl
+    go (suc k) = refl
+
+pub checked-tree : (t : Table) → refusal (treeOrder t) ≡ 0 → checked t ≡ Tree (word t 0) (word t 1)
+unfolding checked verdict tips nodes
+checked-tree t e = ap (λ (k : ℕ). verdict k t) e
+
+pub checked-refused : (t : Table) (k : ℕ) → refusal (treeOrder t) ≡ k → k ≢ 0 → checked t ≡ Refused k
+unfolding checked verdict
+checked-refused t zero e d = absurd (d refl)
+checked-refused t (suc k) e d = ap (λ (j : ℕ). verdict j t) e

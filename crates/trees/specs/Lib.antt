@@ -3,6 +3,12 @@ pub mod Refusals
 pub mod IsTree
 pub mod TreeCheck
 pub mod Tally
+pub mod CheckOutcomes
 pub mod Check
+pub mod Labels
 pub mod Walk
+pub mod Weights
+pub mod Subtrees
+pub mod WalkLaws
+pub mod Reach
 pub mod Topology

@@ -27,6 +27,10 @@ abbrev pub Numbered : List Rule → Type 0
 Numbered [] = Unit {0}
 Numbered (r ∷ rs) = (1 ≤ r .0) × Numbered rs
 
+pub refusal-none : refusal [] ≡ 0
+unfolding refusal
+refusal-none = refl
+
 -- a broken rule is told, and a kept one passed over
 pub refusal-here : (k : ℕ) (b : Bool) (rs : List Rule) → b ≡ true → refusal ((k, b) ∷ rs) ≡ k
 unfolding refusal

@@ -1,8 +1,8 @@
 -- How often each number stands among the first words of a list, as an array of 512 counts tells it.
 -- Assumes nothing.
-use mathlib.Core.Path.{_≡_, refl, sym, _∙_, ap}
+use mathlib.Core.Path.{_≡_, refl, sym, _∙_, ap, subst}
 use mathlib.Core.Bool.{Bool, _&&_}
-use mathlib.Core.List.{List, _∷_}
+use mathlib.Core.List.{List, [], _∷_}
 use Prim.Native.Nat.{ℕ, zero, suc, _+_, _≤_, _<_}
 use native.Mathlib.Decide.{ℕ-discrete}
 use native.Mathlib.Numerals.{add-one}
@@ -14,11 +14,11 @@ use lib.Seq.{getD-set-same, getD-set-other}
 use Rattle.sums.specs.Sum.{sum, sum-suc, sum-first, sum-cong}
 use Rattle.sums.specs.Bits.{bit, is, is-self, is-other}
 use Rattle.sums.specs.Counts.{count-le}
-use Rattle.trees.specs.Table.{word}
+use Rattle.trees.specs.Table.{word, rest, rest-drop}
 use Rattle.trees.specs.TreeCheck.{standing, isChild, children}
 
 -- a node's children are the nodes from 1 on that name it
-pub children-standing : (p : ℕ) (ps : List ℕ) (i : ℕ)
+children-standing : (p : ℕ) (ps : List ℕ) (i : ℕ)
     → children (suc (length ps)) (word (p ∷ ps)) i ≡ standing (length ps) (word ps) i
 unfolding children standing isChild
 children-standing p ps i =
@@ -69,3 +69,12 @@ module _ (ws : List ℕ) (k : ℕ) (counts : List ℕ) (h : Tallied ws k counts)
     long = h .long;
     cells = λ x m. omega (arith, h .cells x m, standing-suc k (word ws) x, is-other (word ws k) x (λ q. omega arith));
   }
+
+-- the counts of the parent words from node 1 on are the numbers of children
+pub tallied-children : (ps counts : List ℕ) (i : ℕ) → 1 ≤ length ps
+    → Tallied (rest 1 ps) (length (rest 1 ps)) counts → i < 512
+    → children (length ps) (word ps) i ≡ word counts i
+tallied-children [] counts i l h m = absurd (omega arith)
+tallied-children (p ∷ ps) counts i l h m =
+    let q = subst (λ (w : List ℕ). Tallied w (length w) counts) (rest-drop 1 (p ∷ ps)) h in
+    children-standing p ps i ∙ sym (q .cells i m)

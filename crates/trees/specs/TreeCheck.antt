@@ -64,6 +64,13 @@ arraysOrder n m up lab =
     ∷ (7, some m (λ i. misplaced i (lab i) (children m up i)))
     ∷ []
 
+-- arrays of one length, short enough to be counted in 512 cells
+pub record ArraysFit (ps ls : List ℕ) (n : ℕ) : Type 0 where
+  pub same : length ls ≡ length ps
+  pub some : 1 ≤ length ps
+  pub few : length ps ≤ 512
+  pub tips-few : n ≤ 512
+
 unfoldable pub treeOrder : Table → List Rule
 treeOrder t =
     -- '1: fewer than two words.'
@@ -86,7 +93,7 @@ tips-iff n = let a = and-iff (leb 2 n) (leb n 256) in (
   λ h. a .1 (le-iff 2 n .1 (h .0), le-iff n 256 .1 (h .1)),
 )
 
-nodes-iff : (n m : ℕ) → T (nodesFit n m) ↔ (n ≤ m) × (m ≤ 2 * n - 2)
+pub nodes-iff : (n m : ℕ) → T (nodesFit n m) ↔ (n ≤ m) × (m ≤ 2 * n - 2)
 unfolding nodesFit
 nodes-iff n m = let a = and-iff (leb n m) (leb m (2 * n - 2)) in (
   λ h. let r = a .0 h in (le-iff n m .0 (r .0), le-iff m (2 * n - 2) .0 (r .1)),

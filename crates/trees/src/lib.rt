@@ -6,4 +6,5 @@ mod quartet; // quartet.rt: the topology of four labels
 
 pub use quartet::Topology;
 pub use table::Checked;
+pub use table::check;
 pub use table::refusal_of;

@@ -2,14 +2,13 @@
 use super::words::tally;
 use super::words::wide;
 ghost use mathlib.Core.Path.{_≡_};
-ghost use mathlib.Core.Bool.{_&&_};
 ghost use Prim.Native.Nat.{ℕ, _+_, _*_, _≤_, _<_};
 ghost use lib.Dec.{eqb};
 ghost use lib.ListN.{length};
 ghost use Rattle.sums.specs.Tests.{some, every};
-ghost use Rattle.trees.specs.Table.{word, tips, nodes, parents};
+ghost use Rattle.trees.specs.Table.{word};
 ghost use Rattle.trees.specs.Refusals.{refusal};
-ghost use Rattle.trees.specs.TreeCheck.{parentFits, labelFits, standing, labelsFit, children, misplaced, treeOrder};
+ghost use Rattle.trees.specs.TreeCheck.{tipsFit, nodesFit, parentFits, labelFits, labelsFit, misplaced, arraysOrder, ArraysFit, treeOrder};
 ghost use Rattle.trees.specs.Check.{checked, numberOf};
 
 // What the check finds: a tree with its tips and nodes, or the number of the refusal.
@@ -135,4 +134,76 @@ fn some_misplaced(labels: &[u16], kids: &[u16]) -> bool
         i += 1;
     }
     false
+}
+
+// The first of the rules 5 to 7 that the two arrays break, or 0: one pass over the parents counts the children.
+fn arrays_refusal(parents: &[u16], labels: &[u16], n: usize) -> u16
+    requires { ⌜ ArraysFit (now parents) (now labels) n ⌝ }
+    ensures { λ r. ⌜ r ≡ refusal (arraysOrder n (length (now (parents .entry))) (word (now (parents .entry))) (word (now (labels .entry)))) ⌝ }
+{
+    if !parents_fit(parents) {
+        return 5;
+    }
+    if !labels_fit(labels, n) {
+        return 6;
+    }
+    let kids = tally(&parents[1..]);
+    if some_misplaced(labels, &kids) {
+        return 7;
+    }
+    0
+}
+
+fn tips_fit(n: usize) -> bool
+    ensures { λ r. ⌜ r ≡ tipsFit n ⌝ }
+{
+    if n < 2 {
+        return false;
+    }
+    n <= 256
+}
+
+fn nodes_fit(n: usize, m: usize) -> bool
+    requires { ⌜ (2 ≤ n) × (n ≤ 256) ⌝ }
+    ensures { λ r. ⌜ r ≡ nodesFit n m ⌝ }
+{
+    if m < n {
+        return false;
+    }
+    m <= 2 * n - 2
+}
+
+// The number of the first rule of a tree table that is broken, or 0.
+fn tree_refusal(table: &[u16]) -> u16
+    ensures { λ r. ⌜ r ≡ refusal (treeOrder (now (table .entry))) ⌝ }
+{
+    if table.len() < 2 {
+        return 1;
+    }
+    let n = wide(table[0]);
+    let m = wide(table[1]);
+    if !tips_fit(n) {
+        return 2;
+    }
+    if !nodes_fit(n, m) {
+        return 3;
+    }
+    if table.len() != 2 + 2 * m {
+        return 4;
+    }
+    arrays_refusal(&table[2..2 + m], &table[2 + m..], n)
+}
+
+// Whether the words are a tree table. The smallest number decides where several rules are broken.
+pub fn check(table: &[u16]) -> Checked
+    ensures { λ r. ⌜ r ≡ checked (now (table .entry)) ⌝ }
+{
+    let number = tree_refusal(table);
+    if number != 0 {
+        return Checked::Refused(number);
+    }
+    Checked::Tree {
+        tips: table[0],
+        nodes: table[1],
+    }
 }
