@@ -121,6 +121,12 @@ every-iff (suc n) q = (
     back true e t r = r
     back false e t r = subst T e t
 
+pub not-some-iff : (n : ℕ) (q : ℕ → Bool) → T (not (some n q)) ↔ ((i : ℕ) → i < n → T (not (q i)))
+not-some-iff n q = (
+  λ t i l. not-T (q i) (λ h. T-not (some n q) t (some-iff n q .1 (i, l, h))),
+  λ h. not-T (some n q) (λ t. let r = some-iff n q .0 t in T-not (q (r .0)) (h (r .0) (r .1)) (r .2)),
+)
+
 -- ---- as a loop finds them
 
 -- all indices were looked at, and each passed

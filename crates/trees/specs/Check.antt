@@ -1,13 +1,15 @@
 -- What the tree check answers.
 -- Assumes nothing.
-use mathlib.Core.Path.{_≡_, refl, ap}
+use mathlib.Core.Path.{_≡_, refl, sym, _∙_, ap}
 use mathlib.Core.Logic.{_≢_}
 use Prim.Native.Nat.{ℕ, zero, suc}
+use native.Mathlib.Omega.{arith}
 use Rattle.trees.specs.declared.table.Checked.{Checked}
 use Rattle.trees.specs.declared.table.Checked.the-variants.{Tree, Refused}
 use Rattle.trees.specs.Table.{Table, word, tips, nodes}
 use Rattle.trees.specs.Refusals.{refusal}
-use Rattle.trees.specs.TreeCheck.{treeOrder}
+use Rattle.trees.specs.IsTree.{IsTree}
+use Rattle.trees.specs.TreeCheck.{treeOrder, tree-check}
 
 -- accepted with n and m, or refused with the number
 unfoldable pub verdict : ℕ → Table → Checked
@@ -48,3 +50,29 @@ pub checked-refused : (t : Table) (k : ℕ) → refusal (treeOrder t) ≡ k → 
 unfolding checked verdict
 checked-refused t zero e d = absurd (d refl)
 checked-refused t (suc k) e d = ap (λ (j : ℕ). verdict j t) e
+
+-- what an accepted answer says
+pub checked-accepted : (t : Table) (n m : ℕ) → checked t ≡ Tree n m → IsTree t × (n ≡ tips t) × (m ≡ nodes t)
+unfolding tips nodes
+checked-accepted t n m e =
+    let z : refusal (treeOrder t) ≡ 0 = sym (number-of-checked t) ∙ ap numberOf e in
+    let d : Tree n m ≡ Tree (word t 0) (word t 1) = sym e ∙ checked-tree t z in
+    (tree-check t .0 z, ap tipsOf d, ap nodesOf d)
+
+-- what a refusal says
+pub checked-refusal : (t : Table) (k : ℕ) → checked t ≡ Refused k → (refusal (treeOrder t) ≡ k) × (k ≢ 0)
+checked-refusal t k e = (number, λ z. never (checked-tree t (number ∙ z)))
+  where
+    number : refusal (treeOrder t) ≡ k
+    number = sym (number-of-checked t) ∙ ap numberOf e
+
+    never : checked t ≡ Tree (word t 0) (word t 1) → ⊥
+    never d = let z : _≡_ {A = ℕ} 0 1 = cc in omega arith
+
+-- the number that is passed on from a refused answer
+pub refusal-passed : (t : Table) (answer : Checked) (k number : ℕ) → answer ≡ checked t → answer ≡ Refused k
+    → number ≡ numberOf answer → (refusal (treeOrder t) ≡ number) × (number ≢ 0)
+refusal-passed t answer k number a r e =
+    let h = checked-refusal t k (sym a ∙ r) in
+    let q : number ≡ k = e ∙ ap numberOf r in
+    (h .0 ∙ sym q, λ z. h .1 (sym q ∙ z))

@@ -5,10 +5,14 @@ pub mod TreeCheck
 pub mod Tally
 pub mod CheckOutcomes
 pub mod Check
+pub mod Orders
+pub mod Arrays
 pub mod Labels
 pub mod Walk
 pub mod Weights
 pub mod Subtrees
 pub mod WalkLaws
 pub mod Reach
-pub mod Topology
+pub mod Positions
+pub mod Writing
+pub mod WalkOutcomes

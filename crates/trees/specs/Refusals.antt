@@ -17,6 +17,21 @@ unfoldable pub refusal : List Rule → ℕ
 refusal [] = 0
 refusal (r ∷ rs) = elim (r .1) [ true ↦ r .0 | false ↦ refusal rs ]
 
+-- 'A refused call gives .. zero in every count and other number field ..': the answer if the number is 0, else the other
+unfoldable pub ifAccepted : {A : Type 0} → ℕ → A → A → A
+ifAccepted zero x y = x
+ifAccepted (suc k) x y = y
+
+pub if-accepted : {A : Type 0} (k : ℕ) (x y : A) → k ≡ 0 → ifAccepted k x y ≡ x
+unfolding ifAccepted
+if-accepted zero x y e = refl
+if-accepted (suc k) x y e = absurd (omega arith)
+
+pub if-refused : {A : Type 0} (k : ℕ) (x y : A) → k ≢ 0 → ifAccepted k x y ≡ y
+unfolding ifAccepted
+if-refused zero x y d = absurd (d refl)
+if-refused (suc k) x y d = refl
+
 -- no rule is broken
 abbrev pub Kept : List Rule → Type 0
 Kept [] = Unit {0}

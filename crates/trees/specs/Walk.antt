@@ -2,14 +2,16 @@
 -- Assumes nothing.
 use mathlib.Core.Bool.{Bool, true, false}
 use mathlib.Core.List.{List, [], _∷_, _++_}
-use Prim.Native.Nat.{ℕ, zero, suc, _+_, _*_, _≤_, _<_}
+use Prim.Native.Nat.{ℕ, zero, suc, _+_, _*_}
 use lib.Dec.{eqb, ltb}
 use lib.ListN.{length, take, drop}
 use Rattle.sums.specs.Sum.{sum}
 use Rattle.sums.specs.Bits.{bit}
 use Rattle.sums.specs.Counts.{count}
 use Rattle.trees.specs.Table.{Table, tips, nodes, parent, label, beyond}
+use Rattle.trees.specs.Refusals.{refusal, ifAccepted}
 use Rattle.trees.specs.TreeCheck.{isChild}
+use Rattle.trees.specs.Orders.{walkOrder, edgeOrder}
 
 -- the label of a tip; an inner node has none
 unfoldable pub own : Table → ℕ → List ℕ
@@ -37,6 +39,10 @@ walk t = subtree t 0
 unfoldable pub walked : Table → List ℕ → List ℕ
 walked t cells = walk t ++ drop (tips t) cells
 
+-- 'A refused call gives .. no change to a lent cell.'
+unfoldable pub afterWalk : Table → List ℕ → List ℕ
+afterWalk t cells = ifAccepted (refusal (walkOrder t (length cells))) (walked t cells) cells
+
 -- ---- the part of a walk that belongs to an edge
 
 -- how many labels lie beyond edge i
@@ -59,3 +65,7 @@ start t v = startIn t v v
 -- 'handed back as that part of the lent walk, chosen by position alone'
 unfoldable pub part : Table → ℕ → List ℕ → List ℕ
 part t i w = take (below t i) (drop (start t i) w)
+
+-- 'A refusal hands back an empty part.'
+unfoldable pub partBeyond : Table → ℕ → List ℕ → List ℕ
+partBeyond t i w = ifAccepted (refusal (edgeOrder t i (length w))) (part t i w) []

@@ -1,10 +1,12 @@
-// The tree library: a table of words is checked, walked, and asked for centres and topologies.
 // Every public function takes any words in slices of any length, and answers in full or refuses with one number.
 mod words; // words.rt: words as indices, and counts of equal words
 mod table; // table.rt: the tree check
-mod quartet; // quartet.rt: the topology of four labels
+mod sizes; // sizes.rt: how many labels lie beyond each edge, and where they stand in the walk
+mod walks; // walks.rt: the walk, and the part of a walk beyond an edge
 
-pub use quartet::Topology;
 pub use table::Checked;
 pub use table::check;
 pub use table::refusal_of;
+pub use walks::beyond;
+pub use walks::beyond_refusal;
+pub use walks::walk;

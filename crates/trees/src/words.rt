@@ -11,6 +11,14 @@ pub(crate) fn wide(x: u16) -> usize
     x as usize
 }
 
+// An index as a word.
+pub(crate) fn narrow(x: usize) -> u16
+    requires { ⌜ x < 65536 ⌝ }
+    ensures { λ r. ⌜ r ≡ x ⌝ }
+{
+    x as u16
+}
+
 // How often each number below 512 stands among the words.
 pub(crate) fn tally(words: &[u16]) -> [u16; 512]
     requires { ⌜ length (now words) ≤ 512 ⌝ }

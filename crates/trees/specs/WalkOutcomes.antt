@@ -1,0 +1,86 @@
+-- What the walk and the part beyond an edge give, as their code finds it.
+-- Assumes nothing.
+use mathlib.Core.Path.{_≡_, refl, sym, _∙_, ap}
+use mathlib.Core.Bool.{Bool, true, false, _||_}
+use mathlib.Core.List.{List, [], _∷_}
+use mathlib.Core.Logic.{_≢_}
+use Prim.Native.Nat.{ℕ, _≤_, _<_}
+use native.Mathlib.Omega.{arith}
+use borrow.Author.Tests.{lt-ltb, le-ltb, le-leb, lt-leb, eq-eqb, ne-eqb}
+use lib.Dec.{eqb, leb, ltb}
+use lib.ListN.{length}
+use Rattle.trees.specs.Table.{Table, tips, nodes}
+use Rattle.trees.specs.Refusals.{refusal, refusal-none, refusal-here, refusal-next, if-accepted, if-refused}
+use Rattle.trees.specs.IsTree.{IsTree}
+use Rattle.trees.specs.TreeCheck.{treeOrder}
+use Rattle.trees.specs.Orders.{walkOrder, edgeOrder, tree-refused, tree-accepted}
+use Rattle.trees.specs.Walk.{walked, afterWalk, part, partBeyond}
+
+-- ---- the walk: its number, and the cells afterwards
+
+abbrev pub Walked : Table → List ℕ → ℕ → List ℕ → Type 0
+Walked t cells number after = (number ≡ refusal (walkOrder t (length cells))) × (after ≡ afterWalk t cells)
+
+module _ (t : Table) (cells : List ℕ) where
+  refused : (k : ℕ) → k ≢ 0 → k ≡ refusal (walkOrder t (length cells)) → Walked t cells k cells
+  unfolding afterWalk
+  refused k d e = (e, sym (if-refused _ (walked t cells) cells (λ z. d (e ∙ z))))
+
+  pub walk-tree-refused : (k : ℕ) → refusal (treeOrder t) ≡ k → k ≢ 0 → Walked t cells k cells
+  unfolding walkOrder
+  walk-tree-refused k e d = refused k d (sym (tree-refused t _ k e d))
+
+  pub walk-too-short : IsTree t → length cells < tips t → Walked t cells 12 cells
+  unfolding walkOrder
+  walk-too-short g l =
+      refused 12 (λ z. omega arith) (sym (tree-accepted t _ g ∙ refusal-here 12 _ _ (lt-ltb (length cells) (tips t) l)))
+
+  pub walk-accepted : IsTree t → tips t ≤ length cells → Walked t cells 0 (walked t cells)
+  unfolding walkOrder afterWalk
+  walk-accepted g l = (sym zero-is, sym (if-accepted _ (walked t cells) cells zero-is))
+    where
+      zero-is : refusal (walkOrder t (length cells)) ≡ 0
+      zero-is = tree-accepted t _ g ∙ refusal-next 12 _ [] (le-ltb (length cells) (tips t) l) ∙ refusal-none
+
+-- ---- the part beyond an edge: the number
+
+module _ (t : Table) (i cells : ℕ) where
+  pub edge-tree-refused : (k : ℕ) → refusal (treeOrder t) ≡ k → k ≢ 0 → refusal (edgeOrder t i cells) ≡ k
+  unfolding edgeOrder
+  edge-tree-refused k e d = tree-refused t _ k e d
+
+  module _ (g : IsTree t) where
+    pub edge-zero : i ≡ 0 → refusal (edgeOrder t i cells) ≡ 13
+    unfolding edgeOrder
+    edge-zero e =
+        tree-accepted t _ g ∙ refusal-here 13 _ _ (ap (λ (b : Bool). b || leb (nodes t) i) (eq-eqb i 0 e))
+
+    pub edge-too-large : i ≢ 0 → nodes t ≤ i → refusal (edgeOrder t i cells) ≡ 13
+    unfolding edgeOrder
+    edge-too-large d l =
+        tree-accepted t _ g
+        ∙ refusal-here 13 _ _ (ap (λ (b : Bool). b || leb (nodes t) i) (ne-eqb i 0 d) ∙ le-leb (nodes t) i l)
+
+    module _ (d : i ≢ 0) (l : i < nodes t) where
+      inside : refusal (edgeOrder t i cells) ≡ refusal ((12, ltb cells (tips t)) ∷ [])
+      unfolding edgeOrder
+      inside =
+          tree-accepted t _ g
+          ∙ refusal-next 13 _ _ (ap (λ (b : Bool). b || leb (nodes t) i) (ne-eqb i 0 d) ∙ lt-leb (nodes t) i l)
+
+      pub edge-walk-short : cells < tips t → refusal (edgeOrder t i cells) ≡ 12
+      edge-walk-short h = inside ∙ refusal-here 12 _ _ (lt-ltb cells (tips t) h)
+
+      pub edge-accepted : tips t ≤ cells → refusal (edgeOrder t i cells) ≡ 0
+      edge-accepted h = inside ∙ refusal-next 12 _ [] (le-ltb cells (tips t) h) ∙ refusal-none
+
+-- ---- the part
+
+module _ (t : Table) (i : ℕ) (w : List ℕ) where
+  pub part-refused : (k : ℕ) → k ≡ refusal (edgeOrder t i (length w)) → k ≢ 0 → partBeyond t i w ≡ []
+  unfolding partBeyond
+  part-refused k e d = if-refused _ (part t i w) [] (λ z. d (e ∙ z))
+
+  pub part-accepted : (k : ℕ) → k ≡ refusal (edgeOrder t i (length w)) → k ≡ 0 → partBeyond t i w ≡ part t i w
+  unfolding partBeyond
+  part-accepted k e z = if-accepted _ (part t i w) [] (sym e ∙ z)
