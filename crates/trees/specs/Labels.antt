@@ -3,7 +3,7 @@
 use mathlib.Core.Path.{_≡_, refl, sym, _∙_, ap, subst}
 use mathlib.Core.Bool.{Bool, true, false}
 use mathlib.Core.Logic.{inl, inr}
-use Prim.Native.Nat.{ℕ, zero, suc, _*_, _<_}
+use Prim.Native.Nat.{ℕ, zero, suc, _*_, _≤_, _<_}
 use native.Mathlib.Nat.{eq-or-lt-of-le, le-of-suc-le-suc}
 use native.Mathlib.Decide.{decLt}
 use native.Mathlib.Omega.{arith}
@@ -13,6 +13,18 @@ use Rattle.sums.specs.Bits.{bit, bit-T, bit-no, is, is-self, is-other, is-eq, a
 use Rattle.sums.specs.Tests.{eq-iff, lt-iff}
 use Rattle.trees.specs.Table.{Table, tips, nodes, label, nodeBelow, nodeOf}
 use Rattle.trees.specs.IsTree.{IsTree}
+
+either-lt : (b : Bool) {x y k : ℕ} → x < k → y < k → elim b as (λ z. ℕ) [ true ↦ x | false ↦ y ] < k
+either-lt true l m = l
+either-lt false l m = m
+
+-- what is found below k is below k, whether or not the label stands there
+pub node-below : (lab : ℕ → ℕ) (k x : ℕ) → 1 ≤ k → nodeBelow lab k x < k
+unfolding nodeBelow
+node-below lab zero x l = absurd (omega arith)
+node-below lab (suc zero) x l = either-lt (eqb (lab 0) x) (omega arith) (omega arith)
+node-below lab (suc (suc k)) x l =
+    either-lt (eqb (lab (suc k)) x) (omega arith) (omega (arith, node-below lab (suc k) x (omega arith)))
 
 -- a label that stands below k is the label of the node that is found
 found : (lab : ℕ → ℕ) (x k i : ℕ) → i < k → lab i ≡ x

@@ -16,3 +16,5 @@ pub mod Reach
 pub mod Positions
 pub mod Writing
 pub mod WalkOutcomes
+pub mod Centre
+pub mod CentreLaws

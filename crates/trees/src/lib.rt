@@ -1,9 +1,14 @@
+// The tree library: a table of words is checked, walked, and asked for centres and topologies.
 // Every public function takes any words in slices of any length, and answers in full or refuses with one number.
 mod words; // words.rt: words as indices, and counts of equal words
 mod table; // table.rt: the tree check
 mod sizes; // sizes.rt: how many labels lie beyond each edge, and where they stand in the walk
 mod walks; // walks.rt: the walk, and the part of a walk beyond an edge
+mod asked; // asked.rt: the labels that a caller asks about
+mod centres; // centres.rt: the centre of three labels
 
+pub use centres::CentreAnswer;
+pub use centres::centre;
 pub use table::Checked;
 pub use table::check;
 pub use table::refusal_of;

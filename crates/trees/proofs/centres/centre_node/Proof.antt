@@ -1,0 +1,47 @@
+-- The nodes of the three labels are nodes, so they can climb.
+-- Assumes nothing.
+use Rattle.trees.specs.Centre.{centreOver}
+use Rattle.trees.specs.CentreLaws.{node-found}
+use borrow.Author.Needs.{needs}
+use Rattle.trees.proofs.centres.centre_node.Statement.{statement}
+use Rattle.trees.proofs.centres.centre_node.Tie as tie
+
+node-of-requires : tie.Need-node-of-requires
+node-of-requires c κs = search needs
+
+node-of-requires-2 : tie.Need-node-of-requires-2
+node-of-requires-2 c κs = search needs
+
+node-of-requires-3 : tie.Need-node-of-requires-3
+node-of-requires-3 c κs = search needs
+
+join-requires : tie.Need-join-requires
+join-requires c κs =
+    let s = c .before .before .before .before .before in
+    let p = s .pre in
+    let found = node-found (s .args .parents .now) (s .args .labels .now) (p .1) (p .3) in
+    record {
+      tree = p .0;
+      few = p .2;
+      la = found (s .args .a) _ (c .before .before .node-of .ensures);
+      lb = found (s .args .b) _ (c .before .node-of2 .ensures);
+      lc = found (s .args .c) _ (c .node-of3 .ensures);
+    }
+
+narrow-requires : tie.Need-narrow-requires
+narrow-requires c κs = search needs
+
+returns : tie.Need-returns
+unfolding centreOver
+returns c = cc
+
+pub centre-node-spec : {M : Type 1} → statement M
+centre-node-spec =
+    tie.close
+    (tie.spec
+    node-of-requires
+    node-of-requires-2
+    node-of-requires-3
+    join-requires
+    narrow-requires
+    returns)

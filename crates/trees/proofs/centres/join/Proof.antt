@@ -1,0 +1,176 @@
+-- The invariant: the three nodes climbed to have the centre of the three given. The measure is their sum.
+-- Assumes nothing.
+use Prim.Native.Nat.{_+_}
+use mathlib.Core.Path.{_≡_, refl, sym, _∙_}
+use native.Mathlib.Omega.{arith}
+use Rattle.trees.specs.Centre.{Climbable}
+use Rattle.trees.specs.CentreLaws.{
+  joinOf,
+  Climbed,
+  first-climbs,
+  second-climbs,
+  third-climbs,
+  first-second-met,
+  first-third-met,
+  second-third-met,
+}
+use borrow.Author.Needs.{needs}
+use Rattle.trees.proofs.centres.join.Statement.{statement}
+use Rattle.trees.proofs.centres.join.Tie as tie
+
+abbrev Inv-loop : tie.InvT-loop
+Inv-loop parents a b c x₀ y₀ z₀ x y z =
+    Climbable parents x y z × (joinOf parents x y z ≡ joinOf parents a b c)
+
+abbrev μ-loop : tie.MeasureT-loop
+μ-loop parents a b c x₀ y₀ z₀ x y z = x + y + z
+
+-- each arm replaces the largest of the three by its parent
+x-climbs : (c : tie.After-wide Inv-loop μ-loop)
+    → let l = c .before .before .before .before .before .before .before in
+    Climbed (l .before .before .args .parents .now) (c .wide .result) (l .loop .y) (l .loop .z)
+    (l .loop .x) (l .loop .y) (l .loop .z)
+x-climbs c =
+    let l = c .before .before .before .before .before .before .before .loop in
+    first-climbs _ _ _ _ (l .inv .0) _ (c .wide .ensures .0) (omega arith) (omega arith)
+
+z-climbs-past-x : (c : tie.After-wide2 Inv-loop μ-loop)
+    → let l = c .before .before .before .before .before .before .before in
+    Climbed (l .before .before .args .parents .now) (l .loop .x) (l .loop .y) (c .wide2 .result)
+    (l .loop .x) (l .loop .y) (l .loop .z)
+z-climbs-past-x c =
+    let l = c .before .before .before .before .before .before .before .loop in
+    third-climbs _ _ _ _ (l .inv .0) _ (c .wide2 .ensures .0) (omega arith) (omega arith)
+
+y-climbs : (c : tie.After-wide3 Inv-loop μ-loop)
+    → let l = c .before .before .before .before .before .before .before in
+    Climbed (l .before .before .args .parents .now) (l .loop .x) (c .wide3 .result) (l .loop .z)
+    (l .loop .x) (l .loop .y) (l .loop .z)
+y-climbs c =
+    let l = c .before .before .before .before .before .before .before .loop in
+    second-climbs _ _ _ _ (l .inv .0) _ (c .wide3 .ensures .0) (omega arith) (omega arith)
+
+z-climbs-past-y : (c : tie.After-wide4 Inv-loop μ-loop)
+    → let l = c .before .before .before .before .before .before .before in
+    Climbed (l .before .before .args .parents .now) (l .loop .x) (l .loop .y) (c .wide4 .result)
+    (l .loop .x) (l .loop .y) (l .loop .z)
+z-climbs-past-y c =
+    let l = c .before .before .before .before .before .before .before .loop in
+    third-climbs _ _ _ _ (l .inv .0) _ (c .wide4 .ensures .0) (omega arith) (omega arith)
+
+loop-holds : tie.Need-loop-holds Inv-loop μ-loop
+loop-holds c = (c .before .pre, refl)
+
+mul-wide : tie.Need-mul-wide Inv-loop μ-loop
+mul-wide c = search needs
+
+shared-slice-read-wide : tie.Need-shared-slice-read-wide Inv-loop μ-loop
+shared-slice-read-wide c = search needs
+
+wide-requires : tie.Need-wide-requires Inv-loop μ-loop
+wide-requires c κs = search needs
+
+loop-less : tie.Need-loop-less Inv-loop μ-loop
+loop-less c = x-climbs c .less
+
+loop-again : tie.Need-loop-again Inv-loop μ-loop
+loop-again c =
+    let s = x-climbs c in
+    (s .three, s .same ∙ c .before .before .before .before .before .before .before .loop .inv .1)
+
+mul-wide-2 : tie.Need-mul-wide-2 Inv-loop μ-loop
+mul-wide-2 c = search needs
+
+shared-slice-read-wide-2 : tie.Need-shared-slice-read-wide-2 Inv-loop μ-loop
+shared-slice-read-wide-2 c = search needs
+
+wide-requires-2 : tie.Need-wide-requires-2 Inv-loop μ-loop
+wide-requires-2 c κs = search needs
+
+loop-less-2 : tie.Need-loop-less-2 Inv-loop μ-loop
+loop-less-2 c = z-climbs-past-x c .less
+
+loop-again-2 : tie.Need-loop-again-2 Inv-loop μ-loop
+loop-again-2 c =
+    let s = z-climbs-past-x c in
+    (s .three, s .same ∙ c .before .before .before .before .before .before .before .loop .inv .1)
+
+mul-wide-3 : tie.Need-mul-wide-3 Inv-loop μ-loop
+mul-wide-3 c = search needs
+
+shared-slice-read-wide-3 : tie.Need-shared-slice-read-wide-3 Inv-loop μ-loop
+shared-slice-read-wide-3 c = search needs
+
+wide-requires-3 : tie.Need-wide-requires-3 Inv-loop μ-loop
+wide-requires-3 c κs = search needs
+
+loop-less-3 : tie.Need-loop-less-3 Inv-loop μ-loop
+loop-less-3 c = y-climbs c .less
+
+loop-again-3 : tie.Need-loop-again-3 Inv-loop μ-loop
+loop-again-3 c =
+    let s = y-climbs c in
+    (s .three, s .same ∙ c .before .before .before .before .before .before .before .loop .inv .1)
+
+mul-wide-4 : tie.Need-mul-wide-4 Inv-loop μ-loop
+mul-wide-4 c = search needs
+
+shared-slice-read-wide-4 : tie.Need-shared-slice-read-wide-4 Inv-loop μ-loop
+shared-slice-read-wide-4 c = search needs
+
+wide-requires-4 : tie.Need-wide-requires-4 Inv-loop μ-loop
+wide-requires-4 c κs = search needs
+
+loop-less-4 : tie.Need-loop-less-4 Inv-loop μ-loop
+loop-less-4 c = z-climbs-past-y c .less
+
+loop-again-4 : tie.Need-loop-again-4 Inv-loop μ-loop
+loop-again-4 c =
+    let s = z-climbs-past-y c in
+    (s .three, s .same ∙ c .before .before .before .before .before .before .before .loop .inv .1)
+
+returns : tie.Need-returns Inv-loop μ-loop
+returns c =
+    let i = c .before .loop .inv in
+    (sym (first-second-met _ _ _ _ (i .0) (c .if1 .taken)) ∙ i .1, i .0 .la)
+
+returns-2 : tie.Need-returns-2 Inv-loop μ-loop
+returns-2 c =
+    let i = c .before .before .loop .inv in
+    (sym (first-third-met _ _ _ _ (i .0) (c .if2 .taken)) ∙ i .1, i .0 .la)
+
+returns-3 : tie.Need-returns-3 Inv-loop μ-loop
+returns-3 c =
+    let i = c .before .before .before .loop .inv in
+    (sym (second-third-met _ _ _ _ (i .0) (c .if3 .taken)) ∙ i .1, i .0 .lb)
+
+pub join-spec : {M : Type 1} → statement M
+join-spec =
+    tie.close
+    (tie.spec
+    Inv-loop
+    μ-loop
+    loop-holds
+    mul-wide
+    shared-slice-read-wide
+    wide-requires
+    loop-less
+    loop-again
+    mul-wide-2
+    shared-slice-read-wide-2
+    wide-requires-2
+    loop-less-2
+    loop-again-2
+    mul-wide-3
+    shared-slice-read-wide-3
+    wide-requires-3
+    loop-less-3
+    loop-again-3
+    mul-wide-4
+    shared-slice-read-wide-4
+    wide-requires-4
+    loop-less-4
+    loop-again-4
+    returns
+    returns-2
+    returns-3)

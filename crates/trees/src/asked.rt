@@ -1,0 +1,81 @@
+// The labels that a caller asks about: 10 and 11.
+use super::words::wide;
+ghost use mathlib.Core.Path.{_≡_};
+ghost use Prim.Native.Nat.{ℕ, _≤_, _<_};
+ghost use lib.Dec.{eqb};
+ghost use lib.ListN.{length};
+ghost use Rattle.sums.specs.Tests.{some};
+ghost use Rattle.trees.specs.Table.{word, nodeBelow};
+ghost use Rattle.trees.specs.Refusals.{refusal};
+ghost use Rattle.trees.specs.Orders.{tooLarge, twoEqual, askedOrder};
+
+// Whether one of the labels is n or more.
+fn some_too_large(asked: &[u16], n: usize) -> bool
+    ensures { λ r. ⌜ r ≡ tooLarge n (now (asked .entry)) ⌝ }
+{
+    let mut i = 0;
+    while i < asked.len() {
+        if n <= wide(asked[i]) {
+            return true;
+        }
+        i += 1;
+    }
+    false
+}
+
+// Whether one of the first `end` labels is x.
+fn is_among(asked: &[u16], end: usize, x: u16) -> bool
+    requires { ⌜ end ≤ length (now asked) ⌝ }
+    ensures { λ r. ⌜ r ≡ some end (λ j. eqb (word (now (asked .entry)) j) x) ⌝ }
+{
+    let mut j = 0;
+    while j < end {
+        if asked[j] == x {
+            return true;
+        }
+        j += 1;
+    }
+    false
+}
+
+// Whether two of the labels are equal.
+fn two_equal(asked: &[u16]) -> bool
+    ensures { λ r. ⌜ r ≡ twoEqual (now (asked .entry)) ⌝ }
+{
+    let mut i = 0;
+    while i < asked.len() {
+        if is_among(asked, i, asked[i]) {
+            return true;
+        }
+        i += 1;
+    }
+    false
+}
+
+// 10, 11 or 0.
+pub(crate) fn asked_refusal(asked: &[u16], n: usize) -> u16
+    ensures { λ r. ⌜ r ≡ refusal (askedOrder n (now (asked .entry))) ⌝ }
+{
+    if some_too_large(asked, n) {
+        return 10;
+    }
+    if two_equal(asked) {
+        return 11;
+    }
+    0
+}
+
+// The node with the label x: the last one, where several have it.
+pub(crate) fn node_of(labels: &[u16], x: u16) -> usize
+    ensures { λ r. ⌜ r ≡ nodeBelow (word (now (labels .entry))) (length (now (labels .entry))) x ⌝ }
+{
+    let mut at = 0;
+    let mut v = 0;
+    while v < labels.len() {
+        if labels[v] == x {
+            at = v;
+        }
+        v += 1;
+    }
+    at
+}

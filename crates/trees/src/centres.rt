@@ -1,0 +1,93 @@
+// The centre of three labels.
+use super::asked::asked_refusal;
+use super::asked::node_of;
+use super::table::Checked;
+use super::table::check;
+use super::table::refusal_of;
+use super::words::narrow;
+use super::words::wide;
+ghost use mathlib.Core.Path.{_≡_};
+ghost use Prim.Native.Nat.{ℕ, _-_, _≤_, _<_};
+ghost use lib.ListN.{length};
+ghost use Rattle.shapes.specs.Ancestors.{Rooted};
+ghost use Rattle.shapes.specs.Centres.{centreOf};
+ghost use Rattle.trees.specs.Table.{word, nodeBelow};
+ghost use Rattle.trees.specs.Centre.{centreAnswer, centreOver, Climbable};
+
+// The number of the refusal with node 0, or 0 with the centre.
+pub struct CentreAnswer {
+    pub refusal: u16,
+    pub node: u16,
+}
+
+// The node where the paths between three nodes join: the largest of the three climbs to its parent until two are one.
+fn join(parents: &[u16], a: usize, b: usize, c: usize) -> usize
+    requires { ⌜ Climbable (now parents) a b c ⌝ }
+    ensures { λ r. ⌜ (r ≡ centreOf (word (now (parents .entry))) (length (now (parents .entry)) - 1) a b c) × (r < length (now (parents .entry))) ⌝ }
+{
+    let mut x = a;
+    let mut y = b;
+    let mut z = c;
+    let node = loop {
+        if x == y {
+            break x;
+        }
+        if x == z {
+            break x;
+        }
+        if y == z {
+            break y;
+        }
+        if y < x {
+            if z < x {
+                x = wide(parents[x]);
+            } else {
+                z = wide(parents[z]);
+            }
+        } else {
+            if z < y {
+                y = wide(parents[y]);
+            } else {
+                z = wide(parents[z]);
+            }
+        }
+    };
+    node
+}
+
+// The node where the paths between three labels join.
+pub fn centre(table: &[u16], a: u16, b: u16, c: u16) -> CentreAnswer
+    ensures { λ r. ⌜ r ≡ centreAnswer (now (table .entry)) a b c ⌝ }
+{
+    let answer = check(table);
+    let Checked::Tree { tips, nodes } = answer else {
+        return CentreAnswer {
+            refusal: refusal_of(answer),
+            node: 0,
+        };
+    };
+    let asked = [a, b, c];
+    let number = asked_refusal(&asked, wide(tips));
+    if number != 0 {
+        return CentreAnswer {
+            refusal: number,
+            node: 0,
+        };
+    }
+    let m = wide(nodes);
+    CentreAnswer {
+        refusal: 0,
+        node: centre_node(&table[2..2 + m], &table[2 + m..], a, b, c),
+    }
+}
+
+// The same over the two parts of a checked table.
+fn centre_node(parents: &[u16], labels: &[u16], a: u16, b: u16, c: u16) -> u16
+    requires { ⌜ Rooted (word (now parents)) × (1 ≤ length (now parents)) × (length (now parents) ≤ 512) × (length (now labels) ≡ length (now parents)) ⌝ }
+    ensures { λ r. ⌜ r ≡ centreOver (now (parents .entry)) (now (labels .entry)) a b c ⌝ }
+{
+    let x = node_of(labels, a);
+    let y = node_of(labels, b);
+    let z = node_of(labels, c);
+    narrow(join(parents, x, y, z))
+}
