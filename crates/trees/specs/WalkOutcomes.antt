@@ -50,29 +50,20 @@ module _ (t : Table) (i cells : ℕ) where
   edge-tree-refused k e d = tree-refused t _ k e d
 
   module _ (g : IsTree t) where
-    pub edge-zero : i ≡ 0 → refusal (edgeOrder t i cells) ≡ 13
+    pub edge-missing : (eqb i 0 || leb (nodes t) i) ≡ true → refusal (edgeOrder t i cells) ≡ 13
     unfolding edgeOrder
-    edge-zero e =
-        tree-accepted t _ g ∙ refusal-here 13 _ _ (ap (λ (b : Bool). b || leb (nodes t) i) (eq-eqb i 0 e))
+    edge-missing h = tree-accepted t _ g ∙ refusal-here 13 _ _ h
 
-    pub edge-too-large : i ≢ 0 → nodes t ≤ i → refusal (edgeOrder t i cells) ≡ 13
-    unfolding edgeOrder
-    edge-too-large d l =
-        tree-accepted t _ g
-        ∙ refusal-here 13 _ _ (ap (λ (b : Bool). b || leb (nodes t) i) (ne-eqb i 0 d) ∙ le-leb (nodes t) i l)
-
-    module _ (d : i ≢ 0) (l : i < nodes t) where
+    module _ (h : (eqb i 0 || leb (nodes t) i) ≡ false) where
       inside : refusal (edgeOrder t i cells) ≡ refusal ((12, ltb cells (tips t)) ∷ [])
       unfolding edgeOrder
-      inside =
-          tree-accepted t _ g
-          ∙ refusal-next 13 _ _ (ap (λ (b : Bool). b || leb (nodes t) i) (ne-eqb i 0 d) ∙ lt-leb (nodes t) i l)
+      inside = tree-accepted t _ g ∙ refusal-next 13 _ _ h
 
       pub edge-walk-short : cells < tips t → refusal (edgeOrder t i cells) ≡ 12
-      edge-walk-short h = inside ∙ refusal-here 12 _ _ (lt-ltb cells (tips t) h)
+      edge-walk-short l = inside ∙ refusal-here 12 _ _ (lt-ltb cells (tips t) l)
 
       pub edge-accepted : tips t ≤ cells → refusal (edgeOrder t i cells) ≡ 0
-      edge-accepted h = inside ∙ refusal-next 12 _ [] (le-ltb cells (tips t) h) ∙ refusal-none
+      edge-accepted l = inside ∙ refusal-next 12 _ [] (le-ltb cells (tips t) l) ∙ refusal-none
 
 -- ---- the part
 

@@ -3,15 +3,16 @@
 mod words; // words.rt: words as indices, and counts of equal words
 mod table; // table.rt: the tree check
 mod sizes; // sizes.rt: how many labels lie beyond each edge, and where they stand in the walk
-mod walks; // walks.rt: the walk, and the part of a walk beyond an edge
+mod walks; // walks.rt: the walk
+mod edges; // edges.rt: the part of a walk beyond an edge
 mod asked; // asked.rt: the labels that a caller asks about
 mod centres; // centres.rt: the centre of three labels
 
 pub use centres::CentreAnswer;
 pub use centres::centre;
+pub use edges::beyond;
+pub use edges::beyond_refusal;
 pub use table::Checked;
 pub use table::check;
 pub use table::refusal_of;
-pub use walks::beyond;
-pub use walks::beyond_refusal;
 pub use walks::walk;

@@ -7,8 +7,8 @@ use Rattle.trees.specs.Arrays.{few-tips, few-nodes}
 use Rattle.trees.specs.Positions.{part-bounds, part-between}
 use borrow.Author.Needs.{needs}
 use borrow.Author.Needs.{needs}
-use Rattle.trees.proofs.walks.part_of.Statement.{statement}
-use Rattle.trees.proofs.walks.part_of.Tie as tie
+use Rattle.trees.proofs.edges.part_of.Statement.{statement}
+use Rattle.trees.proofs.edges.part_of.Tie as tie
 
 bounds : (c : tie.After-ends) → let s = c .before .before .before .before .before .before in
     (word (c .before .before .sizes .result) (s .args .i) ≤ word (c .ends .result) (s .args .i))

@@ -12,8 +12,8 @@ use Rattle.trees.specs.Walk.{part}
 use Rattle.trees.specs.WalkOutcomes.{part-refused, part-accepted}
 use borrow.Author.Needs.{needs}
 use borrow.Author.Needs.{needs}
-use Rattle.trees.proofs.walks.beyond.Statement.{statement}
-use Rattle.trees.proofs.walks.beyond.Tie as tie
+use Rattle.trees.proofs.edges.beyond.Statement.{statement}
+use Rattle.trees.proofs.edges.beyond.Tie as tie
 
 -- what an accepted call has
 accepted : (c : tie.Else1) → let a = c .before .before .before .before .args in
