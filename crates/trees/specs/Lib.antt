@@ -18,3 +18,9 @@ pub mod Writing
 pub mod WalkOutcomes
 pub mod Centre
 pub mod CentreLaws
+pub mod Topology
+pub mod Partners
+pub mod Sides
+pub mod SideCells
+pub mod TopologyLaws
+pub mod TopologyOutcomes

@@ -7,11 +7,15 @@ mod walks; // walks.rt: the walk
 mod edges; // edges.rt: the part of a walk beyond an edge
 mod asked; // asked.rt: the labels that a caller asks about
 mod centres; // centres.rt: the centre of three labels
+mod quartet; // quartet.rt: the topology of four labels
 
 pub use centres::CentreAnswer;
 pub use centres::centre;
 pub use edges::beyond;
 pub use edges::beyond_refusal;
+pub use quartet::Topology;
+pub use quartet::TopologyAnswer;
+pub use quartet::topology_of;
 pub use table::Checked;
 pub use table::check;
 pub use table::refusal_of;

@@ -1,0 +1,161 @@
+-- Each return is an outcome of the topology's answer.
+-- Assumes nothing.
+use mathlib.Core.Path.{_≡_, refl, sym, _∙_, ap}
+use mathlib.Core.List.{[], _∷_}
+use native.Mathlib.Omega.{arith}
+use Rattle.trees.specs.Table.{tips, nodes, to-parts, of-parts}
+use Rattle.trees.specs.Refusals.{refusal}
+use Rattle.trees.specs.IsTree.{IsTree}
+use Rattle.trees.specs.Orders.{askedOrder}
+use Rattle.trees.specs.Check.{numberOf, checked-accepted, checked-refusal}
+use Rattle.trees.specs.Sides.{Sided, SidesAre}
+use Rattle.trees.specs.TopologyOutcomes.{sided, topology-refused, topology-asked-refused}
+use Rattle.trees.specs.TopologyOutcomes.{topology-found}
+use borrow.Author.Needs.{needs}
+use Rattle.trees.proofs.quartet.topology_of.Statement.{statement}
+use Rattle.trees.proofs.quartet.topology_of.Tie as tie
+
+-- what is known of the table
+tree : (c : tie.After-answer)
+    → let t = c .before .before .before .before .args .table .now in
+    IsTree t × (c .answer .given .0 .0 ≡ tips t) × (c .answer .given .0 .1 .0 ≡ nodes t)
+tree c = checked-accepted _ _ _ (sym (c .before .before .check .ensures) ∙ c .answer .given .1)
+
+-- what is known of the labels
+asked : (c : tie.After-asked-refusal)
+    → let s = c .before .before .before .before .before .before .before .before .args in
+    refusal (askedOrder (tips (s .table .now)) (s .a ∷ s .b ∷ s .c ∷ s .d ∷ [])) ≡ c .asked-refusal .result
+asked c =
+    let e = c .before .wide .ensures .0 ∙ tree (c .before .before .before .before) .1 in
+    sym (rw e at (c .asked-refusal .ensures))
+
+-- the same, with m as an index
+table : (c : tie.After-wide2)
+    → let b = c .before .before .before .before .before .before in
+    let t = b .before .before .before .before .args .table .now in
+    IsTree t × (c .wide2 .result ≡ nodes t)
+table c =
+    let g = tree (c .before .before .before .before .before .before) in
+    (g .0, c .wide2 .ensures .0 ∙ g .2)
+
+check-requires : tie.Need-check-requires
+check-requires c κs = search needs
+
+enum-known-answer : tie.Need-enum-known-answer
+enum-known-answer c = search needs
+
+enum-told : tie.Need-enum-told
+enum-told c = search needs
+
+refusal-of-requires : tie.Need-refusal-of-requires
+refusal-of-requires c κs = search needs
+
+returns : tie.Need-returns
+returns c =
+    let q = c .before .enum-told .given .1 in
+    let r = checked-refusal _ _ (sym (c .before .before .before .check .ensures) ∙ q) in
+    rw (c .refusal-of .ensures ∙ ap numberOf q) (sym (topology-refused _ _ _ _ _ _ (r .0) (r .1)))
+
+slice-aggregate-asked-refusal : tie.Need-slice-aggregate-asked-refusal
+slice-aggregate-asked-refusal c = search needs
+
+wide-requires : tie.Need-wide-requires
+wide-requires c κs = search needs
+
+asked-refusal-requires : tie.Need-asked-refusal-requires
+asked-refusal-requires c κs = search needs
+
+returns-2 : tie.Need-returns-2
+returns-2 c =
+    let g = tree (c .before .before .before .before .before) in
+    sym (topology-asked-refused _ _ _ _ _ (g .0) _ (asked (c .before)) (c .if1 .taken))
+
+wide-requires-2 : tie.Need-wide-requires-2
+wide-requires-2 c κs = search needs
+
+add-sides-of : tie.Need-add-sides-of
+add-sides-of c = search needs
+
+sub-sides-of : tie.Need-sub-sides-of
+sub-sides-of c = search needs
+
+part-sides-of-start : tie.Need-part-sides-of-start
+part-sides-of-start c = search needs
+
+part-sides-of-end : tie.Need-part-sides-of-end
+part-sides-of-end c =
+    let k = table c in
+    omega (arith, k .0 .words)
+
+add-sides-of-2 : tie.Need-add-sides-of-2
+add-sides-of-2 c = search needs
+
+mul-sides-of : tie.Need-mul-sides-of
+mul-sides-of c = search needs
+
+sub-sides-of-2 : tie.Need-sub-sides-of-2
+sub-sides-of-2 c =
+    let k = table (c .before) in
+    omega (arith, k .0 .words)
+
+part-sides-of-start-2 : tie.Need-part-sides-of-start-2
+part-sides-of-start-2 c =
+    let k = table (c .before) in
+    omega (arith, k .0 .words)
+
+part-sides-of-end-2 : tie.Need-part-sides-of-end-2
+part-sides-of-end-2 c = search needs
+
+sides-of-requires : tie.Need-sides-of-requires
+sides-of-requires c κs =
+    let k = table (c .before .before) in
+    to-parts (λ n ps ls. Sided ps ls) _ _ _ (k .0 .words) refl (k .1) (sided _ (k .0))
+
+shown-pairing-requires : tie.Need-shown-pairing-requires
+shown-pairing-requires c κs =
+    let k = table (c .before .before .before .before) in
+    omega (arith, k .0 .tips-range, k .0 .nodes-range)
+
+named-pairing-requires : tie.Need-named-pairing-requires
+named-pairing-requires c κs = search needs
+
+returns-3 : tie.Need-returns-3
+returns-3 c =
+    let b = c .before .before .before .before .before .before in
+    let s = b .before .before .before .before .before .before .before .before .before .before .args in
+    let h = c .before .before .before .sides-of in
+    let k = table b in
+    rw (c .named-pairing .ensures)
+    (sym (topology-found _ _ _ _ _ (k .0) _
+    (of-parts (λ n ps ls. SidesAre ps ls (s .a) (s .b) (s .c) (s .d) (h .result))
+    _ _ _ (k .0 .words) refl (k .1) (h .ensures))
+    (asked (b .before .before) ∙ b .before .if1 .left) _
+    (rw (k .1) at (c .before .shown-pairing .ensures))))
+
+pub topology-of-spec : {M : Type 1} → statement M
+topology-of-spec =
+    tie.close
+    (tie.spec
+    check-requires
+    enum-known-answer
+    enum-told
+    refusal-of-requires
+    returns
+    slice-aggregate-asked-refusal
+    wide-requires
+    asked-refusal-requires
+    returns-2
+    wide-requires-2
+    add-sides-of
+    sub-sides-of
+    part-sides-of-start
+    part-sides-of-end
+    add-sides-of-2
+    mul-sides-of
+    sub-sides-of-2
+    part-sides-of-start-2
+    part-sides-of-end-2
+    sides-of-requires
+    shown-pairing-requires
+    named-pairing-requires
+    returns-3)

@@ -1,0 +1,39 @@
+-- The topology of four labels in a tree table.
+-- Assumes nothing.
+use mathlib.Core.Bool.{Bool, true, false}
+use mathlib.Core.List.{[], _∷_}
+use Prim.Native.Nat.{ℕ, _-_, min, max}
+use lib.Dec.{ltb}
+use Rattle.shapes.specs.Quartets.{parted}
+use Rattle.trees.specs.declared.quartet.Topology.{Topology}
+use Rattle.trees.specs.declared.quartet.Topology.the-variants.{Butterfly, Star}
+use Rattle.trees.specs.declared.quartet.TopologyAnswer.{TopologyAnswer}
+use Rattle.trees.specs.Table.{Table, nodes, parent, nodeOf}
+use Rattle.trees.specs.Refusals.{refusal, ifAccepted}
+use Rattle.trees.specs.Orders.{labelOrder}
+
+-- 'Four tips a, b, c, d are the butterfly ab|cd if some edge has a, b on one side and c, d on the other.'
+unfoldable pub butterfly : Table → ℕ → ℕ → ℕ → ℕ → Bool
+butterfly t a b c d = parted (parent t) (nodes t - 1) (nodeOf t a) (nodeOf t b) (nodeOf t c) (nodeOf t d)
+
+-- 'the partner of the smallest label' in ab|cd: the larger one of the pair that holds the smallest
+unfoldable pub partner : ℕ → ℕ → ℕ → ℕ → ℕ
+partner a b c d = elim (ltb (min a b) (min c d)) [ true ↦ max a b | false ↦ max c d ]
+
+-- the first test that is passed names its partner; 'They are a star if no edge parts them two and two.'
+unfoldable pub named : Bool → Bool → Bool → ℕ → ℕ → ℕ → Topology
+named x y z p q r = elim x [
+  | true ↦ Butterfly p
+  | false ↦ elim y [ true ↦ Butterfly q | false ↦ elim z [ true ↦ Butterfly r | false ↦ Star ] ]
+]
+
+unfoldable pub topology : Table → ℕ → ℕ → ℕ → ℕ → Topology
+topology t a b c d =
+    named (butterfly t a b c d) (butterfly t a c b d) (butterfly t a d b c)
+    (partner a b c d) (partner a c b d) (partner a d b c)
+
+-- the number, and the topology or a star
+unfoldable pub topologyAnswer : Table → ℕ → ℕ → ℕ → ℕ → TopologyAnswer
+topologyAnswer t a b c d =
+    let number = refusal (labelOrder t (a ∷ b ∷ c ∷ d ∷ [])) in
+    record { refusal = number; topology = ifAccepted number (topology t a b c d) Star }

@@ -1,0 +1,202 @@
+-- The topology of four labels: what it says of the edges, and that the order of the labels plays no part.
+-- Assumes nothing.
+use mathlib.Core.Path.{_≡_, refl, sym, _∙_}
+use mathlib.Core.Bool.{Bool, true, false}
+use mathlib.Core.Logic.{_≢_, Ne·symm, _↔_, Iff·rfl}
+use Prim.Native.Nat.{ℕ, _-_, _≤_, _<_}
+use native.Mathlib.Omega.{arith}
+use lib.Dec.{T}
+use Rattle.shapes.specs.Quartets.{Parted, parted-iff, parted-swap-left, parted-swap-right, parted-turn}
+use Rattle.shapes.specs.Quartets.{AtMostOne, none, first, second, third, one-pairing}
+use Rattle.trees.specs.declared.quartet.Topology.the-variants.{Butterfly, Star}
+use Rattle.trees.specs.Table.{Table, tips, nodes, parent, nodeOf}
+use Rattle.trees.specs.IsTree.{IsTree, rooted}
+use Rattle.trees.specs.Topology.{butterfly, partner, named, topology}
+use Rattle.trees.specs.Partners.{partner-swap-left, partner-swap-right, partner-turn, partner-apart}
+use Rattle.trees.specs.Sides.{sides, pairing, apart-shown}
+
+-- four different labels
+pub record Four (n a b c d : ℕ) : Type 0 where
+  pub la : a < n
+  pub lb : b < n
+  pub lc : c < n
+  pub ld : d < n
+  pub ab : a ≢ b
+  pub ac : a ≢ c
+  pub ad : a ≢ d
+  pub bc : b ≢ c
+  pub bd : b ≢ d
+  pub cd : c ≢ d
+
+-- ---- the three tests
+
+-- at most one of the three pairings is parted
+pub one-butterfly : (t : Table) → IsTree t → (a b c d : ℕ)
+    → AtMostOne (butterfly t a b c d) (butterfly t a c b d) (butterfly t a d b c)
+unfolding butterfly
+one-butterfly t g a b c d =
+    one-pairing (parent t) (rooted t g) (nodes t - 1) (nodeOf t a) (nodeOf t b) (nodeOf t c) (nodeOf t d)
+
+-- some edge has a, b on one side and c, d on the other
+abbrev pub PartedIn : Table → ℕ → ℕ → ℕ → ℕ → Type 0
+PartedIn t a b c d = Parted (parent t) (nodes t - 1) (nodeOf t a) (nodeOf t b) (nodeOf t c) (nodeOf t d)
+
+butterfly-parted : (t : Table) (a b c d : ℕ) → T (butterfly t a b c d) ↔ PartedIn t a b c d
+unfolding butterfly
+butterfly-parted t a b c d =
+    parted-iff (parent t) (nodes t - 1) (nodeOf t a) (nodeOf t b) (nodeOf t c) (nodeOf t d)
+
+module _ (t : Table) where
+  butterfly-swap-left : (a b c d : ℕ) → butterfly t a b c d ≡ butterfly t b a c d
+  unfolding butterfly
+  butterfly-swap-left a b c d = parted-swap-left (parent t) (nodes t - 1) _ _ _ _
+
+  butterfly-swap-right : (a b c d : ℕ) → butterfly t a b c d ≡ butterfly t a b d c
+  unfolding butterfly
+  butterfly-swap-right a b c d = parted-swap-right (parent t) (nodes t - 1) _ _ _ _
+
+  butterfly-turn : (a b c d : ℕ) → butterfly t a b c d ≡ butterfly t c d a b
+  unfolding butterfly
+  butterfly-turn a b c d = parted-turn (parent t) (nodes t - 1) _ _ _ _
+
+-- ---- what the tests name
+
+not-star : (p : ℕ) → Butterfly p ≡ Star → ⊥
+not-star p e = let z : _≡_ {A = ℕ} 0 1 = cc in omega arith
+
+named-star : (x y z : Bool) (p q r : ℕ) → (named x y z p q r ≡ Star) ↔ (T x → ⊥) × (T y → ⊥) × (T z → ⊥)
+unfolding named
+named-star true y z p q r = (λ e. absurd (not-star p e), λ h. absurd (h .0 tt))
+named-star false true z p q r = (λ e. absurd (not-star q e), λ h. absurd (h .1 tt))
+named-star false false true p q r = (λ e. absurd (not-star r e), λ h. absurd (h .2 tt))
+named-star false false false p q r = (λ e. (λ u. u, λ u. u, λ u. u), λ h. refl)
+
+-- 'a star if no edge parts them two and two'
+pub star-iff : (t : Table) (a b c d : ℕ) → (topology t a b c d ≡ Star)
+    ↔ (PartedIn t a b c d → ⊥) × (PartedIn t a c b d → ⊥) × (PartedIn t a d b c → ⊥)
+unfolding topology
+star-iff t a b c d = simp (named-star, butterfly-parted) Iff·rfl
+
+named-passed : (x y z : Bool) (p q r : ℕ) → T x → named x y z p q r ≡ Butterfly p
+unfolding named
+named-passed true y z p q r u = refl
+named-passed false y z p q r u = absurd u
+
+passed-named : (x y z : Bool) (p q r : ℕ) → p ≢ q → p ≢ r → named x y z p q r ≡ Butterfly p → T x
+unfolding named
+passed-named true y z p q r pq pr e = tt
+passed-named false true z p q r pq pr e = pq (cc)
+passed-named false false true p q r pq pr e = pr (cc)
+passed-named false false false p q r pq pr e = not-star p (sym e)
+
+parted-butterfly : (t : Table) (a b c d : ℕ) → PartedIn t a b c d
+    → topology t a b c d ≡ Butterfly (partner a b c d)
+unfolding topology
+parted-butterfly t a b c d h = named-passed _ _ _ _ _ _ (butterfly-parted t a b c d .1 h)
+
+-- 'the butterfly ab|cd if some edge has a, b on one side and c, d on the other': it names the partner
+pub butterfly-iff : (t : Table) → IsTree t → (a b c d : ℕ) → Four (tips t) a b c d
+    → (topology t a b c d ≡ Butterfly (partner a b c d)) ↔ PartedIn t a b c d
+unfolding topology
+butterfly-iff t g a b c d f = (
+  λ e. butterfly-parted t a b c d .0 (passed-named _ _ _ _ _ _ not-second not-third e),
+  parted-butterfly t a b c d,
+)
+  where
+    not-second : partner a b c d ≢ partner a c b d
+    not-second = partner-apart a b c d (f .ad) (f .bc)
+
+    not-third : partner a b c d ≢ partner a d b c
+    not-third = rw (partner-swap-right a b c d) (partner-apart a b d c (f .ac) (f .bd))
+
+-- ---- any order
+
+named-swap-last : {x y z : Bool} (p q r : ℕ) → AtMostOne x y z → named x z y p r q ≡ named x y z p q r
+unfolding named
+named-swap-last p q r none = refl
+named-swap-last p q r first = refl
+named-swap-last p q r second = refl
+named-swap-last p q r third = refl
+
+named-swap-first : {x y z : Bool} (p q r : ℕ) → AtMostOne x y z → named y x z q p r ≡ named x y z p q r
+unfolding named
+named-swap-first p q r none = refl
+named-swap-first p q r first = refl
+named-swap-first p q r second = refl
+named-swap-first p q r third = refl
+
+module _ (t : Table) (g : IsTree t) (a b c d : ℕ) where
+  order-first-two : Four (tips t) a b c d → topology t b a c d ≡ topology t a b c d
+  unfolding topology
+  order-first-two f = rw (
+    butterfly-swap-left t b a c d,
+    butterfly-turn t b c a d,
+    butterfly-turn t b d a c,
+    partner-swap-left b a c d,
+    partner-turn b c a d (search Ne·symm) (f .bd) (search Ne·symm) (f .cd),
+    partner-turn b d a c (search Ne·symm) (f .bc) (search Ne·symm) (search Ne·symm),
+  ) (named-swap-last _ _ _ (one-butterfly t g a b c d))
+
+  order-middle : topology t a c b d ≡ topology t a b c d
+  unfolding topology
+  order-middle =
+      rw (butterfly-swap-right t a d c b, partner-swap-right a d c b)
+      (named-swap-first _ _ _ (one-butterfly t g a b c d))
+
+  order-last-two : topology t a b d c ≡ topology t a b c d
+  unfolding topology
+  order-last-two =
+      rw (butterfly-swap-right t a b d c, partner-swap-right a b d c)
+      (named-swap-last _ _ _ (one-butterfly t g a b c d))
+
+-- w, x, y, z are a, b, c, d in some order: neighbours exchanged again and again
+pub data Rearranged (a b c d : ℕ) : ℕ → ℕ → ℕ → ℕ → Type 0 where
+  as-is : Rearranged a b c d a b c d
+  first-two : {w x y z : ℕ} → Rearranged a b c d w x y z → Rearranged a b c d x w y z
+  middle : {w x y z : ℕ} → Rearranged a b c d w x y z → Rearranged a b c d w y x z
+  last-two : {w x y z : ℕ} → Rearranged a b c d w x y z → Rearranged a b c d w x z y
+
+still-four : {n a b c d w x y z : ℕ} → Four n a b c d → Rearranged a b c d w x y z → Four n w x y z
+still-four f as-is = f
+still-four f (first-two r) = let h = still-four f r in search Ne·symm
+still-four f (middle r) = let h = still-four f r in search Ne·symm
+still-four f (last-two r) = let h = still-four f r in search Ne·symm
+
+-- 'The order of the four arguments plays no part.'
+pub any-order : (t : Table) → IsTree t → (a b c d : ℕ) {w x y z : ℕ} → Four (tips t) a b c d
+    → Rearranged a b c d w x y z → topology t w x y z ≡ topology t a b c d
+any-order t g a b c d f as-is = refl
+any-order t g a b c d f (first-two r) =
+    order-first-two t g _ _ _ _ (still-four f r) ∙ any-order t g a b c d f r
+any-order t g a b c d f (middle r) = order-middle t g _ _ _ _ ∙ any-order t g a b c d f r
+any-order t g a b c d f (last-two r) = order-last-two t g _ _ _ _ ∙ any-order t g a b c d f r
+
+-- ---- edge by edge
+
+-- an edge that shows a pairing settles the topology
+pub shown-first : (t : Table) → IsTree t → (a b c d i : ℕ) → 1 ≤ i → i < nodes t
+    → pairing (sides t i a b c d) ≡ 1 → topology t a b c d ≡ Butterfly (partner a b c d)
+shown-first t g a b c d i l m e =
+    parted-butterfly t a b c d (i, l, omega arith, apart-shown t i a b c d .0 .0 e)
+
+pub shown-second : (t : Table) → IsTree t → (a b c d i : ℕ) → 1 ≤ i → i < nodes t
+    → pairing (sides t i a b c d) ≡ 2 → topology t a b c d ≡ Butterfly (partner a c b d)
+shown-second t g a b c d i l m e =
+    order-middle t g a c b d
+    ∙ parted-butterfly t a c b d (i, l, omega arith, apart-shown t i a b c d .1 .0 e)
+
+pub shown-third : (t : Table) → IsTree t → (a b c d i : ℕ) → 1 ≤ i → i < nodes t
+    → pairing (sides t i a b c d) ≡ 3 → topology t a b c d ≡ Butterfly (partner a d b c)
+shown-third t g a b c d i l m e =
+    order-last-two t g a b d c
+    ∙ order-middle t g a d b c
+    ∙ parted-butterfly t a d b c (i, l, omega arith, apart-shown t i a b c d .2 .0 e)
+
+-- edges that show none leave a star
+pub shown-none : (t : Table) (a b c d : ℕ)
+    → ((i : ℕ) → 1 ≤ i → i < nodes t → pairing (sides t i a b c d) ≡ 0) → topology t a b c d ≡ Star
+shown-none t a b c d h = star-iff t a b c d .1 (
+  λ r. omega (arith, h (r .0) (r .1) (omega arith), apart-shown t (r .0) a b c d .0 .1 (r .3)),
+  λ r. omega (arith, h (r .0) (r .1) (omega arith), apart-shown t (r .0) a b c d .1 .1 (r .3)),
+  λ r. omega (arith, h (r .0) (r .1) (omega arith), apart-shown t (r .0) a b c d .2 .1 (r .3)),
+)

@@ -1,0 +1,92 @@
+-- What the topology's answer is, as its code finds it.
+-- Assumes nothing.
+use mathlib.Core.Path.{_≡_, refl, sym, _∙_, ap}
+use mathlib.Core.List.{List, [], _∷_}
+use mathlib.Core.Logic.{_≢_}
+use Prim.Native.Nat.{ℕ, zero, suc, _<_}
+use native.Mathlib.Omega.{arith}
+use Rattle.trees.specs.declared.quartet.Topology.{Topology}
+use Rattle.trees.specs.declared.quartet.Topology.the-variants.{Star}
+use Rattle.trees.specs.declared.quartet.TopologyAnswer.{TopologyAnswer}
+use Rattle.trees.specs.Table.{Table, word, tips, nodes, parents, labels, parent, label, nodeOf, beyond}
+use Rattle.trees.specs.Table.{parents-length, labels-length}
+use Rattle.trees.specs.Refusals.{refusal, ifAccepted, if-accepted, if-refused}
+use Rattle.trees.specs.IsTree.{IsTree, rooted}
+use Rattle.trees.specs.TreeCheck.{treeOrder}
+use Rattle.trees.specs.Orders.{askedOrder, labelOrder, tree-refused, tree-accepted}
+use Rattle.trees.specs.Topology.{topology, topologyAnswer}
+use Rattle.trees.specs.Sides.{sides, pairing, pairing-le, Sided, SidesAre, Shown, topologyShown}
+use Rattle.trees.specs.TopologyLaws.{shown-first, shown-second, shown-third, shown-none}
+
+abbrev told : ℕ → Topology → TopologyAnswer
+told k x = record { refusal = k; topology = x }
+
+-- what adding up asks
+pub sided : (t : Table) → IsTree t → Sided (parents t) (labels t)
+unfolding parent
+sided t g =
+    let l = parents-length t (g .words) in
+    record {
+      tree = rooted t g;
+      some = omega (arith, l, g .tips-range, g .nodes-range);
+      few = omega (arith, l, g .tips-range, g .nodes-range);
+      same = labels-length t (g .words) ∙ sym l;
+    }
+
+module _ (t : Table) (a b c d : ℕ) where
+  answered : (k : ℕ) (x : Topology) → refusal (labelOrder t (a ∷ b ∷ c ∷ d ∷ [])) ≡ k
+      → ifAccepted k (topology t a b c d) Star ≡ x → topologyAnswer t a b c d ≡ told k x
+  unfolding topologyAnswer
+  answered k x e f = ap (λ (j : ℕ). told j (ifAccepted j (topology t a b c d) Star)) e ∙ ap (told k) f
+
+  -- the table is refused
+  pub topology-refused : (k : ℕ) → refusal (treeOrder t) ≡ k → k ≢ 0
+      → topologyAnswer t a b c d ≡ record { refusal = k; topology = Star }
+  unfolding labelOrder
+  topology-refused k e n =
+      answered k Star (tree-refused t _ k e n) (if-refused k (topology t a b c d) Star n)
+
+  module _ (g : IsTree t) where
+    -- the labels are refused
+    pub topology-asked-refused : (k : ℕ) → refusal (askedOrder (tips t) (a ∷ b ∷ c ∷ d ∷ [])) ≡ k → k ≢ 0
+        → topologyAnswer t a b c d ≡ record { refusal = k; topology = Star }
+    unfolding labelOrder
+    topology-asked-refused k e n =
+        answered k Star (tree-accepted t _ g ∙ e) (if-refused k (topology t a b c d) Star n)
+
+    -- ---- found
+
+    module _ (cells : List ℕ) (h : SidesAre (parents t) (labels t) a b c d cells) where
+      sides-are : (v : ℕ) → v < nodes t → word cells v ≡ sides t v a b c d
+      unfolding sides beyond nodeOf parent label
+      sides-are v l =
+          rw (labels-length t (g .words)) at (h .sides-is v (omega (arith, parents-length t (g .words))))
+
+      shown-at : (i : ℕ) → i < nodes t → pairing (sides t i a b c d) ≡ pairing (word cells i)
+      shown-at i l = ap pairing (sym (sides-are i l))
+
+      -- the pairing that the first edge shows which shows one names the topology
+      topology-shown : (k : ℕ) → Shown cells (nodes t) k → topologyShown k a b c d ≡ topology t a b c d
+      unfolding topologyShown
+      topology-shown zero s = sym (shown-none t a b c d (λ i l m. shown-at i m ∙ s .none refl i l m))
+      topology-shown (suc zero) s =
+          let r = s .shown (λ e. omega arith) in
+          sym (shown-first t g a b c d (r .0) (r .1) (r .2) (shown-at (r .0) (r .2) ∙ r .3))
+      topology-shown (suc (suc zero)) s =
+          let r = s .shown (λ e. omega arith) in
+          sym (shown-second t g a b c d (r .0) (r .1) (r .2) (shown-at (r .0) (r .2) ∙ r .3))
+      topology-shown (suc (suc (suc zero))) s =
+          let r = s .shown (λ e. omega arith) in
+          sym (shown-third t g a b c d (r .0) (r .1) (r .2) (shown-at (r .0) (r .2) ∙ r .3))
+      topology-shown (suc (suc (suc (suc j)))) s =
+          let r = s .shown (λ e. omega arith) in
+          absurd (omega (arith, r .3, pairing-le (word cells (r .0))))
+
+      -- the labels are accepted, and the pairing k is shown
+      pub topology-found : refusal (askedOrder (tips t) (a ∷ b ∷ c ∷ d ∷ [])) ≡ 0
+          → (k : ℕ) → Shown cells (nodes t) k
+          → topologyAnswer t a b c d ≡ record { refusal = 0; topology = topologyShown k a b c d }
+      unfolding labelOrder
+      topology-found e k s =
+          answered 0 (topologyShown k a b c d) (tree-accepted t _ g ∙ e)
+          (if-accepted 0 (topology t a b c d) Star refl ∙ sym (topology-shown k s))
