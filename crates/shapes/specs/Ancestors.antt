@@ -1,14 +1,14 @@
 -- Nodes are numbers, and `up v` is the parent of node v: 0 has itself, and every other node a smaller one.
 -- Assumes nothing.
 use mathlib.Core.Path.{_≡_, refl, sym, _∙_, ap}
-use mathlib.Core.Bool.{Bool, true, false, not, _||_, or-self}
-use mathlib.Core.Logic.{_⊎_, inl, inr, _≢_}
+use mathlib.Core.Bool.{Bool, true, false, _||_, or-self}
+use mathlib.Core.Logic.{inl, inr}
 use Prim.Native.Nat.{ℕ, zero, suc, _+_, _*_, _≤_, _<_}
 use native.Mathlib.Omega.{arith}
 use native.Mathlib.Decide.{decLe}
 use native.Mathlib.Nat.{lt-of-not-le}
 use lib.Dec.{eqb}
-use Rattle.sums.specs.Bits.{bit, bit-le, bit-or, bit-cases, is, ne, is-self, is-other, alike}
+use Rattle.sums.specs.Bits.{bit, bit-le, bit-or, is, is-self, is-other, alike}
 
 pub record Rooted (up : ℕ → ℕ) : Type 0 where
   pub root : up 0 ≡ 0

@@ -6,24 +6,7 @@ use Prim.Native.Nat.{ℕ, _≤_}
 use native.Mathlib.Omega.{arith}
 use lib.ListN.{length}
 use Rattle.shapes.specs.Ancestors.{Rooted}
-use Rattle.trees.specs.Table.{
-  Table,
-  word,
-  tips,
-  nodes,
-  parents,
-  labels,
-  parent,
-  label,
-  tableOf,
-  tips-of,
-  nodes-of,
-  parents-of,
-  labels-of,
-  parents-length,
-  labels-length,
-  table-of-parts,
-}
+use Rattle.trees.specs.Table.{Table, word, tips, parents, labels, parent, label, tableOf, tips-of, nodes-of, parents-of, labels-of, parents-length, labels-length, table-of-parts}
 use Rattle.trees.specs.IsTree.{IsTree, rooted}
 
 pub record TreeArrays (n : ℕ) (ps ls : List ℕ) : Type 0 where

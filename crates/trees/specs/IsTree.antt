@@ -1,14 +1,14 @@
 -- 'A tree table' of document 01, rule by rule, in ordinary mathematics.
 -- Assumes nothing.
-use mathlib.Core.Path.{_≡_, refl, sym, _∙_, ap}
+use mathlib.Core.Path.{_≡_, refl, ap}
 use mathlib.Core.Logic.{_⊎_, inl, inr, _↔_}
-use Prim.Native.Nat.{ℕ, zero, suc, _+_, _*_, _-_, _≤_, _<_}
+use Prim.Native.Nat.{ℕ, suc, _+_, _*_, _-_, _≤_, _<_}
 use native.Mathlib.Nat.{lt-of-not-le, eq-zero-or-pos}
 use native.Mathlib.Decide.{decLe}
 use native.Mathlib.Omega.{arith}
 use lib.ListN.{length, take, drop, List·getD-eq-default, length-take}
 use Rattle.shapes.specs.Ancestors.{Rooted}
-use Rattle.trees.specs.Table.{Table, tips, nodes, parents, labels, parent, label}
+use Rattle.trees.specs.Table.{Table, tips, nodes, parents, parent, label}
 
 -- node j is a child of node i
 pub record Child (t : Table) (i j : ℕ) : Type 0 where

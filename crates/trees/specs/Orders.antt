@@ -1,10 +1,10 @@
 -- The orders of refusal of the walk, the part beyond an edge, the centre and the topology, and what each accepts.
 -- Assumes nothing.
-use mathlib.Core.Path.{_≡_, refl, sym, _∙_, ap}
-use mathlib.Core.Bool.{Bool, true, false, not, _||_}
+use mathlib.Core.Path.{_≡_, sym, _∙_}
+use mathlib.Core.Bool.{Bool, not, _||_}
 use mathlib.Core.Logic.{_≢_, _↔_}
 use mathlib.Core.List.{List, [], _∷_, _++_}
-use Prim.Native.Nat.{ℕ, zero, suc, _≤_, _<_}
+use Prim.Native.Nat.{ℕ, _≤_, _<_}
 use native.Mathlib.Omega.{arith}
 use lib.Dec.{T, eqb, ltb, leb}
 use lib.ListN.{length}
@@ -12,7 +12,7 @@ use Rattle.sums.specs.Tests.{some, not-some-iff, nor-iff, not-eq-iff, not-le-if
 use Rattle.trees.specs.Table.{Table, word, tips, nodes}
 use Rattle.trees.specs.Refusals.{Rule, refusal, Kept, Numbered, accepted, kept-append, numbered-append, refusal-first, refusal-kept}
 use Rattle.trees.specs.IsTree.{IsTree}
-use Rattle.trees.specs.TreeCheck.{treeOrder, tree-numbered, tree-kept, kept-tree, tree-check}
+use Rattle.trees.specs.TreeCheck.{treeOrder, tree-numbered, tree-kept, kept-tree}
 
 -- 'Tree, then 12: the lent walk is shorter than n.'
 unfoldable pub walkOrder : Table → ℕ → List Rule

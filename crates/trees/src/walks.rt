@@ -33,7 +33,10 @@ fn write_walk(parents: &[u16], labels: &[u16], n: usize, cells: &mut [u16])
 
 // The labels depth first from node 0, children in rising node number, into the first n lent cells.
 pub fn walk(table: &[u16], cells: &mut [u16]) -> u16
-    ensures { λ r. ⌜ (r ≡ refusal (walkOrder (now (table .entry)) (length (now (cells .entry))))) × (now (cells .exit) ≡ afterWalk (now (table .entry)) (now (cells .entry))) ⌝ }
+    ensures { λ r. ⌜
+        (r ≡ refusal (walkOrder (now (table .entry)) (length (now (cells .entry)))))
+        × (now (cells .exit) ≡ afterWalk (now (table .entry)) (now (cells .entry)))
+        ⌝ }
 {
     let answer = check(table);
     let Checked::Tree { tips, nodes } = answer else {

@@ -1,6 +1,6 @@
 -- The measure is what is left of the labels.
 -- Assumes nothing.
-use Prim.Native.Nat.{_≤_, _-_}
+use Prim.Native.Nat.{_-_}
 use borrow.Author.Needs.{needs}
 use Rattle.tree_examples.proofs.ask.centres_case.Statement.{statement}
 use Rattle.tree_examples.proofs.ask.centres_case.Tie as tie

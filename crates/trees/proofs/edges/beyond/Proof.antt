@@ -11,7 +11,6 @@ use Rattle.trees.specs.Arrays.{TreeArrays, tree-arrays}
 use Rattle.trees.specs.Walk.{part}
 use Rattle.trees.specs.WalkOutcomes.{part-refused, part-accepted}
 use borrow.Author.Needs.{needs}
-use borrow.Author.Needs.{needs}
 use Rattle.trees.proofs.edges.beyond.Statement.{statement}
 use Rattle.trees.proofs.edges.beyond.Tie as tie
 

@@ -10,7 +10,6 @@ use Rattle.trees.specs.IsTree.{IsTree}
 use Rattle.trees.specs.Check.{checked-accepted, refusal-passed}
 use Rattle.trees.specs.WalkOutcomes.{edge-tree-refused, edge-missing, edge-walk-short, edge-accepted}
 use borrow.Author.Needs.{needs}
-use borrow.Author.Needs.{needs}
 use Rattle.trees.proofs.edges.beyond_refusal.Statement.{statement}
 use Rattle.trees.proofs.edges.beyond_refusal.Tie as tie
 

@@ -6,7 +6,6 @@ use Rattle.trees.specs.Table.{word}
 use Rattle.trees.specs.Arrays.{few-tips, few-nodes}
 use Rattle.trees.specs.Positions.{part-bounds, part-between}
 use borrow.Author.Needs.{needs}
-use borrow.Author.Needs.{needs}
 use Rattle.trees.proofs.edges.part_of.Statement.{statement}
 use Rattle.trees.proofs.edges.part_of.Tie as tie
 

@@ -1,10 +1,8 @@
 -- Each return is an outcome of the order over the two arrays.
 -- Assumes nothing.
 use mathlib.Core.Path.{sym, _∙_}
-use native.Mathlib.Omega.{arith}
 use borrow.Author.Tests.{not-true, not-false}
 use Rattle.trees.specs.CheckOutcomes.{parent-broken, label-broken, node-misplaced, arrays-kept}
-use borrow.Author.Needs.{needs}
 use borrow.Author.Needs.{needs}
 use Rattle.trees.proofs.table.arrays_refusal.Statement.{statement}
 use Rattle.trees.proofs.table.arrays_refusal.Tie as tie

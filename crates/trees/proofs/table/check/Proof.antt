@@ -1,10 +1,9 @@
 -- An accepted table is a tree table, so it has its first two words.
 -- Assumes nothing.
-use mathlib.Core.Path.{sym, _∙_, ap}
+use mathlib.Core.Path.{sym, _∙_}
 use native.Mathlib.Omega.{arith}
 use Rattle.trees.specs.TreeCheck.{tree-check}
-use Rattle.trees.specs.Check.{checked, checked-tree, checked-refused}
-use borrow.Author.Needs.{needs}
+use Rattle.trees.specs.Check.{checked-tree, checked-refused}
 use borrow.Author.Needs.{needs}
 use Rattle.trees.proofs.table.check.Statement.{statement}
 use Rattle.trees.proofs.table.check.Tie as tie

@@ -8,7 +8,6 @@ use Prim.Native.Nat.{ℕ}
 use Rattle.sums.specs.Tests.{every-ext}
 use Rattle.trees.specs.TreeCheck.{labelsFit}
 use borrow.Author.Needs.{needs}
-use borrow.Author.Needs.{needs}
 use Rattle.trees.proofs.table.labels_fit.Statement.{statement}
 use Rattle.trees.proofs.table.labels_fit.Tie as tie
 

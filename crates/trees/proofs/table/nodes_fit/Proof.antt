@@ -3,7 +3,6 @@
 use borrow.Author.Tests.{lt-leb, le-leb}
 use Rattle.trees.specs.TreeCheck.{nodesFit}
 use borrow.Author.Needs.{needs}
-use borrow.Author.Needs.{needs}
 use Rattle.trees.proofs.table.nodes_fit.Statement.{statement}
 use Rattle.trees.proofs.table.nodes_fit.Tie as tie
 

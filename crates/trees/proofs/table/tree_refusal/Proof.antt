@@ -11,7 +11,6 @@ use Rattle.trees.specs.TreeCheck.{tipsFit, nodesFit, arraysOrder, Arrays
 use Rattle.trees.specs.Refusals.{refusal}
 use Rattle.trees.specs.CheckOutcomes.{too-short, tips-out, nodes-out, length-wrong, arrays-decide, arrays-fit}
 use borrow.Author.Needs.{needs}
-use borrow.Author.Needs.{needs}
 use Rattle.trees.proofs.table.tree_refusal.Statement.{statement}
 use Rattle.trees.proofs.table.tree_refusal.Tie as tie
 

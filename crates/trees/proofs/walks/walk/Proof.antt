@@ -1,17 +1,13 @@
 -- Each return is an outcome of the walk's order; the cells are those of the table made of its parts.
 -- Assumes nothing.
 use mathlib.Core.Path.{_≡_, sym, _∙_, ap}
-use mathlib.Core.List.{List}
 use native.Mathlib.Omega.{arith}
-use Prim.Native.Nat.{ℕ, _+_, _*_}
-use lib.ListN.{length}
 use Rattle.trees.specs.Table.{Table, tips, nodes, tableOf, to-parts, of-parts, table-of-parts}
 use Rattle.trees.specs.IsTree.{IsTree}
 use Rattle.trees.specs.Check.{checked-accepted, refusal-passed}
 use Rattle.trees.specs.Arrays.{TreeArrays, tree-arrays}
 use Rattle.trees.specs.Walk.{walked}
 use Rattle.trees.specs.WalkOutcomes.{walk-tree-refused, walk-too-short, walk-accepted}
-use borrow.Author.Needs.{needs}
 use borrow.Author.Needs.{needs}
 use Rattle.trees.proofs.walks.walk.Statement.{statement}
 use Rattle.trees.proofs.walks.walk.Tie as tie
