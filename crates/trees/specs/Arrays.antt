@@ -1,14 +1,18 @@
--- The two arrays of a tree table, as they are passed on: n, the parents ps and the labels ls.
+-- The two arrays of a tree table, the parents ps and the labels ls, as they are passed on.
 -- Assumes nothing.
 use mathlib.Core.Path.{_≡_, sym, _∙_, ap, subst}
 use mathlib.Core.List.{List}
-use Prim.Native.Nat.{ℕ, _≤_}
+use Prim.Native.Nat.{ℕ, _≤_, _<_}
 use native.Mathlib.Omega.{arith}
 use lib.ListN.{length}
 use Rattle.shapes.specs.Ancestors.{Rooted}
-use Rattle.trees.specs.Table.{Table, word, tips, parents, labels, parent, label, tableOf, tips-of, nodes-of, parents-of, labels-of, parents-length, labels-length, table-of-parts}
+use Rattle.trees.specs.Table.{Table, word, tips, parents, labels, parent, label, nodeBelow, tableOf}
+use Rattle.trees.specs.Table.{tips-of, nodes-of, parents-of, labels-of, parents-length, labels-length}
+use Rattle.trees.specs.Table.{table-of-parts}
 use Rattle.trees.specs.IsTree.{IsTree, rooted}
+use Rattle.trees.specs.Labels.{node-below}
 
+-- with n: the table made of them is a tree table
 pub record TreeArrays (n : ℕ) (ps ls : List ℕ) : Type 0 where
   pub tree : IsTree (tableOf n ps ls)
   pub same : length ls ≡ length ps
@@ -37,3 +41,28 @@ module _ (n : ℕ) (ps ls : List ℕ) (a : TreeArrays n ps ls) where
 
   pub rooted-parents : Rooted (word ps)
   rooted-parents = subst Rooted parent-is (rooted (tableOf n ps ls) (a .tree))
+
+-- ---- without n: nodes that can climb, and labels that can be looked up
+
+pub record RootedArrays (ps ls : List ℕ) : Type 0 where
+  pub tree : Rooted (word ps)
+  pub some : 1 ≤ length ps
+  pub few : length ps ≤ 512
+  pub same : length ls ≡ length ps
+
+pub rooted-arrays : (t : Table) → IsTree t → RootedArrays (parents t) (labels t)
+rooted-arrays t g =
+    let a = tree-arrays t g in
+    let m = few-nodes (tips t) (parents t) (labels t) a in
+    record {
+      tree = rooted-parents (tips t) (parents t) (labels t) a;
+      some = omega arith;
+      few = omega arith;
+      same = a .same;
+    }
+
+-- what is found among the labels is a node
+pub node-found : (ps ls : List ℕ) → RootedArrays ps ls → (x v : ℕ) → v ≡ nodeBelow (word ls) (length ls) x
+    → v < length ps
+node-found ps ls a x v e =
+    omega (arith, e, a .same, node-below (word ls) (length ls) x (omega (arith, a .some, a .same)))

@@ -8,7 +8,7 @@ use native.Mathlib.Omega.{arith}
 use lib.Dec.{T}
 use lib.ListN.{length}
 use Rattle.sums.specs.Counts.{Once}
-use Rattle.shapes.specs.Ancestors.{Rooted, parent-lt}
+use Rattle.shapes.specs.Ancestors.{parent-lt}
 use Rattle.shapes.specs.Centres.{
   onAll,
   centreOf,
@@ -22,25 +22,13 @@ use Rattle.shapes.specs.Centres.{
   climb-third,
 }
 use Rattle.trees.specs.declared.centres.CentreAnswer.{CentreAnswer}
-use Rattle.trees.specs.Table.{
-  Table,
-  word,
-  tips,
-  nodes,
-  parents,
-  labels,
-  parent,
-  label,
-  nodeBelow,
-  nodeOf,
-  parents-length,
-  labels-length,
-}
+use Rattle.trees.specs.Table.{Table, word, tips, nodes, parents, labels, parent, label, nodeOf}
+use Rattle.trees.specs.Table.{parents-length, labels-length}
 use Rattle.trees.specs.Refusals.{refusal, ifAccepted, if-accepted, if-refused}
 use Rattle.trees.specs.IsTree.{IsTree, rooted}
 use Rattle.trees.specs.TreeCheck.{treeOrder}
 use Rattle.trees.specs.Orders.{askedOrder, labelOrder, tree-refused, tree-accepted}
-use Rattle.trees.specs.Labels.{node-below, node-at}
+use Rattle.trees.specs.Labels.{node-at}
 use Rattle.trees.specs.Centre.{centre, centreAnswer, Climbable, centreOver}
 
 -- ---- climbing to the node where the paths join
@@ -110,26 +98,7 @@ module _ (ps : List ℕ) (a b c : ℕ) (h : Climbable ps a b c) where
 
 -- ---- the two parts of a table
 
--- what is found among the labels is a node
-pub node-found : (ps ls : List ℕ) → 1 ≤ length ps → length ls ≡ length ps
-    → (x v : ℕ) → v ≡ nodeBelow (word ls) (length ls) x → v < length ps
-node-found ps ls l e x v q = omega (arith, node-below (word ls) (length ls) x (omega arith))
-
 module _ (t : Table) (g : IsTree t) where
-  -- what `centre_node` asks of the two parts
-  pub parts-rooted : Rooted (word (parents t)) × (1 ≤ length (parents t)) × (length (parents t) ≤ 512)
-      × (length (labels t) ≡ length (parents t))
-  unfolding parent
-  parts-rooted =
-      let p = parents-length t (g .words) in
-      let n = g .tips-range in
-      let m = g .nodes-range in (
-        rooted t g,
-        omega (arith, n .0, m .0),
-        omega (arith, n .1, m .1),
-        labels-length t (g .words) ∙ sym p,
-      )
-
   pub centre-of-parts : (a b c : ℕ) → centreOver (parents t) (labels t) a b c ≡ centre t a b c
   unfolding centreOver centre parent label nodeOf
   centre-of-parts a b c = rw (parents-length t (g .words), labels-length t (g .words))

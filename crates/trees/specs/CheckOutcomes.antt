@@ -9,7 +9,8 @@ use borrow.Author.Tests.{lt-ltb, le-ltb, eq-eqb, ne-eqb}
 use lib.Dec.{T, eqb}
 use lib.ListN.{length}
 use Rattle.sums.specs.Tests.{some, every, some-ext}
-use Rattle.trees.specs.Table.{Table, word, rest, tips, nodes, parents, labels, parent, label, parents-length, labels-length}
+use Rattle.trees.specs.Table.{Table, word, rest, tips, nodes, parents, labels, parent, label}
+use Rattle.trees.specs.Table.{parents-length, labels-length}
 use Rattle.trees.specs.Refusals.{refusal, refusal-none, refusal-here, refusal-next}
 use Rattle.trees.specs.TreeCheck.{
   tipsFit,

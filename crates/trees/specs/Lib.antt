@@ -6,8 +6,8 @@ pub mod Tally
 pub mod CheckOutcomes
 pub mod Check
 pub mod Orders
-pub mod Arrays
 pub mod Labels
+pub mod Arrays
 pub mod Walk
 pub mod Weights
 pub mod Subtrees

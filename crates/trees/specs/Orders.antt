@@ -10,7 +10,8 @@ use lib.Dec.{T, eqb, ltb, leb}
 use lib.ListN.{length}
 use Rattle.sums.specs.Tests.{some, not-some-iff, nor-iff, not-eq-iff, not-le-iff, not-lt-iff}
 use Rattle.trees.specs.Table.{Table, word, tips, nodes}
-use Rattle.trees.specs.Refusals.{Rule, refusal, Kept, Numbered, accepted, kept-append, numbered-append, refusal-first, refusal-kept}
+use Rattle.trees.specs.Refusals.{Rule, refusal, Kept, Numbered, accepted, kept-append, numbered-append}
+use Rattle.trees.specs.Refusals.{refusal-first, refusal-kept}
 use Rattle.trees.specs.IsTree.{IsTree}
 use Rattle.trees.specs.TreeCheck.{treeOrder, tree-numbered, tree-kept, kept-tree}
 
@@ -57,9 +58,11 @@ below-iff n xs = let s = not-some-iff (length xs) (λ i. leb n (word xs i)) in (
 different-iff : (xs : List ℕ) → T (not (twoEqual xs)) ↔ Different xs
 unfolding twoEqual
 different-iff xs =
-    let s = not-some-iff (length xs) (λ i. some i (λ j. eqb (word xs j) (word xs i))) in (
-      λ h i j l m. not-eq-iff (word xs j) (word xs i) .0 (not-some-iff i (λ j. eqb (word xs j) (word xs i)) .0 (s .0 h i l) j m),
-      λ h. s .1 (λ i l. not-some-iff i (λ j. eqb (word xs j) (word xs i)) .1 (λ j m. not-eq-iff (word xs j) (word xs i) .1 (h i j l m))),
+    let earlier : ℕ → ℕ → Bool = λ i j. eqb (word xs j) (word xs i) in
+    let s = not-some-iff (length xs) (λ i. some i (earlier i)) in (
+      λ h i j l m. not-eq-iff (word xs j) (word xs i) .0 (not-some-iff i (earlier i) .0 (s .0 h i l) j m),
+      λ h. s .1 (λ i l.
+          not-some-iff i (earlier i) .1 (λ j m. not-eq-iff (word xs j) (word xs i) .1 (h i j l m))),
     )
 
 -- ---- what each accepts
@@ -91,7 +94,8 @@ pub edge-check : (t : Table) (i cells : ℕ) → (refusal (edgeOrder t i cells) 
     ↔ (IsTree t × (1 ≤ i) × (i < nodes t) × (tips t ≤ cells))
 unfolding edgeOrder
 edge-check t i cells =
-    let a = after-tree t ((13, eqb i 0 || leb (nodes t) i) ∷ (12, ltb cells (tips t)) ∷ []) (omega arith, (omega arith, tt)) in
+    let rs : List Rule = (13, eqb i 0 || leb (nodes t) i) ∷ (12, ltb cells (tips t)) ∷ [] in
+    let a = after-tree t rs (omega arith, (omega arith, tt)) in
     let s = not-lt-iff cells (tips t) in
     let o = nor-iff (eqb i 0) (leb (nodes t) i) in
     let z = not-eq-iff i 0 in

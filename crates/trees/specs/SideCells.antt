@@ -4,7 +4,7 @@ use mathlib.Core.Path.{_≡_, sym, _∙_, ap}
 use mathlib.Core.List.{List}
 use mathlib.Core.Bool.{Bool, true, false}
 use mathlib.Core.Logic.{inl, inr}
-use Prim.Native.Nat.{ℕ, zero, suc, _+_, _*_, _≤_, _<_}
+use Prim.Native.Nat.{ℕ, _+_, _*_, _≤_, _<_}
 use native.Mathlib.Omega.{arith}
 use lib.Dec.{eqb}
 use lib.ListN.{length, set, replicate, length-set, length-replicate, getD-replicate}
@@ -14,17 +14,8 @@ use Rattle.shapes.specs.Ancestors.{anc}
 use Rattle.shapes.specs.Totals.{total, total-ext, total-none, total-add, total-mul-left, total-is}
 use Rattle.trees.specs.Table.{word, nodeBelow}
 use Rattle.trees.specs.Positions.{Addable, AddedUp}
-use Rattle.trees.specs.Sides.{either-le, Sided, SidesAre}
-
--- the node that is found lies below the end
-node-le : (lab : ℕ → ℕ) (k x : ℕ) → nodeBelow lab (suc k) x ≤ k
-unfolding nodeBelow
-node-le lab zero x = either-le (eqb (lab 0) x) (omega arith) (omega arith)
-node-le lab (suc k) x = either-le (eqb (lab (suc k)) x) (omega arith) (omega (arith, node-le lab k x))
-
-pub node-lt : (lab : ℕ → ℕ) (k x : ℕ) → 1 ≤ k → nodeBelow lab k x < k
-node-lt lab zero x l = absurd (omega arith)
-node-lt lab (suc k) x l = omega (arith, node-le lab k x)
+use Rattle.trees.specs.Sides.{SidesAre}
+use Rattle.trees.specs.Arrays.{RootedArrays, node-found}
 
 -- ---- cells and what they hold
 
@@ -84,7 +75,7 @@ module _ {top : ℕ} {cells : List ℕ} (h : Low top cells) (p k : ℕ) where
 
 -- x, y, z, w are the nodes of the labels a, b, c, d
 pub record FourNodes (ps ls : List ℕ) (a b c d x y z w : ℕ) : Type 0 where
-  pub lists : Sided ps ls
+  pub lists : RootedArrays ps ls
   pub xa : x ≡ nodeBelow (word ls) (length ls) a
   pub yb : y ≡ nodeBelow (word ls) (length ls) b
   pub zc : z ≡ nodeBelow (word ls) (length ls) c
@@ -92,7 +83,7 @@ pub record FourNodes (ps ls : List ℕ) (a b c d x y z w : ℕ) : Type 0 where
 
 module _ {ps ls : List ℕ} {a b c d x y z w : ℕ} (n : FourNodes ps ls a b c d x y z w) where
   below : (v e : ℕ) → v ≡ nodeBelow (word ls) (length ls) e → v < length ps
-  below v e q = omega (arith, q, node-lt (word ls) (length ls) e (omega (arith, n .lists)), n .lists .same)
+  below v e q = node-found ps ls (n .lists) e v q
 
   pub low-x : x < 512
   low-x = omega (arith, below x a (n .xa), n .lists .few)

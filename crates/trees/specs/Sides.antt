@@ -9,7 +9,7 @@ use lib.Dec.{eqb, lit≤}
 use lib.ListN.{length}
 use Rattle.sums.specs.Bits.{bit}
 use Rattle.sums.specs.Tests.{eq-iff}
-use Rattle.shapes.specs.Ancestors.{Rooted, anc}
+use Rattle.shapes.specs.Ancestors.{anc}
 use Rattle.shapes.specs.Quartets.{parts, Apart, parts-iff}
 use Rattle.trees.specs.Table.{Table, word, parent, nodeBelow, nodeOf, beyond}
 use Rattle.trees.specs.declared.quartet.Topology.{Topology}
@@ -37,7 +37,7 @@ pairing s = elim (eqb s 3) [
   ]
 ]
 
-pub either-le : (b : Bool) {x y k : ℕ} → x ≤ k → y ≤ k → elim b as (λ z. ℕ) [ true ↦ x | false ↦ y ] ≤ k
+either-le : (b : Bool) {x y k : ℕ} → x ≤ k → y ≤ k → elim b as (λ z. ℕ) [ true ↦ x | false ↦ y ] ≤ k
 either-le true l m = l
 either-le false l m = m
 
@@ -89,13 +89,6 @@ apart-shown t i a b c d =
     simp (← eq-iff, h .0, h .1, h .2, ← parts-iff) (Iff·rfl, Iff·rfl, Iff·rfl)
 
 -- ---- as code finds them
-
--- what adding up asks: the two parts of a tree table
-pub record Sided (ps ls : List ℕ) : Type 0 where
-  pub tree : Rooted (word ps)
-  pub some : 1 ≤ length ps
-  pub few : length ps ≤ 512
-  pub same : length ls ≡ length ps
 
 -- each node's cell says which of the four labels lie beyond it
 pub record SidesAre (ps ls : List ℕ) (a b c d : ℕ) (cells : List ℕ) : Type 0 where

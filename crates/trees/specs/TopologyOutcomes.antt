@@ -11,27 +11,15 @@ use Rattle.trees.specs.declared.quartet.TopologyAnswer.{TopologyAnswer}
 use Rattle.trees.specs.Table.{Table, word, tips, nodes, parents, labels, parent, label, nodeOf, beyond}
 use Rattle.trees.specs.Table.{parents-length, labels-length}
 use Rattle.trees.specs.Refusals.{refusal, ifAccepted, if-accepted, if-refused}
-use Rattle.trees.specs.IsTree.{IsTree, rooted}
+use Rattle.trees.specs.IsTree.{IsTree}
 use Rattle.trees.specs.TreeCheck.{treeOrder}
 use Rattle.trees.specs.Orders.{askedOrder, labelOrder, tree-refused, tree-accepted}
 use Rattle.trees.specs.Topology.{topology, topologyAnswer}
-use Rattle.trees.specs.Sides.{sides, pairing, pairing-le, Sided, SidesAre, Shown, topologyShown}
+use Rattle.trees.specs.Sides.{sides, pairing, pairing-le, SidesAre, Shown, topologyShown}
 use Rattle.trees.specs.TopologyLaws.{shown-first, shown-second, shown-third, shown-none}
 
 abbrev told : ℕ → Topology → TopologyAnswer
 told k x = record { refusal = k; topology = x }
-
--- what adding up asks
-pub sided : (t : Table) → IsTree t → Sided (parents t) (labels t)
-unfolding parent
-sided t g =
-    let l = parents-length t (g .words) in
-    record {
-      tree = rooted t g;
-      some = omega (arith, l, g .tips-range, g .nodes-range);
-      few = omega (arith, l, g .tips-range, g .nodes-range);
-      same = labels-length t (g .words) ∙ sym l;
-    }
 
 module _ (t : Table) (a b c d : ℕ) where
   answered : (k : ℕ) (x : Topology) → refusal (labelOrder t (a ∷ b ∷ c ∷ d ∷ [])) ≡ k

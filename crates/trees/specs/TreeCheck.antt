@@ -12,7 +12,8 @@ use borrow.Author.Tests.{le-ltb, eq-eqb, ne-eqb}
 use lib.Dec.{T, eqb, ltb, leb, T-not, not-T}
 use lib.ListN.{length}
 use Rattle.sums.specs.Counts.{count, count-none, count-once, count-twice}
-use Rattle.sums.specs.Tests.{and-iff, or-iff, not-not, eq-iff, le-iff, lt-iff, not-lt-iff, some, every, some-iff, every-iff}
+use Rattle.sums.specs.Tests.{and-iff, or-iff, not-not, eq-iff, le-iff, lt-iff, not-lt-iff, some, every}
+use Rattle.sums.specs.Tests.{some-iff, every-iff}
 use Rattle.trees.specs.Table.{Table, tips, nodes, parent, label}
 use Rattle.trees.specs.Refusals.{Rule, refusal, Kept, Numbered, accepted}
 use Rattle.trees.specs.IsTree.{IsTree, Child, StandsOnce, TwoChildren}
@@ -122,7 +123,8 @@ label-iff n l = let o = or-iff (eqb l 65535) (ltb l n) in (
 )
 
 labels-iff : (n m : ℕ) (lab : ℕ → ℕ) → T (labelsFit n m lab)
-    ↔ (lab 0 ≡ 0) × ((i : ℕ) → i < m → T (labelFits n (lab i))) × ((x : ℕ) → x < n → T (eqb (standing m lab x) 1))
+    ↔ (lab 0 ≡ 0) × ((i : ℕ) → i < m → T (labelFits n (lab i)))
+    × ((x : ℕ) → x < n → T (eqb (standing m lab x) 1))
 unfolding labelsFit
 labels-iff n m lab =
     let fits : ℕ → Bool = λ i. labelFits n (lab i) in

@@ -10,7 +10,8 @@ use borrow.Author.Tests.{lt-ltb, le-ltb}
 use lib.Dec.{eqb, leb, ltb}
 use lib.ListN.{length}
 use Rattle.trees.specs.Table.{Table, tips, nodes}
-use Rattle.trees.specs.Refusals.{refusal, refusal-none, refusal-here, refusal-next, if-accepted, if-refused}
+use Rattle.trees.specs.Refusals.{refusal, refusal-none, refusal-here, refusal-next, if-accepted}
+use Rattle.trees.specs.Refusals.{if-refused}
 use Rattle.trees.specs.IsTree.{IsTree}
 use Rattle.trees.specs.TreeCheck.{treeOrder}
 use Rattle.trees.specs.Orders.{walkOrder, edgeOrder, tree-refused, tree-accepted}

@@ -9,9 +9,9 @@ use super::words::wide;
 ghost use mathlib.Core.Path.{_≡_};
 ghost use Prim.Native.Nat.{ℕ, _-_, _≤_, _<_};
 ghost use lib.ListN.{length};
-ghost use Rattle.shapes.specs.Ancestors.{Rooted};
 ghost use Rattle.shapes.specs.Centres.{centreOf};
 ghost use Rattle.trees.specs.Table.{word, nodeBelow};
+ghost use Rattle.trees.specs.Arrays.{RootedArrays};
 ghost use Rattle.trees.specs.Centre.{centreAnswer, centreOver, Climbable};
 
 // The number of the refusal with node 0, or 0 with the centre.
@@ -23,7 +23,10 @@ pub struct CentreAnswer {
 // The node where the paths between three nodes join: the largest of the three climbs to its parent until two are one.
 fn join(parents: &[u16], a: usize, b: usize, c: usize) -> usize
     requires { ⌜ Climbable (now parents) a b c ⌝ }
-    ensures { λ r. ⌜ (r ≡ centreOf (word (now (parents .entry))) (length (now (parents .entry)) - 1) a b c) × (r < length (now (parents .entry))) ⌝ }
+    ensures { λ r. ⌜
+        (r ≡ centreOf (word (now (parents .entry))) (length (now (parents .entry)) - 1) a b c)
+        × (r < length (now (parents .entry)))
+        ⌝ }
 {
     let mut x = a;
     let mut y = b;
@@ -83,7 +86,7 @@ pub fn centre(table: &[u16], a: u16, b: u16, c: u16) -> CentreAnswer
 
 // The same over the two parts of a checked table.
 fn centre_node(parents: &[u16], labels: &[u16], a: u16, b: u16, c: u16) -> u16
-    requires { ⌜ Rooted (word (now parents)) × (1 ≤ length (now parents)) × (length (now parents) ≤ 512) × (length (now labels) ≡ length (now parents)) ⌝ }
+    requires { ⌜ RootedArrays (now parents) (now labels) ⌝ }
     ensures { λ r. ⌜ r ≡ centreOver (now (parents .entry)) (now (labels .entry)) a b c ⌝ }
 {
     let x = node_of(labels, a);

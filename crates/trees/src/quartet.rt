@@ -9,7 +9,8 @@ use super::words::wide;
 ghost use mathlib.Core.Path.{_≡_};
 ghost use Prim.Native.Nat.{ℕ, _≤_, _<_, min, max};
 ghost use Rattle.trees.specs.Topology.{partner, topologyAnswer};
-ghost use Rattle.trees.specs.Sides.{pairing, Sided, SidesAre, Shown, topologyShown};
+ghost use Rattle.trees.specs.Arrays.{RootedArrays};
+ghost use Rattle.trees.specs.Sides.{pairing, SidesAre, Shown, topologyShown};
 
 // 'A butterfly names the partner of the smallest label; a star names nobody.'
 pub enum Topology {
@@ -79,7 +80,7 @@ fn larger(a: u16, b: u16) -> u16
 
 // Which of the four labels lie beyond each edge: 1 for a, 2 for b, 4 for c, 8 for d, added up the tree.
 fn sides_of(parents: &[u16], labels: &[u16], a: u16, b: u16, c: u16, d: u16) -> [usize; 512]
-    requires { ⌜ Sided (now parents) (now labels) ⌝ }
+    requires { ⌜ RootedArrays (now parents) (now labels) ⌝ }
     ensures { λ r. ⌜ SidesAre (now (parents .entry)) (now (labels .entry)) a b c d r ⌝ }
 {
     let mut cells = [0usize; 512];

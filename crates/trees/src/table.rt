@@ -8,7 +8,8 @@ ghost use lib.ListN.{length};
 ghost use Rattle.sums.specs.Tests.{some, every};
 ghost use Rattle.trees.specs.Table.{word};
 ghost use Rattle.trees.specs.Refusals.{refusal};
-ghost use Rattle.trees.specs.TreeCheck.{tipsFit, nodesFit, parentFits, labelFits, labelsFit, misplaced, arraysOrder, ArraysFit, treeOrder};
+ghost use Rattle.trees.specs.TreeCheck.{tipsFit, nodesFit, parentFits, labelFits, labelsFit, misplaced};
+ghost use Rattle.trees.specs.TreeCheck.{arraysOrder, ArraysFit, treeOrder};
 ghost use Rattle.trees.specs.Check.{checked, numberOf};
 
 // What the check finds: a tree with its tips and nodes, or the number of the refusal.
@@ -124,7 +125,10 @@ fn is_misplaced(i: usize, l: usize, k: usize) -> bool
 // Whether some node is misplaced, given the numbers of children.
 fn some_misplaced(labels: &[u16], kids: &[u16]) -> bool
     requires { ⌜ length (now labels) ≤ length (now kids) ⌝ }
-    ensures { λ r. ⌜ r ≡ some (length (now (labels .entry))) (λ i. misplaced i (word (now (labels .entry)) i) (word (now (kids .entry)) i)) ⌝ }
+    ensures { λ r. ⌜
+        r ≡ some (length (now (labels .entry)))
+        (λ i. misplaced i (word (now (labels .entry)) i) (word (now (kids .entry)) i))
+        ⌝ }
 {
     let mut i = 0;
     while i < labels.len() {
@@ -139,7 +143,10 @@ fn some_misplaced(labels: &[u16], kids: &[u16]) -> bool
 // The first of the rules 5 to 7 that the two arrays break, or 0: one pass over the parents counts the children.
 fn arrays_refusal(parents: &[u16], labels: &[u16], n: usize) -> u16
     requires { ⌜ ArraysFit (now parents) (now labels) n ⌝ }
-    ensures { λ r. ⌜ r ≡ refusal (arraysOrder n (length (now (parents .entry))) (word (now (parents .entry))) (word (now (labels .entry)))) ⌝ }
+    ensures { λ r. ⌜
+        r ≡ refusal (arraysOrder n (length (now (parents .entry)))
+        (word (now (parents .entry))) (word (now (labels .entry))))
+        ⌝ }
 {
     if !parents_fit(parents) {
         return 5;

@@ -17,7 +17,10 @@ ghost use Rattle.trees.specs.Walk.{walked, afterWalk};
 // Each tip's label is written where its node starts in the walk.
 fn write_walk(parents: &[u16], labels: &[u16], n: usize, cells: &mut [u16])
     requires { ⌜ TreeArrays n (now parents) (now labels) × (n ≤ length (now cells)) ⌝ }
-    ensures { λ _. ⌜ now (cells .exit) ≡ walked (tableOf n (now (parents .entry)) (now (labels .entry))) (now (cells .entry)) ⌝ }
+    ensures { λ _. ⌜
+        now (cells .exit)
+        ≡ walked (tableOf n (now (parents .entry)) (now (labels .entry))) (now (cells .entry))
+        ⌝ }
 {
     let size = sizes(parents, labels, n);
     let end = ends(parents, labels, n, &size);

@@ -1,17 +1,15 @@
 -- Each return is an outcome of the centre's order. A checked table's parts are what `centre_node` asks for.
 -- Assumes nothing.
 use mathlib.Core.Path.{_≡_, sym, _∙_, ap}
-use Prim.Native.Nat.{ℕ, _≤_}
+use Prim.Native.Nat.{ℕ}
 use native.Mathlib.Omega.{arith}
-use lib.ListN.{length}
-use Rattle.shapes.specs.Ancestors.{Rooted}
-use Rattle.trees.specs.Table.{word, tips, nodes, to-parts, of-parts}
+use Rattle.trees.specs.Table.{tips, nodes, to-parts, of-parts}
 use Rattle.trees.specs.IsTree.{IsTree}
 use Rattle.trees.specs.Check.{numberOf, checked-accepted, checked-refusal}
+use Rattle.trees.specs.Arrays.{RootedArrays, rooted-arrays}
 use Rattle.trees.specs.Centre.{centreOver}
 use Rattle.trees.specs.CentreLaws.{
   answer,
-  parts-rooted,
   centre-refused,
   centre-asked-refused,
   centre-accepted,
@@ -100,9 +98,8 @@ centre-node-requires : tie.Need-centre-node-requires
 centre-node-requires c κs =
     let w = c .before .before in
     let k = known (w .before .before .before .before .before .before) in
-    to-parts
-    (λ n ps ls. Rooted (word ps) × (1 ≤ length ps) × (length ps ≤ 512) × (length ls ≡ length ps))
-    _ _ _ (k .0 .words) (k .1) (w .wide2 .ensures .0 ∙ k .2) (parts-rooted _ (k .0))
+    to-parts (λ n ps ls. RootedArrays ps ls) _ _ _ (k .0 .words) (k .1) (w .wide2 .ensures .0 ∙ k .2)
+    (rooted-arrays _ (k .0))
 
 returns-3 : tie.Need-returns-3
 returns-3 c =

@@ -1,7 +1,7 @@
 -- The nodes of the three labels are nodes, so they can climb.
 -- Assumes nothing.
 use Rattle.trees.specs.Centre.{centreOver}
-use Rattle.trees.specs.CentreLaws.{node-found}
+use Rattle.trees.specs.Arrays.{node-found}
 use borrow.Author.Needs.{needs}
 use Rattle.trees.proofs.centres.centre_node.Statement.{statement}
 use Rattle.trees.proofs.centres.centre_node.Tie as tie
@@ -18,11 +18,10 @@ node-of-requires-3 c κs = search needs
 join-requires : tie.Need-join-requires
 join-requires c κs =
     let s = c .before .before .before .before .before in
-    let p = s .pre in
-    let found = node-found (s .args .parents .now) (s .args .labels .now) (p .1) (p .3) in
+    let found = node-found (s .args .parents .now) (s .args .labels .now) (s .pre) in
     record {
-      tree = p .0;
-      few = p .2;
+      tree = s .pre .tree;
+      few = s .pre .few;
       la = found (s .args .a) _ (c .before .before .node-of .ensures);
       lb = found (s .args .b) _ (c .before .node-of2 .ensures);
       lc = found (s .args .c) _ (c .node-of3 .ensures);

@@ -4,7 +4,8 @@ use mathlib.Core.Path.{_≡_, sym, _∙_, ap₂}
 use native.Mathlib.Omega.{arith}
 use Prim.Native.Nat.{ℕ, _≤_, _<_}
 use lib.ListN.{length}
-use Rattle.trees.specs.Table.{Table, tips, nodes, tableOf, to-parts, of-parts, table-of-parts, parents-length}
+use Rattle.trees.specs.Table.{Table, tips, nodes, tableOf, to-parts, of-parts, table-of-parts}
+use Rattle.trees.specs.Table.{parents-length}
 use Rattle.trees.specs.IsTree.{IsTree}
 use Rattle.trees.specs.Orders.{edge-check}
 use Rattle.trees.specs.Arrays.{TreeArrays, tree-arrays}

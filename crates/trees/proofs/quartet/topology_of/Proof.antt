@@ -8,8 +8,9 @@ use Rattle.trees.specs.Refusals.{refusal}
 use Rattle.trees.specs.IsTree.{IsTree}
 use Rattle.trees.specs.Orders.{askedOrder}
 use Rattle.trees.specs.Check.{numberOf, checked-accepted, checked-refusal}
-use Rattle.trees.specs.Sides.{Sided, SidesAre}
-use Rattle.trees.specs.TopologyOutcomes.{sided, topology-refused, topology-asked-refused}
+use Rattle.trees.specs.Sides.{SidesAre}
+use Rattle.trees.specs.Arrays.{RootedArrays, rooted-arrays}
+use Rattle.trees.specs.TopologyOutcomes.{topology-refused, topology-asked-refused}
 use Rattle.trees.specs.TopologyOutcomes.{topology-found}
 use borrow.Author.Needs.{needs}
 use Rattle.trees.proofs.quartet.topology_of.Statement.{statement}
@@ -109,7 +110,7 @@ part-sides-of-end-2 c = search needs
 sides-of-requires : tie.Need-sides-of-requires
 sides-of-requires c κs =
     let k = table (c .before .before) in
-    to-parts (λ n ps ls. Sided ps ls) _ _ _ (k .0 .words) refl (k .1) (sided _ (k .0))
+    to-parts (λ n ps ls. RootedArrays ps ls) _ _ _ (k .0 .words) refl (k .1) (rooted-arrays _ (k .0))
 
 shown-pairing-requires : tie.Need-shown-pairing-requires
 shown-pairing-requires c κs =

@@ -4,7 +4,8 @@ use Prim.Native.Nat.{_<_}
 use mathlib.Core.Path.{ap}
 use native.Mathlib.Omega.{arith}
 use Rattle.trees.specs.Table.{word}
-use Rattle.trees.specs.Positions.{Adding, adding-none, adding-all, adding-parent, adding-fits, adding-next}
+use Rattle.trees.specs.Positions.{Adding, adding-none, adding-all, adding-parent, adding-fits}
+use Rattle.trees.specs.Positions.{adding-next}
 use borrow.Author.Needs.{needs}
 use Rattle.trees.proofs.sizes.add_up.Statement.{statement}
 use Rattle.trees.proofs.sizes.add_up.Tie as tie

@@ -9,7 +9,8 @@ use lib.ListN.{length}
 use Rattle.trees.specs.Table.{Table, word, tips, nodes, to-parts, of-parts}
 use Rattle.trees.specs.TreeCheck.{tipsFit, nodesFit, arraysOrder, ArraysFit, tips-iff}
 use Rattle.trees.specs.Refusals.{refusal}
-use Rattle.trees.specs.CheckOutcomes.{too-short, tips-out, nodes-out, length-wrong, arrays-decide, arrays-fit}
+use Rattle.trees.specs.CheckOutcomes.{too-short, tips-out, nodes-out, length-wrong, arrays-decide}
+use Rattle.trees.specs.CheckOutcomes.{arrays-fit}
 use borrow.Author.Needs.{needs}
 use Rattle.trees.proofs.table.tree_refusal.Statement.{statement}
 use Rattle.trees.proofs.table.tree_refusal.Tie as tie

@@ -7,7 +7,8 @@ use native.Mathlib.Omega.{arith}
 use lib.ListN.{length, length-set}
 use Rattle.trees.specs.Table.{word, tableOf}
 use Rattle.trees.specs.Arrays.{few-tips, few-nodes}
-use Rattle.trees.specs.Writing.{Written, written-none, size-le-end, write-inside, write-tip, write-inner, write-all}
+use Rattle.trees.specs.Writing.{Written, written-none, size-le-end, write-inside, write-tip}
+use Rattle.trees.specs.Writing.{write-inner, write-all}
 use borrow.Author.Needs.{needs}
 use Rattle.trees.proofs.walks.write_walk.Statement.{statement}
 use Rattle.trees.proofs.walks.write_walk.Tie as tie
