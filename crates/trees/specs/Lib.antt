@@ -24,3 +24,4 @@ pub mod Sides
 pub mod SideCells
 pub mod TopologyLaws
 pub mod TopologyOutcomes
+pub mod Examples
