@@ -1,6 +1,6 @@
 -- What the walk and the part beyond an edge give, as their code finds it.
 -- Assumes nothing.
-use mathlib.Core.Path.{_≡_, sym, _∙_}
+use mathlib.Core.Path.{_≡_, refl, sym, _∙_, ap}
 use mathlib.Core.Bool.{true, false, _||_}
 use mathlib.Core.List.{List, [], _∷_}
 use mathlib.Core.Logic.{_≢_}
@@ -8,14 +8,16 @@ use Prim.Native.Nat.{ℕ, _≤_, _<_}
 use native.Mathlib.Omega.{arith}
 use borrow.Author.Tests.{lt-ltb, le-ltb}
 use lib.Dec.{eqb, leb, ltb}
-use lib.ListN.{length}
+use lib.ListN.{length, take, drop, length-drop, length-append}
+use lib.Seq.{take-append-le, drop-append-le}
 use Rattle.trees.specs.Table.{Table, tips, nodes}
 use Rattle.trees.specs.Refusals.{refusal, refusal-none, refusal-here, refusal-next, if-accepted}
 use Rattle.trees.specs.Refusals.{if-refused}
 use Rattle.trees.specs.IsTree.{IsTree}
 use Rattle.trees.specs.TreeCheck.{treeOrder}
-use Rattle.trees.specs.Orders.{walkOrder, edgeOrder, tree-refused, tree-accepted}
-use Rattle.trees.specs.Walk.{walked, afterWalk, part, partBeyond}
+use Rattle.trees.specs.Orders.{walkOrder, edgeOrder, edge-check, tree-refused, tree-accepted}
+use Rattle.trees.specs.Walk.{walk, walked, afterWalk, subtree, below, start, part, partBeyond}
+use Rattle.trees.specs.WalkLaws.{walk-length, part-fits, part-walk}
 
 -- ---- the walk: its number, and the cells afterwards
 
@@ -76,3 +78,30 @@ module _ (t : Table) (i : ℕ) (w : List ℕ) where
   pub part-accepted : (k : ℕ) → k ≡ refusal (edgeOrder t i (length w)) → k ≡ 0 → partBeyond t i w ≡ part t i w
   unfolding partBeyond
   part-accepted k e z = if-accepted _ (part t i w) [] (sym e ∙ z)
+
+-- ---- the part on the walk that `walk` writes
+
+module _ (t : Table) (g : IsTree t) (cells : List ℕ) (l : tips t ≤ length cells) (i : ℕ) (m : i < nodes t) where
+  -- the part lies within the first n cells, so the cells from n on play no part
+  pub part-walked : part t i (walked t cells) ≡ part t i (walk t)
+  unfolding part walked
+  part-walked =
+      let f = part-fits t g i m in
+      let k = walk-length t g in
+      let rest = drop (tips t) cells in
+      ap (take (below t i)) (drop-append-le (start t i) (walk t) rest (omega arith))
+      ∙ take-append-le (below t i) (drop (start t i) (walk t)) rest
+      (omega (arith, length-drop (start t i) (walk t)))
+
+  -- `beyond` after `walk` hands back the labels of the subtree, which are exactly those beyond the edge
+  pub beyond-after-walk : 1 ≤ i → partBeyond t i (afterWalk t cells) ≡ subtree t i
+  beyond-after-walk o =
+      let a = walk-accepted t cells g l in
+      let e = edge-check t i (length (walked t cells)) .1 (g, o, m, long) in
+      ap (partBeyond t i) (sym (a .1))
+      ∙ part-accepted t i (walked t cells) 0 (sym e) refl
+      ∙ part-walked
+      ∙ part-walk t g i m
+    where
+      long : tips t ≤ length (walked t cells)
+      long = unfold walked in omega (arith, length-append (walk t) (drop (tips t) cells), walk-length t g)

@@ -7,10 +7,10 @@ use super::table::refusal_of;
 use super::words::narrow;
 use super::words::wide;
 ghost use mathlib.Core.Path.{_≡_};
-ghost use Prim.Native.Nat.{ℕ, _-_, _≤_, _<_};
+ghost use Prim.Native.Nat.{_-_, _<_};
 ghost use lib.ListN.{length};
 ghost use Rattle.shapes.specs.Centres.{centreOf};
-ghost use Rattle.trees.specs.Table.{word, nodeBelow};
+ghost use Rattle.trees.specs.Table.{word};
 ghost use Rattle.trees.specs.Arrays.{RootedArrays};
 ghost use Rattle.trees.specs.Centre.{centreAnswer, centreOver, Climbable};
 

@@ -7,7 +7,7 @@ use super::table::check;
 use super::table::refusal_of;
 use super::words::wide;
 ghost use mathlib.Core.Path.{_≡_};
-ghost use Prim.Native.Nat.{ℕ, _≤_, _<_, min, max};
+ghost use Prim.Native.Nat.{_≤_, min, max};
 ghost use Rattle.trees.specs.Topology.{partner, topologyAnswer};
 ghost use Rattle.trees.specs.Arrays.{RootedArrays};
 ghost use Rattle.trees.specs.Sides.{pairing, SidesAre, Shown, topologyShown};

@@ -2,11 +2,11 @@
 // sizes from the highest node down, positions from node 0 up. One pass each.
 use super::words::wide;
 ghost use mathlib.Core.Path.{_≡_};
-ghost use Prim.Native.Nat.{ℕ, _+_, _≤_, _<_};
+ghost use Prim.Native.Nat.{_≤_};
 ghost use lib.Dec.{ltb};
 ghost use lib.ListN.{length};
 ghost use Rattle.sums.specs.Bits.{bit};
-ghost use Rattle.trees.specs.Table.{word, tableOf};
+ghost use Rattle.trees.specs.Table.{tableOf};
 ghost use Rattle.trees.specs.Arrays.{TreeArrays};
 ghost use Rattle.trees.specs.Positions.{Addable, AddedUp, TipsMarked, Sizes, Ends};
 

@@ -1,6 +1,6 @@
 // Words as indices, and counts of equal words.
 ghost use mathlib.Core.Path.{_≡_};
-ghost use Prim.Native.Nat.{ℕ, _≤_, _<_};
+ghost use Prim.Native.Nat.{_≤_, _<_};
 ghost use lib.ListN.{length};
 ghost use Rattle.trees.specs.Tally.{Tallied};
 
