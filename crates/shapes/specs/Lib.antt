@@ -4,3 +4,5 @@ pub mod Paths
 pub mod Centres
 pub mod Quartets
 pub mod Totals
+pub mod Shape
+pub mod Claims

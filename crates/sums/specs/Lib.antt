@@ -2,3 +2,5 @@ pub mod Sum
 pub mod Bits
 pub mod Tests
 pub mod Counts
+pub mod SetsOfFour
+pub mod Fours

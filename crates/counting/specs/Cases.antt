@@ -1,0 +1,42 @@
+-- The five cases of a set of four, read from its two topologies, and how many sets are in each.
+-- Assumes nothing.
+use mathlib.Core.Bool.{Bool, true, false}
+use Prim.Native.Nat.{ℕ}
+use lib.Dec.{eqb}
+use Rattle.sums.specs.Bits.{bit}
+use Rattle.sums.specs.SetsOfFour.{sets4}
+use Rattle.trees.specs.declared.quartet.Topology.{Topology}
+use Rattle.trees.specs.declared.quartet.Topology.the-variants.{Butterfly, Star}
+use Rattle.trees.specs.Table.{Table, tips}
+use Rattle.trees.specs.Topology.{topology}
+
+-- 'A same butterfly in both; B different butterflies; C butterfly in the first only; D butterfly in the second only;
+-- E star in both.'
+pub data Case : Type 0 where
+  A : Case
+  B : Case
+  C : Case
+  D : Case
+  E : Case
+
+-- two butterflies of the same four labels are the same if they name the same partner of the smallest
+unfoldable pub caseOf : Topology → Topology → Case
+caseOf (Butterfly p) (Butterfly q) = elim (eqb p q) [ true ↦ A | false ↦ B ]
+caseOf (Butterfly p) Star = C
+caseOf Star (Butterfly q) = D
+caseOf Star Star = E
+
+unfoldable pub caseNumber : Case → ℕ
+caseNumber A = 0
+caseNumber B = 1
+caseNumber C = 2
+caseNumber D = 3
+caseNumber E = 4
+
+-- two cases are the same
+unfoldable pub isCase : Case → Case → Bool
+isCase k c = eqb (caseNumber k) (caseNumber c)
+
+-- 'its case is read from its two topologies, one in each tree': how many sets of four are in the case k
+unfoldable pub quartets : Table → Table → Case → ℕ
+quartets t u k = sets4 (tips t) (λ w x y z. bit (isCase k (caseOf (topology t w x y z) (topology u w x y z))))

@@ -1,0 +1,4 @@
+pub mod ClaimSums
+pub mod Cases
+pub mod QuartetTable
+pub mod TreeShape
