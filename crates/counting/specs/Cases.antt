@@ -35,8 +35,8 @@ caseNumber E = 4
 
 -- two cases are the same
 unfoldable pub isCase : Case → Case → Bool
-isCase k c = eqb (caseNumber k) (caseNumber c)
+isCase c k = eqb (caseNumber c) (caseNumber k)
 
 -- 'its case is read from its two topologies, one in each tree': how many sets of four are in the case k
 unfoldable pub quartets : Table → Table → Case → ℕ
-quartets t u k = sets4 (tips t) (λ w x y z. bit (isCase k (caseOf (topology t w x y z) (topology u w x y z))))
+quartets t u k = sets4 (tips t) (λ w x y z. bit (isCase (caseOf (topology t w x y z) (topology u w x y z)) k))

@@ -1,11 +1,10 @@
 -- A tree table is a shape: its labels sit at different leaves.
 -- Assumes nothing.
 use mathlib.Core.Path.{_≡_, refl, sym, _∙_, ap}
-use mathlib.Core.Logic.{_⊎_, inl, inr, _≢_}
-use Prim.Native.Nat.{ℕ, zero, suc, _+_, _*_, _-_, _/_, _≤_, _<_}
+use mathlib.Core.Logic.{_⊎_, inl, inr}
+use Prim.Native.Nat.{ℕ, suc, _*_, _-_, _/_, _<_}
 use native.Mathlib.Nat.{eq-zero-or-pos}
 use native.Mathlib.Omega.{arith}
-use Rattle.shapes.specs.Ancestors.{Rooted}
 use Rattle.shapes.specs.Directions.{head, head-even, head-odd, code-cases}
 use Rattle.shapes.specs.Shape.{Leaf, Shape}
 use Rattle.trees.specs.Table.{Table, tips, nodes, parent, label, nodeOf}

@@ -6,3 +6,6 @@ pub mod Quartets
 pub mod Totals
 pub mod Shape
 pub mod Claims
+pub mod Splits
+pub mod RobinsonFoulds
+pub mod Topologies

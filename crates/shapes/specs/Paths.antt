@@ -10,7 +10,7 @@ use lib.Dec.{T, eqb, not-T, T-not}
 use Rattle.sums.specs.Bits.{bit, bit-le, bit-cases, bit-not, bit-T, T-bit, is-other}
 use Rattle.sums.specs.Tests.{and-iff, eq-iff, every, every-iff}
 use Rattle.shapes.specs.Ancestors.{Rooted, anc, up-ind, anc-at-zero, anc-up, anc-self, anc-root}
-use Rattle.shapes.specs.Ancestors.{anc-down, anc-trans, anc-line}
+use Rattle.shapes.specs.Ancestors.{anc-le, anc-down, anc-trans, anc-line, one-child}
 use Rattle.shapes.specs.Directions.{head, behind, head-even, head-odd, behind-even, behind-odd}
 use Rattle.shapes.specs.Directions.{code-cases}
 
@@ -136,3 +136,20 @@ module _ (up : ℕ → ℕ) (r : Rooted up) where
       children-apart k v a b (omega arith) (λ j e x y.
       let h = anc-down up r v (suc j) (omega arith) (rw e (anc-self up r v)) in
       omega (arith, anc-trans up r v (suc j) b h y))
+
+  -- an end of the path
+  pub end-on : (k v b : ℕ) → OnPath up k v v b
+  end-on k v b =
+      children-apart k v v b (omega (arith, anc-self up r v)) (λ j e x y.
+      omega (arith, anc-le up r (suc j) v x, r .falls j))
+
+  -- the parent of a node above a and not above b
+  pub fork : (k w a b : ℕ) → bit (anc up (suc w) a) ≡ 1 → bit (anc up (suc w) b) ≡ 0
+      → OnPath up k (up (suc w)) a b
+  fork k w a b ha hb =
+      children-apart k (up (suc w)) a b (omega (arith, anc-trans up r (up (suc w)) (suc w) a below ha)) (λ j e x y.
+      let same = one-child up r j w a e x ha in
+      omega (arith, ap (λ (i : ℕ). bit (anc up (suc i) b)) same))
+    where
+      below : bit (anc up (up (suc w)) (suc w)) ≡ 1
+      below = anc-down up r (up (suc w)) (suc w) (omega arith) (anc-self up r (up (suc w)))

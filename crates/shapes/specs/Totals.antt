@@ -1,7 +1,7 @@
 -- What lies at or below a node, added up from the highest node down.
 -- Assumes nothing.
 use mathlib.Core.Path.{_≡_, sym, _∙_, ap, ap₂}
-use mathlib.Core.Bool.{Bool, true, false, _&&_}
+use mathlib.Core.Bool.{Bool, _&&_}
 use mathlib.Core.Logic.{inl, inr, _≢_, _↔_}
 use Prim.Native.Nat.{ℕ, zero, suc, _+_, _*_, _≤_, _<_}
 use native.Mathlib.Nat.{mul-comm, mul-assoc, mul-left-comm, mul-add, add-mul}
@@ -11,7 +11,7 @@ use native.Mathlib.Omega.{arith}
 use lib.Dec.{T, eqb, leb}
 use Rattle.sums.specs.Sum.{sum, sum-first, sum-ext, sum-cong, sum-mono, sum-none}
 use Rattle.sums.specs.Sum.{sum-add, sum-mul-left, sum-mul-right, sum-swap}
-use Rattle.sums.specs.Bits.{bit, bit-T, bit-no, T-true, T-false}
+use Rattle.sums.specs.Bits.{bit, bit-no, bit-mono, T-true, T-false}
 use Rattle.sums.specs.Bits.{is, ne, is-self, is-other, is-sym, alike, sum-is}
 use Rattle.sums.specs.Tests.{and-iff, eq-iff, le-iff, same-test}
 use Rattle.shapes.specs.Ancestors.{Rooted, anc, parent-lt, anc-self}
@@ -67,11 +67,6 @@ child-iff up i d v = let a = and-iff (leb i d) (eqb (up d) v) in (
   λ t. (le-iff i d .0 (a .0 t .0), eq-iff (up d) v .0 (a .0 t .1)),
   λ h. a .1 (le-iff i d .1 (h .0), eq-iff (up d) v .1 (h .1)),
 )
-
-bit-mono : (a b : Bool) → (T a → T b) → bit a ≤ bit b
-unfolding bit
-bit-mono true b h = omega (arith, bit-T b (h tt))
-bit-mono false b h = omega arith
 
 module _ (up : ℕ → ℕ) (r : Rooted up) where
   -- a node at or below v is v itself or at or below one child of v

@@ -60,6 +60,11 @@ unfolding bit
 T-bit true h = tt
 T-bit false h = absurd (omega arith)
 
+pub bit-mono : (a b : Bool) → (T a → T b) → bit a ≤ bit b
+unfolding bit
+bit-mono true b h = omega (arith, bit-T b (h tt))
+bit-mono false b h = omega arith
+
 -- two tests with equal bits are one
 pub bit-inj : (a b : Bool) → bit a ≡ bit b → a ≡ b
 unfolding bit
@@ -88,6 +93,12 @@ is-eq a b e = rw e (is-self b)
 pub is-ne : (a b : ℕ) → is a b + ne a b ≡ 1
 is-ne a b = bit-not (eqb a b)
 
+pub ne-self : (a : ℕ) → ne a a ≡ 0
+ne-self a = omega (arith, is-ne a a, is-self a)
+
+pub ne-other : (a b : ℕ) → a ≢ b → ne a b ≡ 1
+ne-other a b h = omega (arith, is-ne a b, is-other a b h)
+
 -- two numbers are equal or not, as the bits say it
 pub alike : (a b : ℕ)
     → ((a ≡ b) × (is a b ≡ 1) × (ne a b ≡ 0)) ⊎ ((a ≢ b) × (is a b ≡ 0) × (ne a b ≡ 1))
@@ -101,6 +112,9 @@ is-sym a b = elim (alike a b) [
   | inl e ↦ omega (arith, e .1, is-eq b a (sym (e .0)))
   | inr d ↦ omega (arith, d .1, is-other b a (λ e. d .0 (sym e)))
 ]
+
+pub ne-sym : (a b : ℕ) → ne a b ≡ ne b a
+ne-sym a b = omega (arith, is-ne a b, is-ne b a, is-sym a b)
 
 -- the one term at k
 pub sum-is : (n k : ℕ) (f : ℕ → ℕ) → k < n → sum n (λ i. is k i * f i) ≡ f k

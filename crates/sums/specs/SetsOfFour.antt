@@ -1,9 +1,10 @@
 -- Sums over all tuples of numbers below n, and over the sets of two, three and four of them.
 -- Assumes nothing.
-use mathlib.Core.Path.{_≡_, refl, sym, _∙_, ap, fun-ext}
+use mathlib.Core.Path.{_≡_, refl, _∙_, ap, fun-ext}
+use mathlib.Core.Logic.{_↔_}
 use Prim.Native.Nat.{ℕ, zero, suc, _+_, _*_, _<_}
 use native.Mathlib.Omega.{arith}
-use Rattle.sums.specs.Sum.{sum, sum-suc, sum-ext, sum-cong, sum-add, sum-none, sum-swap}
+use Rattle.sums.specs.Sum.{sum, sum-suc, sum-ext, sum-cong, sum-add, sum-none, sum-ge, sum-swap}
 
 -- ---- tuples, whose members need not differ
 
@@ -55,6 +56,20 @@ pub sets4-ext : (n : ℕ) (f g : ℕ → ℕ → ℕ → ℕ → ℕ)
 unfolding sets4 sets3 sets2
 sets4-ext n f g h = sum-ext n _ _ (λ z lz. sum-ext z _ _ (λ y ly.
     sum-ext y _ _ (λ x lx. sum-ext x _ _ (λ w lw. h w x y z lw lx ly lz))))
+
+-- a sum over the sets is 0 exactly if each term is
+pub sets4-none : (n : ℕ) (f : ℕ → ℕ → ℕ → ℕ → ℕ)
+    → (sets4 n f ≡ 0) ↔ ((w x y z : ℕ) → w < x → x < y → y < z → z < n → f w x y z ≡ 0)
+unfolding sets4 sets3 sets2
+sets4-none n f = (
+  λ e w x y z lw lx ly lz.
+      zeros x _ (zeros y _ (zeros z _ (zeros n _ e z lz) y ly) x lx) w lw,
+  λ h. sum-none n _ (λ z lz. sum-none z _ (λ y ly.
+      sum-none y _ (λ x lx. sum-none x _ (λ w lw. h w x y z lw lx ly lz)))),
+)
+  where
+    zeros : (n : ℕ) (f : ℕ → ℕ) → sum n f ≡ 0 → (i : ℕ) → i < n → f i ≡ 0
+    zeros n f e i l = omega (arith, sum-ge n f i l)
 
 -- ---- sums of sums, and members in another order
 

@@ -23,6 +23,10 @@ pub nor-iff : (a b : Bool) → T (not (a || b)) ↔ T (not a) × T (not b)
 nor-iff true b = (λ t. absurd t, λ h. h .0)
 nor-iff false b = (λ t. (tt, t), λ h. h .1)
 
+pub implies-iff : (a b : Bool) → T (not a || b) ↔ (T a → T b)
+implies-iff true b = (λ t s. t, λ h. h tt)
+implies-iff false b = (λ t s. absurd s, λ h. tt)
+
 -- a test is passed or not
 pub T-dec : (b : Bool) → T b ⊎ T (not b)
 T-dec true = inl tt

@@ -1,0 +1,77 @@
+-- Document 01's reference pairs K1 to K9, computed from the definitions: what they say is what 01 prints.
+-- Assumes nothing.
+use mathlib.Core.Path.{_≡_, refl}
+use mathlib.Core.Bool.{true, false}
+use mathlib.Core.List.{List, [], _∷_}
+use Prim.Native.Nat.{ℕ, _+_}
+use Rattle.sums.specs.Sum.{sum}
+use Rattle.sums.specs.Bits.{bit}
+use Rattle.sums.specs.Tests.{some, every}
+use Rattle.sums.specs.SetsOfFour.{sets2, sets3, sets4}
+use Rattle.sums.specs.Fours.{fours}
+use Rattle.shapes.specs.Ancestors.{ancIn, anc}
+use Rattle.shapes.specs.Directions.{edge, rising, head, behind}
+use Rattle.shapes.specs.Quartets.{parts, parted}
+use Rattle.shapes.specs.Claims.{sumIf, meet, sumClaims, choose2}
+use Rattle.shapes.specs.Splits.{isSplit, sameSides, occurs, splitsOf, commonOf, allOccur, sameSplitsOf}
+use Rattle.trees.specs.Table.{Table, tips, nodes, parents, labels, parent, label, nodeBelow, nodeOf, beyond}
+use Rattle.trees.specs.Topology.{butterfly, partner, named, topology}
+use Rattle.trees.specs.Examples.{P, Q, R, W, TwoTips, ThreeTips}
+use Rattle.counting.specs.ClaimSums.{codes, behindEdge, size, crossing, S, S2, S3}
+use Rattle.counting.specs.Cases.{A, B, C, D, E, caseOf, caseNumber, isCase, quartets}
+use Rattle.counting.specs.QuartetTable.{formulaA, formulaB, formulaC, formulaE, formulaDistance, formulaD}
+use Rattle.counting.specs.SplitCounts.{splits, commonSplits, robinsonFoulds, sameSplits}
+
+-- one line of the reference table: S S′ S2 S3, A B C D E, distance, splits of the first, of the second, common,
+-- Robinson-Foulds distance
+unfoldable pub figures : Table → Table → List ℕ
+figures t u =
+    S t ∷ S u ∷ S2 t u ∷ S3 t u
+    ∷ quartets t u A ∷ quartets t u B ∷ quartets t u C ∷ quartets t u D ∷ quartets t u E
+    ∷ (quartets t u B + quartets t u C + quartets t u D)
+    ∷ splits t ∷ splits u ∷ commonSplits t u ∷ robinsonFoulds t u ∷ []
+
+-- K1 to K9
+pub reference-pairs :
+    figures P Q ∷ figures P R ∷ figures Q R ∷ figures P P ∷ figures W W ∷ figures P W ∷ figures W P
+    ∷ figures TwoTips TwoTips ∷ figures ThreeTips ThreeTips ∷ []
+    ≡ (10 ∷ 6 ∷ 6 ∷ 0 ∷ 3 ∷ 0 ∷ 2 ∷ 0 ∷ 0 ∷ 2 ∷ 2 ∷ 1 ∷ 1 ∷ 1 ∷ [])
+    ∷ (10 ∷ 10 ∷ 6 ∷ 8 ∷ 3 ∷ 2 ∷ 0 ∷ 0 ∷ 0 ∷ 2 ∷ 2 ∷ 2 ∷ 1 ∷ 2 ∷ [])
+    ∷ (6 ∷ 10 ∷ 2 ∷ 8 ∷ 1 ∷ 2 ∷ 0 ∷ 2 ∷ 0 ∷ 4 ∷ 1 ∷ 2 ∷ 0 ∷ 3 ∷ [])
+    ∷ (10 ∷ 10 ∷ 10 ∷ 0 ∷ 5 ∷ 0 ∷ 0 ∷ 0 ∷ 0 ∷ 0 ∷ 2 ∷ 2 ∷ 2 ∷ 0 ∷ [])
+    ∷ (0 ∷ 0 ∷ 0 ∷ 0 ∷ 0 ∷ 0 ∷ 0 ∷ 0 ∷ 5 ∷ 0 ∷ 0 ∷ 0 ∷ 0 ∷ 0 ∷ [])
+    ∷ (10 ∷ 0 ∷ 0 ∷ 0 ∷ 0 ∷ 0 ∷ 5 ∷ 0 ∷ 0 ∷ 5 ∷ 2 ∷ 0 ∷ 0 ∷ 2 ∷ [])
+    ∷ (0 ∷ 10 ∷ 0 ∷ 0 ∷ 0 ∷ 0 ∷ 0 ∷ 5 ∷ 0 ∷ 5 ∷ 0 ∷ 2 ∷ 0 ∷ 2 ∷ [])
+    ∷ (0 ∷ 0 ∷ 0 ∷ 0 ∷ 0 ∷ 0 ∷ 0 ∷ 0 ∷ 0 ∷ 0 ∷ 0 ∷ 0 ∷ 0 ∷ 0 ∷ [])
+    ∷ (0 ∷ 0 ∷ 0 ∷ 0 ∷ 0 ∷ 0 ∷ 0 ∷ 0 ∷ 0 ∷ 0 ∷ 0 ∷ 0 ∷ 0 ∷ 0 ∷ []) ∷ []
+unfolding
+    figures S S2 S3 codes behindEdge size crossing sumClaims sumIf meet choose2 quartets isCase caseNumber caseOf
+    splits commonSplits robinsonFoulds splitsOf commonOf isSplit sameSides occurs
+    topology named partner butterfly parts parted sets2 sets3 sets4 sum bit some every
+    ancIn anc edge rising head behind tips nodes parents labels parent label nodeBelow nodeOf beyond
+reference-pairs = refl
+
+-- the five formulas and the distance, from the printed sums
+abbrev pub formulas : ℕ → ℕ → ℕ → ℕ → ℕ → List ℕ
+formulas n s s' s2 s3 =
+    formulaA s2 ∷ formulaB s3 ∷ formulaC s s2 s3 ∷ formulaD s' s2 s3 ∷ formulaE n s s' s2 s3
+    ∷ formulaDistance s s' s2 s3 ∷ []
+
+pub reference-formulas :
+    formulas 5 10 6 6 0 ∷ formulas 5 10 10 6 8 ∷ formulas 5 6 10 2 8 ∷ formulas 5 10 10 10 0
+    ∷ formulas 5 0 0 0 0 ∷ formulas 5 10 0 0 0 ∷ formulas 5 0 10 0 0 ∷ formulas 2 0 0 0 0
+    ∷ formulas 3 0 0 0 0 ∷ []
+    ≡ (3 ∷ 0 ∷ 2 ∷ 0 ∷ 0 ∷ 2 ∷ []) ∷ (3 ∷ 2 ∷ 0 ∷ 0 ∷ 0 ∷ 2 ∷ []) ∷ (1 ∷ 2 ∷ 0 ∷ 2 ∷ 0 ∷ 4 ∷ [])
+    ∷ (5 ∷ 0 ∷ 0 ∷ 0 ∷ 0 ∷ 0 ∷ []) ∷ (0 ∷ 0 ∷ 0 ∷ 0 ∷ 5 ∷ 0 ∷ []) ∷ (0 ∷ 0 ∷ 5 ∷ 0 ∷ 0 ∷ 5 ∷ [])
+    ∷ (0 ∷ 0 ∷ 0 ∷ 5 ∷ 0 ∷ 5 ∷ []) ∷ (0 ∷ 0 ∷ 0 ∷ 0 ∷ 0 ∷ 0 ∷ []) ∷ (0 ∷ 0 ∷ 0 ∷ 0 ∷ 0 ∷ 0 ∷ []) ∷ []
+unfolding formulaA formulaB formulaC formulaE formulaDistance fours
+reference-formulas = refl
+
+-- 'the same splits': of P and Q, P and P, W and W, P and W
+pub reference-same-splits :
+    sameSplits P Q ∷ sameSplits P P ∷ sameSplits W W ∷ sameSplits P W ∷ []
+    ≡ false ∷ true ∷ true ∷ false ∷ []
+unfolding
+    sameSplits sameSplitsOf allOccur isSplit sameSides occurs sum bit some every ancIn anc
+    tips nodes parents labels parent label nodeBelow nodeOf beyond
+reference-same-splits = refl
