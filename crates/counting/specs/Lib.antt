@@ -5,3 +5,6 @@ pub mod TreeShape
 pub mod CasesInShapes
 pub mod SplitCounts
 pub mod ReferencePairs
+pub mod CountingTheorem
+pub mod TreeSplits
+pub mod QuartetTheorem

@@ -173,15 +173,14 @@ module _ (up : ℕ → ℕ) (r : Rooted up) where
       v
 
   -- at most one child of a node is above v
-  pub one-child : (i j v : ℕ) → up (suc i) ≡ up (suc j)
-      → bit (anc up (suc i) v) ≡ 1 → bit (anc up (suc j) v) ≡ 1 → i ≡ j
-  one-child i j v e h g = elim (decLe (suc i) j) [
-    | yes l ↦ absurd (lower i j e h g l)
-    | no m ↦ elim (decLe (suc j) i) [ yes l ↦ absurd (lower j i (sym e) g h l) | no n ↦ omega arith ]
+  pub one-child : (i j v : ℕ) → 1 ≤ i → 1 ≤ j → up i ≡ up j
+      → bit (anc up i v) ≡ 1 → bit (anc up j v) ≡ 1 → i ≡ j
+  one-child i j v li lj e h g = elim (decLe i j) [
+    | yes l ↦ (elim (decLe j i) [ yes m ↦ omega arith | no m ↦ absurd (lower i j li e h g (omega arith)) ])
+    | no m ↦ absurd (lower j i lj (sym e) g h (omega arith))
   ]
     where
-      lower : (i j : ℕ) → up (suc i) ≡ up (suc j)
-          → bit (anc up (suc i) v) ≡ 1 → bit (anc up (suc j) v) ≡ 1 → i < j → ⊥
-      lower i j e h g l =
-          let a = anc-past (suc i) (suc j) (omega arith) (anc-line (suc i) (suc j) v (omega arith) h g) in
-          omega (arith, anc-le (suc i) (up (suc j)) a, r .falls i)
+      lower : (i j : ℕ) → 1 ≤ i → up i ≡ up j → bit (anc up i v) ≡ 1 → bit (anc up j v) ≡ 1 → i < j → ⊥
+      lower i j li e h g l =
+          let a = anc-past i j l (anc-line i j v (omega arith) h g) in
+          omega (arith, anc-le i (up j) a, parent-lt i li)

@@ -9,3 +9,13 @@ pub mod Claims
 pub mod Splits
 pub mod RobinsonFoulds
 pub mod Topologies
+pub mod EulerCentre
+pub mod Triples
+pub mod OrderedClaims
+pub mod LabelSums
+pub mod ClaimCounts
+pub mod Counting
+pub mod FourLabels
+pub mod Holders
+pub mod SameFours
+pub mod ZeroRule

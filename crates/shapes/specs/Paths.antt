@@ -138,18 +138,15 @@ module _ (up : ℕ → ℕ) (r : Rooted up) where
       omega (arith, anc-trans up r v (suc j) b h y))
 
   -- an end of the path
-  pub end-on : (k v b : ℕ) → OnPath up k v v b
-  end-on k v b =
-      children-apart k v v b (omega (arith, anc-self up r v)) (λ j e x y.
-      omega (arith, anc-le up r (suc j) v x, r .falls j))
+  pub end-on : (k v a b : ℕ) → v ≡ a → OnPath up k v a b
+  end-on k v a b e = rw (← e) (children-apart k v v b (omega (arith, anc-self up r v)) (λ j d x y.
+      omega (arith, anc-le up r (suc j) v x, r .falls j)))
 
-  -- the parent of a node above a and not above b
-  pub fork : (k w a b : ℕ) → bit (anc up (suc w) a) ≡ 1 → bit (anc up (suc w) b) ≡ 0
-      → OnPath up k (up (suc w)) a b
-  fork k w a b ha hb =
-      children-apart k (up (suc w)) a b (omega (arith, anc-trans up r (up (suc w)) (suc w) a below ha)) (λ j e x y.
-      let same = one-child up r j w a e x ha in
-      omega (arith, ap (λ (i : ℕ). bit (anc up (suc i) b)) same))
-    where
-      below : bit (anc up (up (suc w)) (suc w)) ≡ 1
-      below = anc-down up r (up (suc w)) (suc w) (omega arith) (anc-self up r (up (suc w)))
+  -- a node with a child above a and not above b
+  pub fork : (k v w a b : ℕ) → up (suc w) ≡ v → bit (anc up (suc w) a) ≡ 1 → bit (anc up (suc w) b) ≡ 0
+      → OnPath up k v a b
+  fork k v w a b e ha hb =
+      let below = anc-down up r v (suc w) (omega arith) (rw e (anc-self up r v)) in
+      children-apart k v a b (omega (arith, anc-trans up r v (suc w) a below ha)) (λ j d x y.
+      let one = one-child up r (suc j) (suc w) a (omega arith) (omega arith) (d ∙ sym e) x ha in
+      omega (arith, ap (λ (i : ℕ). bit (anc up i b)) one))

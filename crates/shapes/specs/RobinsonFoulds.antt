@@ -12,8 +12,8 @@ use Rattle.sums.specs.Tests.{and-iff, same-test, some, some-ext}
 use Rattle.sums.specs.Counts.{count}
 use Rattle.sums.specs.Partners.{count-mono, count-same, some-and, partners}
 use Rattle.shapes.specs.Splits.{Sides, isSplit, sameSides, occurs, splitsOf, commonOf, robinsonFouldsOf}
-use Rattle.shapes.specs.Splits.{Split, SameSides, AllOccur, SameSplits, Distinct, sides-sym, sides-trans}
-use Rattle.shapes.specs.Splits.{split-moves, split-iff, same-sides-iff, all-occur}
+use Rattle.shapes.specs.Splits.{Split, SameSides, AllOccur, SameSplits, Distinct, sides-sym}
+use Rattle.shapes.specs.Splits.{sides-trans, split-moves, split-iff, same-sides-iff, all-occur}
 
 -- ---- a split of both trees
 
@@ -45,7 +45,7 @@ module _ (n k : ℕ) (b : Sides) (l : ℕ) (c : Sides) where
     ),
   )
 
-shared-turn : {n k : ℕ} {b : Sides} {l : ℕ} {c : Sides} {i j : ℕ} → Shared n k b l c i j → Shared n l c k b j i
+shared-turn : {n k l : ℕ} {b c : Sides} {i j : ℕ} → Shared n k b l c i j → Shared n l c k b j i
 shared-turn s = record { one = s .other; other = s .one; sides = sides-sym (s .sides) }
 
 -- ---- common splits
@@ -65,17 +65,21 @@ module _ (n k : ℕ) (b : Sides) (l : ℕ) (c : Sides) (db : Distinct n k b) (dc
           let r = shared-iff n l c k b j i lj li in
           same-test _ _ (λ t. r .1 (shared-turn (s .0 t))) (λ t. s .1 (shared-turn (r .0 t)))
 
-      one-partner : (i j j' : ℕ) → i < k → j < l → j' < l → T (shared n b c i j) → T (shared n b c i j') → j ≡ j'
+      one-partner : (i j j' : ℕ) → i < k → j < l → j' < l
+          → T (shared n b c i j) → T (shared n b c i j') → j ≡ j'
       one-partner i j j' li lj lj' t t' =
           let s = shared-iff n k b l c i j li lj .0 t in
           let r = shared-iff n k b l c i j' li lj' .0 t' in
-          omega (arith, dc (suc j) (suc j') (s .other) (r .other) (sides-trans (sides-sym (s .sides)) (r .sides)))
+          let a = sides-trans (sides-sym (s .sides)) (r .sides) in
+          omega (arith, dc (suc j) (suc j') (s .other) (r .other) a)
 
-      one-origin : (i i' j : ℕ) → i < k → i' < k → j < l → T (shared n b c i j) → T (shared n b c i' j) → i ≡ i'
+      one-origin : (i i' j : ℕ) → i < k → i' < k → j < l
+          → T (shared n b c i j) → T (shared n b c i' j) → i ≡ i'
       one-origin i i' j li li' lj t t' =
           let s = shared-iff n k b l c i j li lj .0 t in
           let r = shared-iff n k b l c i' j li' lj .0 t' in
-          omega (arith, db (suc i) (suc i') (s .one) (r .one) (sides-trans (s .sides) (sides-sym (r .sides))))
+          let a = sides-trans (s .sides) (sides-sym (r .sides)) in
+          omega (arith, db (suc i) (suc i') (s .one) (r .one) a)
 
 module _ (n k : ℕ) (b : Sides) (l : ℕ) (c : Sides) where
   is-split : (i : ℕ) → i < k → T (isSplit n b (suc i) && occurs n b l c (suc i)) → T (isSplit n b (suc i))

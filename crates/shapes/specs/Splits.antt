@@ -42,8 +42,8 @@ robinsonFouldsOf n k b l c = splitsOf n k b + splitsOf n l c - 2 * commonOf n k 
 unfoldable pub allOccur : ℕ → ℕ → Sides → ℕ → Sides → Bool
 allOccur n k b l c = every k (λ i. not (isSplit n b (suc i)) || occurs n b l c (suc i))
 
--- 'Two trees have the same splits if the two tip sets of each split of either tree are also the two tip sets of
--- a split of the other; two trees without any split have the same.'
+-- 'Two trees have the same splits if the two tip sets of each split of either tree are also the two tip sets
+-- of a split of the other; two trees without any split have the same.'
 unfoldable pub sameSplitsOf : ℕ → ℕ → Sides → ℕ → Sides → Bool
 sameSplitsOf n k b l c = allOccur n k b l c && allOccur n l c k b
 
@@ -132,7 +132,7 @@ unfolding sameSides
 same-sides-iff n b c i j =
     let e = every-iff n (λ x. Bool·beq (b i x) (c j x)) in
     let f = every-iff n (λ x. Bool·beq (b i x) (not (c j x))) in
-    let o = or-iff (every n (λ x. Bool·beq (b i x) (c j x))) (every n (λ x. Bool·beq (b i x) (not (c j x)))) in (
+    let o = or-iff (every n (λ x. Bool·beq (b i x) (c j x))) (every n _) in (
       λ t. elim (o .0 t) [
         | inl y ↦ same (λ x l. beq-iff (b i x) (c j x) .0 (e .0 y x l))
         | inr z ↦ turned (λ x l. beq-iff (b i x) (not (c j x)) .0 (f .0 z x l))
@@ -158,7 +158,8 @@ occurs-iff {n} {b = b} {i = i} l c s = (
     index (suc j) q a = (j, q .edge, same-sides-iff n b c i (suc j) .1 a)
 
 module _ (n k : ℕ) (b : Sides) (l : ℕ) (c : Sides) where
-  pub all-occur : ((i : ℕ) → i < k → T (isSplit n b (suc i)) → T (occurs n b l c (suc i))) ↔ AllOccur n k b l c
+  pub all-occur : ((i : ℕ) → i < k → T (isSplit n b (suc i)) → T (occurs n b l c (suc i)))
+      ↔ AllOccur n k b l c
   all-occur = (
     go,
     λ h i m t. let s = split-iff n k b (suc i) (omega arith) m .0 t in occurs-iff l c s .1 (h (suc i) s),

@@ -13,7 +13,10 @@ use Rattle.shapes.specs.Shape.{Shape, butterflyIn}
 
 -- which of three tests is the first that is passed, from 1; 0 for none
 unfoldable pub firstPassed : Bool → Bool → Bool → ℕ
-firstPassed a b c = elim a [ true ↦ 1 | false ↦ elim b [ true ↦ 2 | false ↦ elim c [ true ↦ 3 | false ↦ 0 ] ] ]
+firstPassed a b c = elim a [
+  | true ↦ 1
+  | false ↦ elim b [ true ↦ 2 | false ↦ elim c [ true ↦ 3 | false ↦ 0 ] ]
+]
 
 -- of the three pairings of w, x, y, z in a shape: 0 for a star, 1 for wx|yz, 2 for wy|xz, 3 for wz|xy
 unfoldable pub topologyIn : {n : ℕ} → Shape n → ℕ → ℕ → ℕ → ℕ → ℕ

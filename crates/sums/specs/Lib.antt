@@ -5,3 +5,6 @@ pub mod Counts
 pub mod Partners
 pub mod SetsOfFour
 pub mod Fours
+pub mod Products
+pub mod Exclusion
+pub mod Pairings

@@ -1,0 +1,60 @@
+-- Four different labels below n, in any order.
+-- Assumes nothing.
+use mathlib.Core.Logic.{_⊎_, inl, inr, _≢_}
+use Prim.Native.Nat.{ℕ, _<_}
+use native.Mathlib.Decide.{decLt}
+use native.Mathlib.Omega.{arith}
+
+pub record Four (n a b c d : ℕ) : Type 0 where
+  pub la : a < n
+  pub lb : b < n
+  pub lc : c < n
+  pub ld : d < n
+  pub ab : a ≢ b
+  pub ac : a ≢ c
+  pub ad : a ≢ d
+  pub bc : b ≢ c
+  pub bd : b ≢ d
+  pub cd : c ≢ d
+
+less : (a b : ℕ) → a ≢ b → (a < b) ⊎ (b < a)
+less a b h = elim (decLt a b) [ yes l ↦ inl l | no m ↦ inr (omega arith) ]
+
+-- what holds of the three pairings of rising labels, and depends neither on the order within a pair nor on
+-- that of the pairs, holds of four different labels
+module _ (n : ℕ) (F : ℕ → ℕ → ℕ → ℕ → Type 0)
+    (swap-left : (a b c d : ℕ) → F a b c d → F b a c d)
+    (swap-right : (a b c d : ℕ) → F a b c d → F a b d c)
+    (turn : (a b c d : ℕ) → F a b c d → F c d a b)
+    (one : (w x y z : ℕ) → w < x → x < y → y < z → z < n → F w x y z)
+    (two : (w x y z : ℕ) → w < x → x < y → y < z → z < n → F w y x z)
+    (three : (w x y z : ℕ) → w < x → x < y → y < z → z < n → F w z x y) where
+  -- the smallest first, and the second pair rising
+  led : (a b c d : ℕ) → Four n a b c d → a < b → a < c → c < d → F a b c d
+  led a b c d h ab ac cd = elim (less b c (h .bc)) [
+    | inl l ↦ one a b c d ab l cd (h .ld)
+    | inr m ↦ elim (less b d (h .bd)) [
+      | inl l ↦ two a c b d ac m l (h .ld)
+      | inr q ↦ three a c d b ac cd q (h .lb)
+    ]
+  ]
+
+  -- both pairs rising
+  paired : (a b c d : ℕ) → Four n a b c d → a < b → c < d → F a b c d
+  paired a b c d h ab cd = elim (less a c (h .ac)) [
+    | inl l ↦ led a b c d h ab l cd
+    | inr m ↦ turn c d a b (led c d a b (omega arith) cd m ab)
+  ]
+
+  -- the first pair rising
+  begun : (a b c d : ℕ) → Four n a b c d → a < b → F a b c d
+  begun a b c d h ab = elim (less c d (h .cd)) [
+    | inl l ↦ paired a b c d h ab l
+    | inr m ↦ swap-right a b d c (paired a b d c (omega arith) ab m)
+  ]
+
+  pub any-order : (a b c d : ℕ) → Four n a b c d → F a b c d
+  any-order a b c d h = elim (less a b (h .ab)) [
+    | inl l ↦ begun a b c d h l
+    | inr m ↦ swap-left b a c d (begun b a c d (omega arith) m)
+  ]

@@ -1,0 +1,59 @@
+-- Products of bits, and products of sums as sums over tuples.
+-- Assumes nothing.
+use mathlib.Core.Path.{_≡_, refl, ap}
+use mathlib.Core.Bool.{Bool, true, false, _&&_}
+use mathlib.Core.Logic.{inl, inr, _≢_}
+use Prim.Native.Nat.{ℕ, zero, suc, _+_, _*_, _≤_, _<_}
+use native.Mathlib.Omega.{arith}
+use Rattle.sums.specs.Sum.{sum, sum-cong, sum-add, sum-mul-left, sum-mul-right}
+use Rattle.sums.specs.Bits.{bit, is, ne, is-ne, alike, sum-is}
+use Rattle.sums.specs.SetsOfFour.{tuples2, tuples3, tuples4}
+
+pub bit-sq : (b : Bool) → bit b * bit b ≡ bit b
+unfolding bit
+bit-sq true = refl
+bit-sq false = refl
+
+pub bit-and : (a b : Bool) → bit (a && b) ≡ bit a * bit b
+unfolding bit
+bit-and true true = refl
+bit-and true false = refl
+bit-and false true = refl
+bit-and false false = refl
+
+-- ---- a product that is not 0 has no factor 0
+
+pub times-pos : (x y : ℕ) → 1 ≤ x * y → (1 ≤ x) × (1 ≤ y)
+times-pos zero y h = absurd (omega arith)
+times-pos (suc x) zero h = absurd (omega arith)
+times-pos (suc x) (suc y) h = omega arith
+
+pub ne-times-pos : (a b x : ℕ) → 1 ≤ ne a b * x → (a ≢ b) × (1 ≤ x)
+ne-times-pos a b x h = elim (alike a b) [
+  | inl e ↦ absurd (omega (arith, rw (e .2) at h))
+  | inr d ↦ (d .0, omega (arith, rw (d .2) at h))
+]
+
+-- ---- sums
+
+-- all indices but k
+pub sum-ne : (n k : ℕ) (f : ℕ → ℕ) → k < n → sum n (λ i. ne k i * f i) + f k ≡ sum n f
+sum-ne n k f l = omega (
+  arith,
+  sum-is n k f l,
+  sum-add n (λ i. is k i * f i) (λ i. ne k i * f i),
+  sum-cong n (λ i. either i),
+)
+  where
+    either : (i : ℕ) → is k i * f i + ne k i * f i ≡ f i
+    either i = omega (arith, ap (λ (x : ℕ). x * f i) (is-ne k i))
+
+pub tuples2-times-sums : (n : ℕ) (f : ℕ → ℕ → ℕ) (g h : ℕ → ℕ)
+    → tuples2 n f * (sum n g * sum n h) ≡ tuples4 n (λ a b c d. f a b * (g c * h d))
+unfolding tuples4 tuples3 tuples2
+tuples2-times-sums n f g h = simp (sum-mul-left, sum-mul-right)
+
+pub four-sums : (n : ℕ) (e f g h : ℕ → ℕ)
+    → sum n e * sum n f * (sum n g * sum n h) ≡ tuples4 n (λ a b c d. e a * f b * (g c * h d))
+unfolding tuples4 tuples3 tuples2
+four-sums n e f g h = simp (sum-mul-left, sum-mul-right)
