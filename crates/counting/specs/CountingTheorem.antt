@@ -2,9 +2,7 @@
 -- Assumes nothing.
 use mathlib.Core.Path.{_≡_, refl, sym, _∙_, ap}
 use Prim.Native.Nat.{ℕ, _+_, _*_, _-_}
-use native.Mathlib.Omega.{arith}
 use Rattle.sums.specs.Counts.{count}
-use Rattle.sums.specs.SetsOfFour.{sets4}
 use Rattle.sums.specs.Fours.{setsOfFour}
 use Rattle.shapes.specs.Directions.{behind}
 use Rattle.shapes.specs.Claims.{sumClaims, claimTerm}

@@ -1,15 +1,15 @@
 -- Demand 3 of document 01, for two tree tables on the same tips.
 -- Assumes nothing.
-use mathlib.Core.Path.{_≡_, refl, sym, _∙_, ap}
+use mathlib.Core.Path.{_≡_, refl, sym, _∙_}
 use mathlib.Core.Logic.{_↔_}
 use Prim.Native.Nat.{ℕ, _+_, _*_, _-_, _/_, _%_, _≤_}
 use native.Mathlib.Omega.{arith}
-use Rattle.sums.specs.Fours.{setsOfFour, fours, fours-count, fours-exact, fours-of-256, fours-mono}
+use Rattle.sums.specs.Fours.{fours, fours-count, fours-exact, fours-of-256, fours-mono}
 use Rattle.shapes.specs.ZeroRule.{zero-rule}
 use Rattle.trees.specs.Table.{Table, tips, beyond}
 use Rattle.trees.specs.IsTree.{IsTree}
 use Rattle.counting.specs.ClaimSums.{S, S2, S3}
-use Rattle.counting.specs.Cases.{Case, A, B, C, D, E, caseNumber, quartets}
+use Rattle.counting.specs.Cases.{A, B, C, D, E, caseNumber, quartets}
 use Rattle.counting.specs.QuartetTable.{formulaA, formulaB, formulaC, formulaD, formulaE, formulaDistance}
 use Rattle.counting.specs.SplitCounts.{HaveSameSplits}
 use Rattle.counting.specs.TreeShape.{shapeOf}

@@ -1,18 +1,23 @@
--- Different splits of a tree table have different tip sets.
+-- Different edges of a tree table have different tip sets; so common splits and the Robinson-Foulds distance are
+-- the same counted from either tree.
 -- Assumes nothing.
 use mathlib.Core.Path.{_≡_, refl, sym, _∙_, ap}
-use mathlib.Core.Logic.{inl, inr, _≢_}
-use Prim.Native.Nat.{ℕ, zero, suc, _+_, _-_, _≤_, _<_}
+use mathlib.Core.Logic.{inl, inr, _≢_, _↔_}
+use lib.Dec.{T}
+use Prim.Native.Nat.{ℕ, zero, suc, _+_, _*_, _-_, _≤_, _<_}
 use native.Mathlib.Decide.{decLt, ℕ-discrete}
 use native.Mathlib.Omega.{arith}
 use Rattle.sums.specs.Bits.{bit, bit-not, bit-no, bit-T, is-other}
 use Rattle.shapes.specs.Ancestors.{anc, parent-lt, anc-at-zero, anc-self, anc-down, anc-trans, anc-line}
 use Rattle.shapes.specs.Ancestors.{one-child}
 use Rattle.shapes.specs.Paths.{towards}
-use Rattle.shapes.specs.Splits.{Split, same, turned, Distinct}
+use Rattle.shapes.specs.Splits.{splitsOf, commonOf, robinsonFouldsOf, Distinct, SameSides, same, turned, same-splits-iff}
+use Rattle.shapes.specs.RobinsonFoulds as rf
+use Rattle.shapes.specs.RobinsonFoulds.{common-turned}
 use Rattle.trees.specs.Table.{Table, tips, nodes, parent, label, nodeOf, beyond}
 use Rattle.trees.specs.IsTree.{IsTree, Child, rooted}
 use Rattle.trees.specs.Labels.{node-only}
+use Rattle.counting.specs.SplitCounts.{splits, commonSplits, robinsonFoulds, sameSplits, HaveSameSplits}
 
 module _ (t : Table) (g : IsTree t) where
   child-above : (i j : ℕ) → Child t i j → bit (anc (parent t) i j) ≡ 1
@@ -82,26 +87,65 @@ module _ (t : Table) (g : IsTree t) where
       rw (node-only t g 0 0 (omega arith) (omega arith) (g .root-label))
       (anc-at-zero (parent t) (rooted t g) i ∙ is-other i 0 (omega arith))
 
-  lower-apart : (i j : ℕ) → i < j → Split (tips t) (nodes t - 1) (beyond t) i
-      → Split (tips t) (nodes t - 1) (beyond t) j → ((x : ℕ) → x < tips t → beyond t i x ≡ beyond t j x) → ⊥
+  lower-apart : (i j : ℕ) → 1 ≤ i → i < j → j < nodes t
+      → ((x : ℕ) → x < tips t → beyond t i x ≡ beyond t j x) → ⊥
   unfolding beyond
-  lower-apart i j l s r h =
-      let x = s .beyond in
-      let e = ap bit (h (x .0) (omega (arith, x .2, x .3))) in
-      let b = bit-T (beyond t i (x .0)) (x .4) in
-      let a = anc-line (parent t) (rooted t g) i j (nodeOf t (x .0)) (omega arith) b (sym e ∙ b) in
-      let y = fewer i j (s .above) l (omega (arith, r .edge)) a in
+  lower-apart i j l1 l lj h =
+      let x = labelled (nodes t) i (omega arith) (omega arith) in
+      let e = ap bit (h (x .0) (x .1)) in
+      let a = anc-line (parent t) (rooted t g) i j (nodeOf t (x .0)) (omega arith) (x .2) (sym e ∙ x .2) in
+      let y = fewer i j l1 l lj a in
       omega (arith, y .2, y .3, ap bit (h (y .0) (y .1)))
 
-  pub tree-distinct : Distinct (tips t) (nodes t - 1) (beyond t)
-  tree-distinct i j s r (turned h) =
+  -- different edges, tip edges as well, have different tip sets
+  pub edges-distinct : (i j : ℕ) → 1 ≤ i → i < nodes t → 1 ≤ j → j < nodes t
+      → SameSides (tips t) (beyond t) (beyond t) i j → i ≡ j
+  edges-distinct i j li mi lj mj (turned h) =
       let few = g .tips-range in
       let e = ap bit (h 0 (omega arith)) in
-      omega (arith, zero-here i (s .above), zero-here j (r .above), bit-not (beyond t j 0))
-  tree-distinct i j s r (same h) = elim (decLt i j) [
-    | yes l ↦ absurd (lower-apart i j l s r h)
+      omega (arith, zero-here i li, zero-here j lj, bit-not (beyond t j 0))
+  edges-distinct i j li mi lj mj (same h) = elim (decLt i j) [
+    | yes l ↦ absurd (lower-apart i j li l mj h)
     | no m ↦ elim (decLt j i) [
-      | yes l ↦ absurd (lower-apart j i l r s (λ x lx. sym (h x lx)))
+      | yes l ↦ absurd (lower-apart j i lj l mi (λ x lx. sym (h x lx)))
       | no n ↦ omega arith
     ]
   ]
+
+  tree-distinct : Distinct (tips t) (nodes t - 1) (beyond t)
+  tree-distinct i j s r h =
+      edges-distinct i j (s .above) (omega (arith, s .edge, s .above)) (r .above) (omega (arith, r .edge, r .above)) h
+
+-- ---- the four split counts of two tables
+
+module _ (t u : Table) (g : IsTree t) (h : IsTree u) (e : tips t ≡ tips u) where
+  distinct-in-second : Distinct (tips t) (nodes u - 1) (beyond u)
+  distinct-in-second = rw e (tree-distinct u h)
+
+  -- the common splits are as many counted from either tree
+  pub common-from-either : commonSplits t u ≡ commonSplits u t
+  unfolding commonSplits
+  common-from-either =
+      common-turned (tips t) (nodes t - 1) (beyond t) (nodes u - 1) (beyond u) (tree-distinct t g) distinct-in-second
+      ∙ ap (λ (n : ℕ). commonOf n (nodes u - 1) (beyond u) (nodes t - 1) (beyond t)) e
+
+  second-splits : splits u ≡ splitsOf (tips t) (nodes u - 1) (beyond u)
+  unfolding splits
+  second-splits = ap (λ (n : ℕ). splitsOf n (nodes u - 1) (beyond u)) (sym e)
+
+  -- no more is taken off than is there
+  pub robinson-foulds-fits : 2 * commonSplits t u ≤ splits t + splits u
+  unfolding commonSplits splits
+  robinson-foulds-fits = rw second-splits (rf.robinson-foulds-fits
+      (tips t) (nodes t - 1) (beyond t) (nodes u - 1) (beyond u) (tree-distinct t g) distinct-in-second)
+
+  -- the Robinson-Foulds distance is 0 exactly if the splits are the same
+  pub robinson-foulds-zero : (robinsonFoulds t u ≡ 0) ↔ HaveSameSplits t u
+  unfolding robinsonFoulds robinsonFouldsOf commonSplits splits
+  robinson-foulds-zero = rw second-splits (rf.robinson-foulds-zero
+      (tips t) (nodes t - 1) (beyond t) (nodes u - 1) (beyond u) (tree-distinct t g) distinct-in-second)
+
+-- 'the same splits', as a test
+pub same-splits-test : (t u : Table) → T (sameSplits t u) ↔ HaveSameSplits t u
+unfolding sameSplits
+same-splits-test t u = same-splits-iff (tips t) (nodes t - 1) (beyond t) (nodes u - 1) (beyond u)
