@@ -16,7 +16,7 @@ use Rattle.shapes.specs.Claims.{sumIf, meet, sumClaims, choose2}
 use Rattle.shapes.specs.Splits.{isSplit, sameSides, occurs, splitsOf, commonOf, allOccur, sameSplitsOf}
 use Rattle.trees.specs.Table.{Table, tips, nodes, parents, labels, parent, label, nodeBelow, nodeOf, beyond}
 use Rattle.trees.specs.Topology.{butterfly, partner, named, topology}
-use Rattle.trees.specs.Examples.{P, Q, R, W, TwoTips, ThreeTips}
+use Rattle.trees.specs.Examples.{X, P, Q, R, W, TwoTips, ThreeTips}
 use Rattle.counting.specs.ClaimSums.{codes, behindEdge, size, crossing, S, S2, S3}
 use Rattle.counting.specs.Cases.{A, B, C, D, E, caseOf, caseNumber, isCase, quartets}
 use Rattle.counting.specs.QuartetTable.{formulaA, formulaB, formulaC, formulaE, formulaDistance, formulaD}
@@ -67,10 +67,14 @@ pub reference-formulas :
 unfolding formulaA formulaB formulaC formulaE formulaDistance fours
 reference-formulas = refl
 
--- 'the same splits': of P and Q, P and P, W and W, P and W
+-- P with nodes 2 and 3 exchanged: other parent words, the same tree
+abbrev pub P' : Table
+P' = 5 ∷ 8 ∷ 0 ∷ 0 ∷ 1 ∷ 1 ∷ 2 ∷ 2 ∷ 5 ∷ 5 ∷ 0 ∷ X ∷ X ∷ 1 ∷ 2 ∷ X ∷ 3 ∷ 4 ∷ []
+
+-- 'the same splits' looks at tip sets alone: P and R have the same parent words, P and P' have not
 pub reference-same-splits :
-    sameSplits P Q ∷ sameSplits P P ∷ sameSplits W W ∷ sameSplits P W ∷ []
-    ≡ false ∷ true ∷ true ∷ false ∷ []
+    sameSplits P Q ∷ sameSplits P R ∷ sameSplits P W ∷ sameSplits P P ∷ sameSplits P P' ∷ sameSplits W W ∷ []
+    ≡ false ∷ false ∷ false ∷ true ∷ true ∷ true ∷ []
 unfolding
     sameSplits sameSplitsOf allOccur isSplit sameSides occurs sum bit some every ancIn anc
     tips nodes parents labels parent label nodeBelow nodeOf beyond
