@@ -8,3 +8,4 @@ pub mod ReferencePairs
 pub mod CountingTheorem
 pub mod TreeSplits
 pub mod QuartetTheorem
+pub mod NodePairSums

@@ -9,7 +9,7 @@ use Rattle.shapes.specs.ZeroRule.{zero-rule}
 use Rattle.trees.specs.Table.{Table, tips, beyond}
 use Rattle.trees.specs.IsTree.{IsTree}
 use Rattle.counting.specs.ClaimSums.{S, S2, S3}
-use Rattle.counting.specs.Cases.{A, B, C, D, E, caseNumber, quartets}
+use Rattle.counting.specs.Cases.{Case, A, B, C, D, E, caseNumber, quartets}
 use Rattle.counting.specs.QuartetTable.{formulaA, formulaB, formulaC, formulaD, formulaE, formulaDistance}
 use Rattle.counting.specs.SplitCounts.{HaveSameSplits}
 use Rattle.counting.specs.TreeShape.{shapeOf}
@@ -59,9 +59,11 @@ pub record QuartetTheorem (t u : Table) : Type 0 where
   pub S2-most : S2 t u ≤ 349585280
   pub S3-most : S3 t u ≤ 699170560
   pub all-most : fours (tips t) ≤ 174792640
+  pub count-most : (k : Case) → quartets t u k ≤ 174792640
   -- 'the five add up to all sets of four'
   pub total : tableA t u + tableB t u + tableC t u + tableD t u + tableE t u ≡ fours (tips t)
   -- 'the distance B + C + D is zero exactly when the trees have the same splits'
+  pub distance-counts : tableDistance t u ≡ quartets t u B + quartets t u C + quartets t u D
   pub distance-zero : (tableDistance t u ≡ 0) ↔ HaveSameSplits t u
 
 -- ---- the formulas give the counts
@@ -124,7 +126,9 @@ quartet-theorem t u g h e = record {
   S2-most = omega (arith, c .same, f .all, most);
   S3-most = omega (arith, c .different, f .all, most);
   all-most = most;
+  count-most = λ k. omega (arith, in-all k, f .all, most);
   total = omega (arith, f .A-counts, f .B-counts, f .C-counts, f .D-counts, f .E-counts, f .all);
+  distance-counts = distance;
   distance-zero = (
     λ z. zero-rule-of-tables t u g h e .0 (sym distance ∙ z),
     λ s. distance ∙ zero-rule-of-tables t u g h e .1 s,
@@ -139,6 +143,14 @@ quartet-theorem t u g h e = record {
 
     most : fours (tips t) ≤ 174792640
     most = omega (arith, fours-mono (tips t) 256 (g .tips-range .1), fours-of-256)
+
+    in-all : (k : Case) → quartets t u k
+        ≤ quartets t u A + quartets t u B + quartets t u C + quartets t u D + quartets t u E
+    in-all A = omega arith
+    in-all B = omega arith
+    in-all C = omega arith
+    in-all D = omega arith
+    in-all E = omega arith
 
     distance : tableDistance t u ≡ quartets t u B + quartets t u C + quartets t u D
     distance = unfold formulaDistance in omega (arith, f .B-counts, f .C-counts, f .D-counts)

@@ -1,1 +1,11 @@
 pub mod Cells
+pub mod CodeLists
+pub mod NodeSums
+pub mod NodePairs
+pub mod CellTotals
+pub mod Aggregates
+pub mod CellForms
+pub mod PairsOff
+pub mod Hooks
+pub mod ClosedForms
+pub mod ThreeByThree

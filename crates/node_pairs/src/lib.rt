@@ -1,1 +1,1 @@
-// Trees given by parents alone: ancestors, sides, directed edges, paths and centres. Theory only, in specs/.
+// The claim sums as sums over nodes and pairs of nodes, in row and column aggregates. Theory only, in specs/.

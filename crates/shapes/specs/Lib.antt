@@ -12,6 +12,7 @@ pub mod Topologies
 pub mod EulerCentre
 pub mod Triples
 pub mod OrderedClaims
+pub mod ClaimPairs
 pub mod LabelSums
 pub mod ClaimCounts
 pub mod Counting

@@ -1,14 +1,12 @@
 -- Sums over three different indices, by inclusion and exclusion.
 -- Assumes nothing.
 use mathlib.Core.Path.{_≡_, sym, _∙_, ap}
-use mathlib.Core.Bool.{not}
 use mathlib.Core.Logic.{_≢_}
 use Prim.Native.Nat.{ℕ, _+_, _*_, _≤_, _<_}
 use native.Mathlib.Omega.{arith}
-use lib.Dec.{eqb}
 use Rattle.sums.specs.Sum.{sum, sum-ext, sum-cong, sum-add, sum-mul-left, sum-mul-right, sum-pos}
 use Rattle.sums.specs.Bits.{ne}
-use Rattle.sums.specs.Products.{bit-sq, sum-ne, times-pos, ne-times-pos}
+use Rattle.sums.specs.Products.{ne-once, sum-ne, times-pos, ne-times-pos}
 
 -- the sum of q f * r g over different indices f and g below n, both other than e
 unfoldable pub twoApart : ℕ → ℕ → (ℕ → ℕ) → (ℕ → ℕ) → ℕ
@@ -55,14 +53,15 @@ two-apart-pos n e q r h =
 -- ---- inclusion and exclusion
 
 -- two different indices
-pair-apart : (n : ℕ) (q r : ℕ → ℕ)
+pub pair-apart : (n : ℕ) (q r : ℕ → ℕ)
     → sum n (λ f. sum n (λ g. ne f g * (q f * r g))) + sum n (λ f. q f * r f) ≡ sum n q * sum n r
 pair-apart n q r =
     sym (sum-add n _ _)
     ∙ sum-ext n _ (λ f. q f * sum n r) (λ f l. sum-ne n f (λ g. q f * r g) l ∙ sum-mul-left n (q f) r)
     ∙ sum-mul-right n (sum n r) q
 
-two-apart : (n e : ℕ) (q r : ℕ → ℕ) → e < n
+-- two different indices other than e
+pub two-apart : (n e : ℕ) (q r : ℕ → ℕ) → e < n
     → twoApart n e q r + sum n (λ f. q f * r f) + sum n q * r e + q e * sum n r
     ≡ sum n q * sum n r + 2 * (q e * r e)
 unfolding twoApart
@@ -70,11 +69,8 @@ two-apart n e q r l =
     rw (← sum-ne n e q l, ← sum-ne n e r l, ← sum-ne n e (λ f. q f * r f) l) (omega (
       arith,
       pair-apart n (λ f. ne e f * q f) (λ g. ne e g * r g),
-      sum-cong n (λ f. once f),
+      sum-cong n (λ f. ne-once e f (q f) (r f)),
     ))
-  where
-    once : (f : ℕ) → (ne e f * q f) * (ne e f * r f) ≡ ne e f * (q f * r f)
-    once f = omega (arith, ap (λ (x : ℕ). x * (q f * r f)) (bit-sq (not (eqb e f))))
 
 pub inclusion-exclusion : (n : ℕ) (p q r : ℕ → ℕ)
     → threeApart n p q r + sum n p * sum n (λ i. q i * r i) + sum n (λ i. p i * r i) * sum n q

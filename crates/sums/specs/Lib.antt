@@ -8,3 +8,4 @@ pub mod Fours
 pub mod Products
 pub mod Exclusion
 pub mod Pairings
+pub mod Grids

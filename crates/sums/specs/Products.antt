@@ -1,13 +1,14 @@
 -- Products of bits, and products of sums as sums over tuples.
 -- Assumes nothing.
-use mathlib.Core.Path.{_≡_, refl, ap}
-use mathlib.Core.Bool.{Bool, true, false, _&&_}
+use mathlib.Core.Path.{_≡_, refl, _∙_, ap, ap₂}
+use mathlib.Core.Bool.{Bool, true, false, not, _&&_}
 use mathlib.Core.Logic.{inl, inr, _≢_}
 use Prim.Native.Nat.{ℕ, zero, suc, _+_, _*_, _≤_, _<_}
 use native.Mathlib.Omega.{arith}
-use Rattle.sums.specs.Sum.{sum, sum-cong, sum-add, sum-mul-left, sum-mul-right}
-use Rattle.sums.specs.Bits.{bit, is, ne, is-ne, alike, sum-is}
-use Rattle.sums.specs.SetsOfFour.{tuples2, tuples3, tuples4}
+use lib.Dec.{eqb}
+use Rattle.sums.specs.Sum.{sum, sum-ext, sum-cong, sum-add, sum-mul-left, sum-mul-right}
+use Rattle.sums.specs.Bits.{bit, is, ne, is-ne, ne-self, ne-other, ne-sym, alike, sum-is}
+use Rattle.sums.specs.SetsOfFour.{tuples2, tuples3, tuples4, sets2, twice}
 
 pub bit-sq : (b : Bool) → bit b * bit b ≡ bit b
 unfolding bit
@@ -20,6 +21,10 @@ bit-and true true = refl
 bit-and true false = refl
 bit-and false true = refl
 bit-and false false = refl
+
+-- a bit in both factors counts once
+pub ne-once : (a b x y : ℕ) → (ne a b * x) * (ne a b * y) ≡ ne a b * (x * y)
+ne-once a b x y = omega (arith, ap (λ (z : ℕ). z * (x * y)) (bit-sq (not (eqb a b))))
 
 -- ---- a product that is not 0 has no factor 0
 
@@ -47,6 +52,18 @@ sum-ne n k f l = omega (
   where
     either : (i : ℕ) → is k i * f i + ne k i * f i ≡ f i
     either i = omega (arith, ap (λ (x : ℕ). x * f i) (is-ne k i))
+
+-- two different indices in either order
+pub twice-apart : (n : ℕ) (f : ℕ → ℕ → ℕ) → ((a b : ℕ) → f a b ≡ f b a)
+    → tuples2 n (λ a b. ne a b * f a b) ≡ 2 * sets2 n f
+twice-apart n f s =
+    twice n (λ a b. ne a b * f a b) (λ a b. ap₂ (λ (x y : ℕ). x * y) (ne-sym a b) (s a b))
+    (λ a. ap (λ (x : ℕ). x * f a a) (ne-self a) ∙ omega arith)
+    ∙ ap (λ (x : ℕ). 2 * x) rising
+  where
+    rising : sets2 n (λ a b. ne a b * f a b) ≡ sets2 n f
+    rising = unfold sets2 in sum-cong n (λ b. sum-ext b _ _ (λ a l.
+        ap (λ (x : ℕ). x * f a b) (ne-other a b (λ e. omega arith)) ∙ omega arith))
 
 pub tuples2-times-sums : (n : ℕ) (f : ℕ → ℕ → ℕ) (g h : ℕ → ℕ)
     → tuples2 n f * (sum n g * sum n h) ≡ tuples4 n (λ a b c d. f a b * (g c * h d))

@@ -121,3 +121,24 @@ sum-pos (suc n) f h = elim (eq-zero-or-pos (f n)) [
   | inl e ↦ (let r = sum-pos n f (omega arith) in (r .0, omega (arith, r .1), r .2))
   | inr l ↦ (n, omega arith, l)
 ]
+
+-- ---- partial sums
+
+pub sum-part : (j n : ℕ) (f : ℕ → ℕ) → j ≤ n → sum j f ≤ sum n f
+unfolding sum
+sum-part zero zero f l = omega arith
+sum-part (suc j) zero f l = absurd (omega arith)
+sum-part j (suc n) f l = elim (eq-or-lt-of-le l) [
+  | inl e ↦ omega (arith, ap (λ (x : ℕ). sum x f) e)
+  | inr m ↦ omega (arith, sum-part j n f (omega arith))
+]
+
+-- whole rows of a table of m rows and n columns, and the beginning of the next row
+pub rows-part : (i m j n : ℕ) (f : ℕ → ℕ → ℕ) → i < m → j ≤ n
+    → sum i (λ a. sum n (f a)) + sum j (f i) ≤ sum m (λ a. sum n (f a))
+rows-part i m j n f li lj = omega (
+  arith,
+  sum-part j n (f i) lj,
+  sum-suc i (λ a. sum n (f a)),
+  sum-part (suc i) m (λ a. sum n (f a)) li,
+)
