@@ -61,6 +61,10 @@ late up m f i v = sum m (λ d. bit (leb i d && eqb (up d) v) * total up m f d)
 pub record Added (up : ℕ → ℕ) (m : ℕ) (f val : ℕ → ℕ) (i : ℕ) : Type 0 where
   pub holds : (v : ℕ) → v < m → val v ≡ f v + late up m f i v
 
+-- the same of the nodes from k on, where the nodes below k have no values
+pub record AddedFrom (k : ℕ) (up : ℕ → ℕ) (m : ℕ) (f val : ℕ → ℕ) (i : ℕ) : Type 0 where
+  pub holds : (v : ℕ) → k ≤ v → v < m → val v ≡ f v + late up m f i v
+
 -- node d is a child of v, and not below i
 child-iff : (up : ℕ → ℕ) (i d v : ℕ) → T (leb i d && eqb (up d) v) ↔ (i ≤ d) × (up d ≡ v)
 child-iff up i d v = let a = and-iff (leb i d) (eqb (up d) v) in (
@@ -165,6 +169,65 @@ module _ (up : ℕ → ℕ) (r : Rooted up) (m : ℕ) (f : ℕ → ℕ) where
   late-le i v l = sum-mono m _ _ (λ d h. mul-le-mul-right (total up m f d)
       (bit-mono (leb i d && eqb (up d) v) (leb 1 d && eqb (up d) v) (late-first i d v l)))
 
+  late-parent : (y : ℕ) → y < m
+      → late up m f y (up y) ≡ late up m f (y + 1) (up y) + total up m f y
+  late-parent y l = rw (late-step y (up y) l, is-self) (omega arith)
+
+  -- ---- the nodes from k on
+
+  pub added-from-none : (k : ℕ) (val : ℕ → ℕ) → ((v : ℕ) → k ≤ v → v < m → val v ≡ f v)
+      → AddedFrom k up m f val m
+  added-from-none k val h = record { holds = λ v o l. omega (arith, h v o l, late-none v) }
+
+  -- a node whose number is at least i - 1 holds all that is its own
+  pub added-from-all : (k : ℕ) (val : ℕ → ℕ) (i : ℕ) → 1 ≤ i → AddedFrom k up m f val i
+      → (v : ℕ) → k ≤ v → i ≤ v + 1 → v < m → val v ≡ total up m f v
+  added-from-all k val i o a v h n l = omega (arith, a .holds v h l, late-all i v o n, total-late v l)
+
+  -- .. as node y does when its turn comes
+  added-from-own : (k : ℕ) (val : ℕ → ℕ) (y : ℕ) → k ≤ y → y < m → AddedFrom k up m f val (y + 1)
+      → val y ≡ total up m f y
+  added-from-own k val y h l a = added-from-all k val (y + 1) (omega arith) a y h (omega arith) l
+
+  -- node y is added to its parent, which is not below k
+  pub added-from-next : (k : ℕ) (val val' : ℕ → ℕ) (y : ℕ) → 1 ≤ y → y < m → k ≤ up y
+      → val' (up y) ≡ val (up y) + val y → ((v : ℕ) → k ≤ v → v < m → v ≢ up y → val' v ≡ val v)
+      → AddedFrom k up m f val (y + 1) → AddedFrom k up m f val' y
+  added-from-next k val val' y o l q hit miss a =
+      let low = parent-lt up r y o in
+      record {
+        holds = λ v h j. elim (ℕ-discrete v (up y)) [
+          | yes e ↦ rw e (omega (
+            arith,
+            hit,
+            a .holds (up y) q (omega arith),
+            added-from-own k val y (omega arith) l a,
+            late-parent y l,
+          ))
+          | no n ↦ omega (
+            arith,
+            miss v h j n,
+            a .holds v h j,
+            late-step y v l,
+            ap (λ (x : ℕ). x * total up m f y) (is-other (up y) v (λ e. n (sym e))),
+          )
+        ];
+      }
+
+  -- the sum at the parent never passes the parent's total
+  pub added-from-le : (k : ℕ) (val : ℕ → ℕ) (y : ℕ) → 1 ≤ y → y < m → k ≤ up y
+      → AddedFrom k up m f val (y + 1) → val (up y) + val y ≤ total up m f (up y)
+  added-from-le k val y o l q a = let low = parent-lt up r y o in omega (
+    arith,
+    a .holds (up y) q (omega arith),
+    added-from-own k val y (omega arith) l a,
+    late-parent y l,
+    late-le y (up y) o,
+    total-late (up y) (omega arith),
+  )
+
+  -- ---- all nodes
+
   -- before the first node is added, and after the last
   pub added-none : (val : ℕ → ℕ) → ((v : ℕ) → v < m → val v ≡ f v) → Added up m f val m
   added-none val h = record { holds = λ v l. omega (arith, h v l, late-none v) }
@@ -172,48 +235,21 @@ module _ (up : ℕ → ℕ) (r : Rooted up) (m : ℕ) (f : ℕ → ℕ) where
   pub added-all : (val : ℕ → ℕ) → Added up m f val 1 → (v : ℕ) → v < m → val v ≡ total up m f v
   added-all val a v l = a .holds v l ∙ sym (total-late v l)
 
-  -- a node holds all that is its own when its turn comes
-  added-own : (val : ℕ → ℕ) (y : ℕ) → y < m → Added up m f val (y + 1) → val y ≡ total up m f y
-  added-own val y l a = omega (
-    arith,
-    a .holds y l,
-    late-all (y + 1) y (omega arith) (omega arith),
-    total-late y l,
-  )
+  from-first : (val : ℕ → ℕ) (i : ℕ) → Added up m f val i → AddedFrom 0 up m f val i
+  from-first val i a = record { holds = λ v h l. a .holds v l }
 
-  late-parent : (y : ℕ) → y < m
-      → late up m f y (up y) ≡ late up m f (y + 1) (up y) + total up m f y
-  late-parent y l = rw (late-step y (up y) l, is-self) (omega arith)
+  -- a node whose children have all been added holds its total
+  pub added-all-from : (val : ℕ → ℕ) (i v : ℕ) → Added up m f val i → 1 ≤ i → i ≤ v + 1 → v < m
+      → val v ≡ total up m f v
+  added-all-from val i v a o h l = added-from-all 0 val i o (from-first val i a) v (omega arith) h l
 
   -- node y is added to its parent
   pub added-next : (val val' : ℕ → ℕ) (y : ℕ) → 1 ≤ y → y < m → val' (up y) ≡ val (up y) + val y
       → ((v : ℕ) → v < m → v ≢ up y → val' v ≡ val v) → Added up m f val (y + 1) → Added up m f val' y
-  added-next val val' y o l hit miss a = record {
-    holds = λ v h. elim (ℕ-discrete v (up y)) [
-      | yes e ↦ rw e (omega (
-        arith,
-        a .holds (up y) (omega (arith, parent-lt up r y o)),
-        added-own val y l a,
-        late-parent y l,
-      ))
-      | no n ↦ omega (
-        arith,
-        miss v h n,
-        a .holds v h,
-        late-step y v l,
-        ap (λ (x : ℕ). x * total up m f y) (is-other (up y) v (λ e. n (sym e))),
-      )
-    ];
-  }
+  added-next val val' y o l hit miss a =
+      let b = added-from-next 0 val val' y o l (omega arith) hit (λ v h. miss v) (from-first val (y + 1) a) in
+      record { holds = λ v l. b .holds v (omega arith) l }
 
-  -- the sum at the parent never passes the parent's total
   pub added-le : (val : ℕ → ℕ) (y : ℕ) → 1 ≤ y → y < m → Added up m f val (y + 1)
       → val (up y) + val y ≤ total up m f (up y)
-  added-le val y o l a = omega (
-    arith,
-    a .holds (up y) (omega (arith, parent-lt up r y o)),
-    added-own val y l a,
-    late-parent y l,
-    late-le y (up y) o,
-    total-late (up y) (omega (arith, parent-lt up r y o)),
-  )
+  added-le val y o l a = added-from-le 0 val y o l (omega arith) (from-first val (y + 1) a)

@@ -1,0 +1,12 @@
+pub mod PairOrder
+pub mod Crossings
+pub mod CrossingTotals
+pub mod Grid
+pub mod Cleared
+pub mod NodeCells
+pub mod RowTotals
+pub mod TipRows
+pub mod Rows
+pub mod RowsUp
+pub mod Filling
+pub mod LentTables
