@@ -1,5 +1,6 @@
 pub mod PairOrder
 pub mod Crossings
+pub mod PairExamples
 pub mod CrossingTotals
 pub mod Grid
 pub mod Cleared

@@ -9,14 +9,19 @@ use borrow.Author.Needs.{needs}
 use Rattle.quartets.proofs.crosses.fill.Statement.{statement}
 use Rattle.quartets.proofs.crosses.fill.Tie as tie
 
--- the lengths of the two tables
-lengths : (c : tie.After-wide3)
-    → (length (c .before .before .before .before .before .before .before .before .before .args .first .now) ≡ 2 + 2 * c .before .before .wide2 .result)
-    × (length (c .before .before .before .before .before .before .before .before .before .args .second .now) ≡ 2 + 2 * c .wide3 .result)
+-- as many words as their numbers of nodes tell
+record Lengths (c : tie.After-wide3) : Type 0 where
+  first : length (c .before .before .before .before .before .before .before .before .before .args .first .now)
+      ≡ 2 + 2 * c .before .before .wide2 .result
+  second : length (c .before .before .before .before .before .before .before .before .before .args .second .now)
+      ≡ 2 + 2 * c .wide3 .result
+
+lengths : (c : tie.After-wide3) → Lengths c
 lengths c =
-    let a = c .before .before .before .before .before .before .before .before .before in
-    lent-lengths _ _ (a .args .work .now) (a .pre) _ _ _ (c .before .before .before .before .wide .ensures .0)
-    (c .before .before .wide2 .ensures .0) (c .wide3 .ensures .0)
+    let s = c .before .before .before .before .before .before .before .before .before in
+    let l = lent-lengths _ _ (s .args .work .now) (s .pre) _ _ _ (c .before .before .before .before .wide .ensures .0)
+    (c .before .before .wide2 .ensures .0) (c .wide3 .ensures .0) in
+    record { first = l .0; second = l .1 }
 
 shared-slice-read-wide : tie.Need-shared-slice-read-wide
 shared-slice-read-wide c = search needs
@@ -46,7 +51,7 @@ part-fill-arrays-start : tie.Need-part-fill-arrays-start
 part-fill-arrays-start c = search needs
 
 part-fill-arrays-end : tie.Need-part-fill-arrays-end
-part-fill-arrays-end c = omega (arith, lengths c)
+part-fill-arrays-end c = let l = lengths c in omega (arith, l .first, l .second)
 
 add-fill-arrays-2 : tie.Need-add-fill-arrays-2
 add-fill-arrays-2 c = search needs
@@ -55,10 +60,10 @@ mul-fill-arrays : tie.Need-mul-fill-arrays
 mul-fill-arrays c = search needs
 
 sub-fill-arrays-2 : tie.Need-sub-fill-arrays-2
-sub-fill-arrays-2 c = omega (arith, lengths (c .before))
+sub-fill-arrays-2 c = let l = lengths (c .before) in omega (arith, l .first, l .second)
 
 part-fill-arrays-start-2 : tie.Need-part-fill-arrays-start-2
-part-fill-arrays-start-2 c = omega (arith, lengths (c .before))
+part-fill-arrays-start-2 c = let l = lengths (c .before) in omega (arith, l .first, l .second)
 
 part-fill-arrays-end-2 : tie.Need-part-fill-arrays-end-2
 part-fill-arrays-end-2 c = search needs
@@ -73,7 +78,7 @@ part-fill-arrays-start-3 : tie.Need-part-fill-arrays-start-3
 part-fill-arrays-start-3 c = search needs
 
 part-fill-arrays-end-3 : tie.Need-part-fill-arrays-end-3
-part-fill-arrays-end-3 c = omega (arith, lengths (c .before .before))
+part-fill-arrays-end-3 c = let l = lengths (c .before .before) in omega (arith, l .first, l .second)
 
 add-fill-arrays-4 : tie.Need-add-fill-arrays-4
 add-fill-arrays-4 c = search needs
@@ -82,10 +87,10 @@ mul-fill-arrays-2 : tie.Need-mul-fill-arrays-2
 mul-fill-arrays-2 c = search needs
 
 sub-fill-arrays-4 : tie.Need-sub-fill-arrays-4
-sub-fill-arrays-4 c = omega (arith, lengths (c .before .before .before))
+sub-fill-arrays-4 c = let l = lengths (c .before .before .before) in omega (arith, l .first, l .second)
 
 part-fill-arrays-start-4 : tie.Need-part-fill-arrays-start-4
-part-fill-arrays-start-4 c = omega (arith, lengths (c .before .before .before))
+part-fill-arrays-start-4 c = let l = lengths (c .before .before .before) in omega (arith, l .first, l .second)
 
 part-fill-arrays-end-4 : tie.Need-part-fill-arrays-end-4
 part-fill-arrays-end-4 c = search needs
@@ -93,7 +98,8 @@ part-fill-arrays-end-4 c = search needs
 fill-arrays-requires : tie.Need-fill-arrays-requires
 fill-arrays-requires c κs =
     let w = c .before .before .before .before .before in
-    lent-arrays _ _ _ (c .before .before .before .before .before .before .before .before .before .before .before .before .before .before .pre) _ _ _ (w .before .before .before .before .wide .ensures .0)
+    let s = w .before .before .before .before .before .before .before .before .before in
+    lent-arrays _ _ _ (s .pre) _ _ _ (w .before .before .before .before .wide .ensures .0)
     (w .before .before .wide2 .ensures .0) (w .wide3 .ensures .0)
 
 same-length : tie.Need-same-length
@@ -101,9 +107,11 @@ same-length c = search needs
 
 returns : tie.Need-returns
 returns c =
-    let w = c .before .before .before .before .before .before .before .before in
-    lent-crossed _ _ _ (c .before .before .before .before .before .before .before .before .before .before .before .before .before .before .before .before .before .pre) _ _ _ (w .before .before .before .before .wide .ensures .0)
-    (w .before .before .wide2 .ensures .0) (w .wide3 .ensures .0) _ (c .before .before .fill-arrays .ensures)
+    let f = c .before .before in
+    let w = f .before .before .before .before .before .before in
+    let s = w .before .before .before .before .before .before .before .before .before in
+    lent-crossed _ _ _ (s .pre) _ _ _ (w .before .before .before .before .wide .ensures .0)
+    (w .before .before .wide2 .ensures .0) (w .wide3 .ensures .0) _ (f .fill-arrays .ensures)
 
 pub fill-spec : {M : Type 1} → statement M
 fill-spec =

@@ -20,24 +20,36 @@ clear-requires : tie.Need-clear-requires
 clear-requires c κs = search needs
 
 nodes-of-requires : tie.Need-nodes-of-requires
-nodes-of-requires c κs = let a = c .before .before .before .before .before .before .before .before .before .pre .second in omega (arith, few-nodes _ _ _ a, a .same)
+nodes-of-requires c κs =
+    let s = c .before .before .before .before .before .before .before .before .before in
+    omega (arith, few-nodes _ _ _ (s .pre .second), s .pre .second .same)
 
 tip-rows-requires : tie.Need-tip-rows-requires
 tip-rows-requires c κs =
-    tip-room _ _ _ _ _ _ (c .before .before .before .before .before .before .before .before .before .before .before .before .pre) _ _ (c .before .before .before .before .before .clear .ensures) (c .before .before .nodes-of .ensures)
+    let d = c .before .before .before .before .before in
+    let s = d .before .before .before .before .before .before .before in
+    tip-room _ _ _ _ _ _ (s .pre) _ _ (d .clear .ensures) (c .before .before .nodes-of .ensures)
 
 add-rows-requires : tie.Need-add-rows-requires
 add-rows-requires c κs =
-    rows-room _ _ _ _ _ _ (c .before .before .before .before .before .before .before .before .before .before .before .before .before .before .before .before .pre) _ _ (c .before .before .before .before .before .before .before .before .before .clear .ensures) (c .before .before .before .before .before .before .nodes-of .ensures)
-    _ (c .before .before .before .tip-rows .ensures)
+    let r = c .before .before .before in
+    let f = r .before .before .before in
+    let d = f .before .before .before in
+    let s = d .before .before .before .before .before .before .before in
+    rows-room _ _ _ _ _ _ (s .pre) _ _ (d .clear .ensures) (f .nodes-of .ensures) _ (r .tip-rows .ensures)
 
 same-length : tie.Need-same-length
 same-length c = search needs
 
 returns : tie.Need-returns
 returns c =
-    filled _ _ _ _ _ _ (c .before .before .before .before .before .before .before .before .before .before .before .before .before .before .before .before .before .before .before .pre) _ _ (c .before .before .before .before .before .before .before .before .before .before .before .before .clear .ensures) (c .before .before .before .before .before .before .before .before .before .nodes-of .ensures)
-    _ (c .before .before .before .before .before .before .tip-rows .ensures) _ (c .before .before .add-rows .ensures)
+    let a = c .before .before in
+    let r = a .before .before .before .before in
+    let f = r .before .before .before in
+    let d = f .before .before .before in
+    let s = d .before .before .before .before .before .before .before in
+    filled _ _ _ _ _ _ (s .pre) _ _ (d .clear .ensures) (f .nodes-of .ensures) _ (r .tip-rows .ensures)
+    _ (a .add-rows .ensures)
 
 pub fill-arrays-spec : {M : Type 1} → statement M
 fill-arrays-spec =

@@ -86,7 +86,8 @@ add-result : tie.Need-add-result
 add-result c =
     let h = refusal-passed _ _ _ _ (c .before .before .before .check2 .ensures) (c .before .enum-told2 .given .1)
     (c .refusal-of2 .ensures) in
-    omega (arith, h .0, tree-refusal-most (c .before .before .before .before .before .before .before .before .before .before .before .args .second .now))
+    let s = c .before .before .before .before .before .before .before .before .before .before .before in
+    omega (arith, h .0, tree-refusal-most (s .args .second .now))
 
 returns-2 : tie.Need-returns-2
 returns-2 c =
