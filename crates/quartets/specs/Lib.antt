@@ -11,3 +11,6 @@ pub mod Rows
 pub mod RowsUp
 pub mod Filling
 pub mod LentTables
+pub mod SplitCells
+pub mod SplitLoops
+pub mod SplitAnswer

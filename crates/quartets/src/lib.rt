@@ -5,5 +5,9 @@ mod pairs; // pairs.rt: two tables and the lent work cells, checked
 mod marks; // marks.rt: the rows of the first tree's tips
 mod rows; // rows.rt: rows added up the first tree
 mod crosses; // crosses.rt: the crossing counts of two trees
+mod splits; // splits.rt: splits counted in the cells
+mod counts; // counts.rt: the split counts of two trees
 
+pub use counts::SplitCounts;
+pub use counts::split_counts;
 pub use crosses::crossings;
