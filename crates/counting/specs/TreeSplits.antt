@@ -80,7 +80,7 @@ module _ (t : Table) (g : IsTree t) where
       beside i j w (d .0) c (s .3) (d .1) (d .2)
 
   -- label 0 lies beyond no edge
-  zero-here : (i : ℕ) → 1 ≤ i → bit (beyond t i 0) ≡ 0
+  pub zero-here : (i : ℕ) → 1 ≤ i → bit (beyond t i 0) ≡ 0
   unfolding beyond
   zero-here i l =
       let few = g .tips-range in let many = g .nodes-range in

@@ -7,17 +7,18 @@ use Prim.Native.Nat.{ℕ, zero, suc, _+_, _*_, _-_, _≤_, _<_}
 use native.Mathlib.Omega.{arith}
 use lib.Dec.{T, eqb, leb}
 use Rattle.sums.specs.Sum.{sum-ext, sum-add, sum-const}
-use Rattle.sums.specs.Bits.{bit, bit-not, is-other}
+use Rattle.sums.specs.Bits.{bit, bit-not}
 use Rattle.sums.specs.Tests.{and-iff, eq-iff, le-iff, same-test, some, some-ext}
 use Rattle.sums.specs.Products.{bit-and, bit-sq}
 use Rattle.sums.specs.Counts.{count}
 use Rattle.sums.specs.Partners.{count-same}
-use Rattle.shapes.specs.Ancestors.{anc, up-ind, anc-at-zero, anc-self, anc-down}
+use Rattle.shapes.specs.Ancestors.{anc, up-ind, anc-self, anc-down}
 use Rattle.shapes.specs.Splits.{Sides, isSplit, sameSides, occurs, splitsOf, commonOf}
 use Rattle.shapes.specs.Splits.{SameSides, same, turned, same-sides-iff}
 use Rattle.trees.specs.Table.{Table, word, tips, nodes, parent, label, nodeOf, beyond}
 use Rattle.trees.specs.IsTree.{IsTree, rooted}
-use Rattle.trees.specs.Labels.{node-at, node-only}
+use Rattle.trees.specs.Labels.{node-at}
+use Rattle.counting.specs.TreeSplits.{zero-here}
 use Rattle.counting.specs.SplitCounts.{splits, commonSplits}
 use Rattle.quartets.specs.Crossings.{edgeCrossing, crossed, cell-of-edges}
 
@@ -45,13 +46,6 @@ commonRows n k w work = count k (λ i. splitSize n (word work (i * w)) && shared
 -- ---- label 0 lies beyond no edge, every other label beyond edge 1
 
 module _ (t : Table) (g : IsTree t) where
-  zero-here : (i : ℕ) → 1 ≤ i → bit (beyond t i 0) ≡ 0
-  unfolding beyond
-  zero-here i l =
-      let few = g .tips-range in let many = g .nodes-range in
-      rw (node-only t g 0 0 (omega arith) (omega arith) (g .root-label))
-      (anc-at-zero (parent t) (rooted t g) i ∙ is-other i 0 (omega arith))
-
   under-one : (v : ℕ) → 1 ≤ v → v < nodes t → bit (anc (parent t) 1 v) ≡ 1
   under-one = up-ind (parent t) (rooted t g) (λ v. 1 ≤ v → v < nodes t → bit (anc (parent t) 1 v) ≡ 1)
       (λ l m. absurd (omega arith)) step
