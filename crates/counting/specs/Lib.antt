@@ -1,6 +1,7 @@
 pub mod ClaimSums
 pub mod Cases
 pub mod QuartetTable
+pub mod FiveFormulas
 pub mod TreeShape
 pub mod CasesInShapes
 pub mod SplitCounts

@@ -4,13 +4,14 @@ use mathlib.Core.Path.{_≡_, refl, sym, _∙_}
 use mathlib.Core.Logic.{_↔_}
 use Prim.Native.Nat.{ℕ, _+_, _*_, _-_, _/_, _%_, _≤_}
 use native.Mathlib.Omega.{arith}
-use Rattle.sums.specs.Fours.{fours, fours-count, fours-exact, fours-of-256, fours-mono}
+use Rattle.sums.specs.Fours.{fours, fours-exact, fours-of-256, fours-mono}
 use Rattle.shapes.specs.ZeroRule.{zero-rule}
 use Rattle.trees.specs.Table.{Table, tips, beyond}
 use Rattle.trees.specs.IsTree.{IsTree}
 use Rattle.counting.specs.ClaimSums.{S, S2, S3}
 use Rattle.counting.specs.Cases.{Case, A, B, C, D, E, caseNumber, quartets}
 use Rattle.counting.specs.QuartetTable.{formulaA, formulaB, formulaC, formulaD, formulaE, formulaDistance}
+use Rattle.counting.specs.FiveFormulas.{FormulasCount, formulas-count}
 use Rattle.counting.specs.SplitCounts.{HaveSameSplits}
 use Rattle.counting.specs.TreeShape.{shapeOf}
 use Rattle.counting.specs.CasesInShapes.{quartets-in-shapes}
@@ -68,34 +69,19 @@ pub record QuartetTheorem (t u : Table) : Type 0 where
 
 -- ---- the formulas give the counts
 
-record FormulasCount (t u : Table) : Type 0 where
-  A-counts : tableA t u ≡ quartets t u A
-  B-counts : tableB t u ≡ quartets t u B
-  C-counts : tableC t u ≡ quartets t u C
-  D-counts : tableD t u ≡ quartets t u D
-  E-counts : tableE t u ≡ quartets t u E
-  all : fours (tips t) ≡ quartets t u A + quartets t u B + quartets t u C + quartets t u D + quartets t u E
+-- of the sums of two tables
+abbrev FormulasOf : Table → Table → Type 0
+FormulasOf t u = FormulasCount (tips t) (S t) (S u) (S2 t u) (S3 t u)
+    (quartets t u A) (quartets t u B) (quartets t u C) (quartets t u D) (quartets t u E)
 
-formulas-count : (t u : Table) → ClaimCounts t u → FormulasCount t u
-formulas-count t u c = record { A-counts = a; B-counts = b; C-counts = f; D-counts = g; E-counts = e; all = all }
-  where
-    a : tableA t u ≡ quartets t u A
-    a = unfold formulaA in omega (arith, c .same)
-
-    b : tableB t u ≡ quartets t u B
-    b = unfold formulaB in omega (arith, c .different)
-
-    f : tableC t u ≡ quartets t u C
-    f = unfold formulaC in omega (arith, a, b, c .first)
-
-    g : tableD t u ≡ quartets t u D
-    g = unfold formulaC in omega (arith, a, b, c .second)
-
-    all : fours (tips t) ≡ quartets t u A + quartets t u B + quartets t u C + quartets t u D + quartets t u E
-    all = sym (fours-count (tips t)) ∙ c .all
-
-    e : tableE t u ≡ quartets t u E
-    e = unfold formulaE in omega (arith, a, b, f, g, all)
+formulas-of : (t u : Table) → ClaimCounts t u → FormulasOf t u
+formulas-of t u c = formulas-count (record {
+  first = c .first;
+  second = c .second;
+  same = c .same;
+  different = c .different;
+  all = c .all;
+})
 
 -- ---- the zero rule over tables
 
@@ -138,8 +124,8 @@ quartet-theorem t u g h e = record {
     c : ClaimCounts t u
     c = claim-counts t u g h e
 
-    f : FormulasCount t u
-    f = formulas-count t u c
+    f : FormulasOf t u
+    f = formulas-of t u c
 
     most : fours (tips t) ≤ 174792640
     most = omega (arith, fours-mono (tips t) 256 (g .tips-range .1), fours-of-256)
