@@ -4,7 +4,8 @@ use mathlib.Core.Path.{_≡_, refl, sym, _∙_, ap, ap₂}
 use mathlib.Core.Bool.{_&&_}
 use mathlib.Core.List.{List, [], _∷_, _++_}
 use Prim.Native.Nat.{ℕ, zero, suc, _+_, _*_, _-_, _/_, _%_, _≤_, _<_}
-use native.Mathlib.Nat.{add-comm, mul-add-div-right, div-eq-of-lt, mod-eq-of-lt, add-mul-mod-self-right, div-lt-iff-lt-mul}
+use native.Mathlib.Nat.{add-comm, mul-add-div-right, div-eq-of-lt}
+use native.Mathlib.Nat.{mod-eq-of-lt, add-mul-mod-self-right, div-lt-iff-lt-mul}
 use native.Mathlib.Omega.{arith}
 use lib.ListN.{length, drop, length-drop, length-append, List·getD-append}
 use lib.Seq.{ext-getD, getD-drop, getD-append-add}

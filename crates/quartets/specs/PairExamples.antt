@@ -24,7 +24,8 @@ unfolding
     isChild children misplaced sum bit some every tips nodes parents labels parent label
 edges-of-a-pair = refl
 
--- P's edges have {1 2 3 4}, {1}, {2 3 4}, {2}, {3 4}, {3} and {4} beyond them, Q's {1 2 3 4}, {1}, {2 3 4}, {2}, {3}, {4}
+-- P's edges have {1 2 3 4}, {1}, {2 3 4}, {2}, {3 4}, {3}, {4} beyond them, Q's {1 2 3 4}, {1}, {2 3 4}, {2}, {3},
+-- {4}
 pub crossings-of-P-and-Q :
     inOrder (cellsNeeded P Q) (cellOf P Q)
     ≡ 4 ∷ 1 ∷ 3 ∷ 1 ∷ 1 ∷ 1

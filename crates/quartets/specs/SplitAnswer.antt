@@ -148,7 +148,13 @@ module _ (t u : Table) (work : List ℕ) (h : IsPair t u (length work)) (n m k :
           tips = omega (arith, n-is);
         };
         some = omega (arith, m-is);
-        few = omega (arith, row-splits-most n (m - 1) (k - 1) (crossed t u work), column-splits-most n (k - 1) (crossed t u work), m-is, k-is);
+        few = omega (
+          arith,
+          row-splits-most n (m - 1) (k - 1) (crossed t u work),
+          column-splits-most n (k - 1) (crossed t u work),
+          m-is,
+          k-is,
+        );
         fits = rw (first-is, second-is, common-is) (robinson-foulds-fits t u (h .first) (h .second) (h .same-tips));
       }
 

@@ -7,7 +7,8 @@ use native.Mathlib.Omega.{arith}
 use lib.ListN.{length}
 use Rattle.quartets.specs.PairOrder.{IsPair}
 use Rattle.quartets.specs.LentTables.{pair-accepted, crossings-accepted, crossings-refused}
-use Rattle.quartets.specs.SplitAnswer.{SplitCells, counted, split-refused, first-words, split-cells, split-accepted}
+use Rattle.quartets.specs.SplitAnswer.{SplitCells, counted, first-words}
+use Rattle.quartets.specs.SplitAnswer.{split-refused, split-cells, split-accepted}
 use borrow.Author.Needs.{needs}
 use Rattle.quartets.proofs.counts.split_counts.Statement.{statement}
 use Rattle.quartets.proofs.counts.split_counts.Tie as tie
@@ -37,26 +38,35 @@ fill-requires c κs =
     pair-accepted _ _ _ _ (c .before .before .pair-refusal .ensures) (omega (arith, c .before .if1 .left))
 
 shared-slice-read-wide : tie.Need-shared-slice-read-wide
-shared-slice-read-wide c = omega (arith, first-words _ (accepted (c .before .before .before .before) .pair .first))
+shared-slice-read-wide c =
+    let f = c .before .before .before .before in
+    omega (arith, first-words _ (accepted f .pair .first))
 
 wide-requires : tie.Need-wide-requires
 wide-requires c κs = search needs
 
 sub-count-splits : tie.Need-sub-count-splits
-sub-count-splits c = omega (arith, c .wide .ensures .0, first-words _ (accepted (c .before .before .before .before .before) .pair .first))
+sub-count-splits c =
+    let f = c .before .before .before .before .before in
+    omega (arith, c .wide .ensures .0, first-words _ (accepted f .pair .first))
 
 shared-slice-read-wide-2 : tie.Need-shared-slice-read-wide-2
-shared-slice-read-wide-2 c = omega (arith, first-words _ (accepted (c .before .before .before .before .before .before) .pair .second))
+shared-slice-read-wide-2 c =
+    let f = c .before .before .before .before .before .before in
+    omega (arith, first-words _ (accepted f .pair .second))
 
 wide-requires-2 : tie.Need-wide-requires-2
 wide-requires-2 c κs = search needs
 
 sub-count-splits-2 : tie.Need-sub-count-splits-2
 sub-count-splits-2 c =
-    omega (arith, c .wide2 .ensures .0, first-words _ (accepted (c .before .before .before .before .before .before .before) .pair .second))
+    let f = c .before .before .before .before .before .before .before in
+    omega (arith, c .wide2 .ensures .0, first-words _ (accepted f .pair .second))
 
 shared-slice-read-wide-3 : tie.Need-shared-slice-read-wide-3
-shared-slice-read-wide-3 c = omega (arith, first-words _ (accepted (c .before .before .before .before .before .before .before .before) .pair .first))
+shared-slice-read-wide-3 c =
+    let f = c .before .before .before .before .before .before .before .before in
+    omega (arith, first-words _ (accepted f .pair .first))
 
 wide-requires-3 : tie.Need-wide-requires-3
 wide-requires-3 c κs = search needs
@@ -66,7 +76,8 @@ count-splits-requires c κs =
     let b = c .before .before in
     let a = b .before .before in
     let f = a .before .before .before .before .before in
-    subst (λ (cells : List ℕ). SplitCells cells (a .wide .result - 1) (b .wide2 .result - 1) (c .wide3 .result)) (sym (f .fill .ensures))
+    subst (λ (cells : List ℕ). SplitCells cells (a .wide .result - 1) (b .wide2 .result - 1) (c .wide3 .result))
+    (sym (f .fill .ensures))
     (split-cells _ _ _ (accepted f .pair) _ _ _ (c .wide3 .ensures .0) (a .wide .ensures .0) (b .wide2 .ensures .0))
 
 same-length : tie.Need-same-length
@@ -81,7 +92,8 @@ returns-2 c =
     let p = accepted f in
     let e = f .before .before .before .pair-refusal .ensures in (
       c .count-splits .ensures
-          ∙ ap (λ (cells : List ℕ). counted cells (a .wide .result - 1) (b .wide2 .result - 1) (w .wide3 .result)) (f .fill .ensures)
+          ∙ ap (λ (cells : List ℕ). counted cells (a .wide .result - 1) (b .wide2 .result - 1) (w .wide3 .result))
+          (f .fill .ensures)
           ∙ split-accepted _ _ _ (p .pair) _ _ _ (w .wide3 .ensures .0) (a .wide .ensures .0) (b .wide2 .ensures .0)
           (sym e ∙ p .zero),
       crossings-accepted _ _ _ _ _ e (p .zero) (f .fill .ensures),
