@@ -13,7 +13,7 @@ import pathlib
 import random
 import sys
 
-from tree_cases import OUTSIDE, P, Q, R, THREE, TWO, W, X, damaged, random_table, star, tree_refusal
+from tree_cases import OUTSIDE, P, Q, R, THREE, TWO, W, X, damaged, random_table, star, store, tree_refusal
 
 HERE = pathlib.Path(__file__).resolve().parent.parent / "crates" / "pair_examples"
 
@@ -192,18 +192,7 @@ def main():
     cases = list(all_cases())
     numbers = {int(words[1]) for _, words in cases if words[0] != "bad"}
     assert numbers == {0, *range(1, 10), *range(101, 108)}, numbers
-    stdin = "".join(" ".join(map(str, line)) + "\n" for line, _ in cases)
-    stdout = "".join(" ".join(map(str, words)) + "\n" for _, words in cases)
-    assert len(stdin) < 65000, len(stdin)
-    files = {"stdin": stdin, "stdout": stdout}
-    if sys.argv[1:] == ["--check"]:
-        stale = [name for name, text in files.items() if (HERE / name).read_text() != text]
-        print(f"{len(cases)} cases; not as worked out: {' '.join(stale) or 'none'}")
-        return 1 if stale else 0
-    for name, text in files.items():
-        (HERE / name).write_text(text)
-    print(f"{len(cases)} cases, {len(stdin)} bytes in, {len(stdout)} bytes out")
-    return 0
+    return store(HERE, cases)
 
 
 if __name__ == "__main__":

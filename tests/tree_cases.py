@@ -335,21 +335,25 @@ def all_cases():
     yield from (walked(balanced(256), 5), topology(star(256), 255, 254, 253, 252))
 
 
-def main():
-    sys.setrecursionlimit(10000)
-    cases = list(all_cases())
+def store(folder, cases):
+    """Writes the cases and their answers as stdin and stdout; with --check, tells whether they stand there."""
     stdin = "".join(" ".join(map(str, numbers)) + "\n" for numbers, _ in cases)
     stdout = "".join(" ".join(map(str, words)) + "\n" for _, words in cases)
     assert len(stdin) <= 65536, len(stdin)
     files = {"stdin": stdin, "stdout": stdout}
     if sys.argv[1:] == ["--check"]:
-        stale = [name for name, text in files.items() if (HERE / name).read_text() != text]
+        stale = [name for name, text in files.items() if (folder / name).read_text() != text]
         print(f"{len(cases)} cases; not as worked out: {' '.join(stale) or 'none'}")
         return 1 if stale else 0
     for name, text in files.items():
-        (HERE / name).write_text(text)
+        (folder / name).write_text(text)
     print(f"{len(cases)} cases, {len(stdin)} bytes in, {len(stdout)} bytes out")
     return 0
+
+
+def main():
+    sys.setrecursionlimit(10000)
+    return store(HERE, list(all_cases()))
 
 
 if __name__ == "__main__":

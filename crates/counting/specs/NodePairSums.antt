@@ -68,24 +68,25 @@ module _ (t u : Table) (a : CodesInto t) (b : CodesInto u) where
   abbrev pub cells : ℕ → ℕ → ℕ → ℕ → ℕ
   cells v v' i i' = crossing t u (a .code v i) (b .code v' i')
 
-  abbrev pub termS2 : ℕ → ℕ → ℕ
-  termS2 v v' = pairS2 (a .degree v) (b .degree v') (cells v v')
+  -- what the nodes v and v' add to twice S2, and to S3
+  abbrev pub pairTermS2 : ℕ → ℕ → ℕ
+  pairTermS2 v v' = pairS2 (a .degree v) (b .degree v') (cells v v')
 
-  abbrev pub termS3 : ℕ → ℕ → ℕ
-  termS3 v v' = pairS3 (a .degree v) (b .degree v') (cells v v')
+  abbrev pub pairTermS3 : ℕ → ℕ → ℕ
+  pairTermS3 v v' = pairS3 (a .degree v) (b .degree v') (cells v v')
 
   module _ (g : IsTree t) (h : IsTree u) where
     over-all : (f : ℕ → ℕ → ℕ)
         → sum (suc (nodes t - 1)) (λ v. sum (suc (nodes u - 1)) (f v)) ≡ sum (nodes t) (λ v. sum (nodes u) (f v))
     over-all f = rw (all-nodes t g, all-nodes u h)
 
-    pub S2-over-node-pairs : 2 * S2 t u ≡ sum (nodes t) (λ v. sum (nodes u) (termS2 v))
+    pub S2-over-node-pairs : 2 * S2 t u ≡ sum (nodes t) (λ v. sum (nodes u) (pairTermS2 v))
     unfolding S2 codes as-listed
-    S2-over-node-pairs = S2-by-node-pairs (as-listed t g a) (as-listed u h b) (crossing t u) ∙ over-all termS2
+    S2-over-node-pairs = S2-by-node-pairs (as-listed t g a) (as-listed u h b) (crossing t u) ∙ over-all pairTermS2
 
-    pub S3-over-node-pairs : S3 t u ≡ sum (nodes t) (λ v. sum (nodes u) (termS3 v))
+    pub S3-over-node-pairs : S3 t u ≡ sum (nodes t) (λ v. sum (nodes u) (pairTermS3 v))
     unfolding S3 codes as-listed
-    S3-over-node-pairs = S3-by-node-pairs (as-listed t g a) (as-listed u h b) (crossing t u) ∙ over-all termS3
+    S3-over-node-pairs = S3-by-node-pairs (as-listed t g a) (as-listed u h b) (crossing t u) ∙ over-all pairTermS3
 
     -- ---- bounds on the way
 
@@ -104,14 +105,14 @@ module _ (t u : Table) (a : CodesInto t) (b : CodesInto u) where
 
     -- the first i rows and j terms of the next
     pub S2-part : (i j : ℕ) → i < nodes t → j ≤ nodes u
-        → sum i (λ v. sum (nodes u) (termS2 v)) + sum j (termS2 i) ≤ 2 * S2 t u
+        → sum i (λ v. sum (nodes u) (pairTermS2 v)) + sum j (pairTermS2 i) ≤ 2 * S2 t u
     S2-part i j li lj =
-        omega (arith, S2-over-node-pairs, rows-part i (nodes t) j (nodes u) termS2 li lj)
+        omega (arith, S2-over-node-pairs, rows-part i (nodes t) j (nodes u) pairTermS2 li lj)
 
     pub S3-part : (i j : ℕ) → i < nodes t → j ≤ nodes u
-        → sum i (λ v. sum (nodes u) (termS3 v)) + sum j (termS3 i) ≤ S3 t u
+        → sum i (λ v. sum (nodes u) (pairTermS3 v)) + sum j (pairTermS3 i) ≤ S3 t u
     S3-part i j li lj =
-        omega (arith, S3-over-node-pairs, rows-part i (nodes t) j (nodes u) termS3 li lj)
+        omega (arith, S3-over-node-pairs, rows-part i (nodes t) j (nodes u) pairTermS3 li lj)
 
 pub S-part : (t : Table) (a : CodesInto t) → IsTree t → (i : ℕ) → i ≤ nodes t → sum i (nodeTerm t a) ≤ 2 * S t
 S-part t a g i l = omega (arith, S-over-nodes t a g, sum-part i (nodes t) (nodeTerm t a) l)

@@ -65,7 +65,7 @@ unfolding columnSplits
 column-splits-most n w work = count-le w _
 
 -- what the counts ask of the cells
-pub record SplitCells (work : List ℕ) (rows width n : ℕ) : Type 0 where
+pub record SplitsCountable (work : List ℕ) (rows width n : ℕ) : Type 0 where
   pub room : SplitRoom (length work) rows width n
   pub some : 1 ≤ rows
   pub few : rowSplits n rows width work + columnSplits n width work ≤ 65535
@@ -133,7 +133,7 @@ module _ (t u : Table) (work : List ℕ) (h : IsPair t u (length work)) (n m k :
     h .room,
   )
 
-  pub split-cells : SplitCells (crossed t u work) (m - 1) (k - 1) n
+  pub split-cells : SplitsCountable (crossed t u work) (m - 1) (k - 1) n
   split-cells =
       let few = h .first .tips-range in
       let rows = h .first .nodes-range in

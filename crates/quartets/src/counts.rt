@@ -8,7 +8,7 @@ use super::words::wide;
 ghost use mathlib.Core.Path.{_≡_};
 ghost use lib.ListN.{length};
 ghost use Rattle.quartets.specs.Crossings.{afterCrossings};
-ghost use Rattle.quartets.specs.SplitAnswer.{SplitCells, counted, splitAnswer};
+ghost use Rattle.quartets.specs.SplitAnswer.{SplitsCountable, counted, splitAnswer};
 
 // The number; the first tree's splits, the second's, those of both; and the Robinson-Foulds distance.
 pub struct SplitCounts {
@@ -21,7 +21,7 @@ pub struct SplitCounts {
 
 // The splits of rows and columns, counted in the cells.
 fn count_splits(work: &[u16], rows: usize, width: usize, n: usize) -> SplitCounts
-    requires { ⌜ SplitCells (now work) rows width n ⌝ }
+    requires { ⌜ SplitsCountable (now work) rows width n ⌝ }
     ensures { λ r. ⌜ r ≡ counted (now (work .entry)) rows width n ⌝ }
 {
     let first = row_splits(work, rows, width, n);

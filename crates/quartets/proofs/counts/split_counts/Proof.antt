@@ -7,7 +7,7 @@ use native.Mathlib.Omega.{arith}
 use lib.ListN.{length}
 use Rattle.quartets.specs.PairOrder.{IsPair}
 use Rattle.quartets.specs.LentTables.{pair-accepted, crossings-accepted, crossings-refused}
-use Rattle.quartets.specs.SplitAnswer.{SplitCells, counted, first-words}
+use Rattle.quartets.specs.SplitAnswer.{SplitsCountable, counted, first-words}
 use Rattle.quartets.specs.SplitAnswer.{split-refused, split-cells, split-accepted}
 use borrow.Author.Needs.{needs}
 use Rattle.quartets.proofs.counts.split_counts.Statement.{statement}
@@ -76,7 +76,7 @@ count-splits-requires c κs =
     let b = c .before .before in
     let a = b .before .before in
     let f = a .before .before .before .before .before in
-    subst (λ (cells : List ℕ). SplitCells cells (a .wide .result - 1) (b .wide2 .result - 1) (c .wide3 .result))
+    subst (λ (cells : List ℕ). SplitsCountable cells (a .wide .result - 1) (b .wide2 .result - 1) (c .wide3 .result))
     (sym (f .fill .ensures))
     (split-cells _ _ _ (accepted f .pair) _ _ _ (c .wide3 .ensures .0) (a .wide .ensures .0) (b .wide2 .ensures .0))
 
