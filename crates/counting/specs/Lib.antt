@@ -10,3 +10,4 @@ pub mod CountingTheorem
 pub mod TreeSplits
 pub mod QuartetTheorem
 pub mod NodePairSums
+pub mod Degrees

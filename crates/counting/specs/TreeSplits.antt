@@ -25,7 +25,7 @@ module _ (t : Table) (g : IsTree t) where
       anc-down (parent t) (rooted t g) i j (c .other) (rw (c .below) (anc-self (parent t) (rooted t g) i))
 
   -- some label lies beyond v: its own, or one beyond a child; k bounds the steps down
-  labelled : (k v : ℕ) → v < nodes t → nodes t ≤ v + k → (x : ℕ) × (x < tips t) × (bit (beyond t v x) ≡ 1)
+  pub labelled : (k v : ℕ) → v < nodes t → nodes t ≤ v + k → (x : ℕ) × (x < tips t) × (bit (beyond t v x) ≡ 1)
   unfolding beyond
   labelled zero v lv f = absurd (omega arith)
   labelled (suc k) v lv f = elim (g .labels-range v lv) [

@@ -9,3 +9,4 @@ pub mod PairsOff
 pub mod Hooks
 pub mod ClosedForms
 pub mod ThreeByThree
+pub mod CellsAlike

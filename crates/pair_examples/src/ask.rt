@@ -34,14 +34,14 @@ fn bad_case() {
 fn crossings_into(cells: &mut [u16], first: &[u16], second: &[u16]) {
     fill(cells);
     print::name(b"crossings");
-    print::number(quartets::crossings(first, second, cells));
+    print::number(tree_pairs::crossings(first, second, cells));
     print::numbers(cells);
     print::end();
 }
 
 fn splits_into(cells: &mut [u16], first: &[u16], second: &[u16]) {
     fill(cells);
-    let counts = quartets::split_counts(first, second, cells);
+    let counts = tree_pairs::split_counts(first, second, cells);
     print::name(b"splits");
     print::number(counts.refusal);
     print::number(counts.first);

@@ -1,16 +1,1 @@
-pub mod PairOrder
-pub mod Crossings
-pub mod PairExamples
-pub mod CrossingTotals
-pub mod Grid
-pub mod Cleared
-pub mod NodeCells
-pub mod RowTotals
-pub mod TipRows
-pub mod Rows
-pub mod RowsUp
-pub mod Filling
-pub mod LentTables
-pub mod SplitCells
-pub mod SplitLoops
-pub mod SplitAnswer
+pub mod FoursTable

@@ -1,0 +1,3 @@
+pub mod CodeCells
+pub mod NodeBlock
+pub mod DirectedCells

@@ -1,0 +1,81 @@
+-- Two tables filled through their arrays, as code lends them.
+-- Assumes nothing.
+use mathlib.Core.Path.{_≡_, sym, _∙_, ap₂, subst}
+use mathlib.Core.Logic.{_≢_}
+use mathlib.Core.List.{List}
+use Prim.Native.Nat.{ℕ, _+_, _*_, _-_}
+use native.Mathlib.Omega.{arith}
+use lib.ListN.{length, take, drop}
+use Rattle.trees.specs.Table.{Table, word, tips, nodes, parents, labels, rest, tableOf, to-parts, of-parts}
+use Rattle.trees.specs.Table.{parents-length, table-of-parts}
+use Rattle.trees.specs.Refusals.{refusal, if-accepted, if-refused}
+use Rattle.trees.specs.Arrays.{TreeArrays, tree-arrays}
+use Rattle.tree_pairs.specs.PairOrder.{IsPair, pairOrder, pair-check}
+use Rattle.tree_pairs.specs.Crossings.{crossed, afterCrossings}
+use Rattle.tree_pairs.specs.Filling.{PairArrays}
+
+-- the parents `&t[2..2 + m]`
+abbrev lentParents : Table → ℕ → List ℕ
+lentParents t m = take (2 + m - 2) (drop 2 t)
+
+-- the labels `&t[2 + m..]`
+abbrev lentLabels : Table → ℕ → List ℕ
+lentLabels t m = rest (2 + m) t
+
+module _ (t u : Table) (work : List ℕ) (h : IsPair t u (length work)) (n m k : ℕ)
+    (en : n ≡ word t 0) (em : m ≡ word t 1) (ek : k ≡ word u 1) where
+  n-is : n ≡ tips t
+  unfolding tips
+  n-is = en
+
+  m-is : m ≡ nodes t
+  unfolding nodes
+  m-is = em
+
+  k-is : k ≡ nodes u
+  unfolding nodes
+  k-is = ek
+
+  pub lent-lengths : (length t ≡ 2 + 2 * m) × (length u ≡ 2 + 2 * k)
+  lent-lengths = (omega (arith, h .first .words, m-is), omega (arith, h .second .words, k-is))
+
+  own-arrays : PairArrays (tips u) (parents t) (labels t) (parents u) (labels u) work
+  own-arrays = record {
+    first = subst (λ (x : ℕ). TreeArrays x (parents t) (labels t)) (h .same-tips) (tree-arrays t (h .first));
+    second = tree-arrays u (h .second);
+    room = rw (parents-length t (h .first .words), parents-length u (h .second .words)) (h .room);
+  }
+
+  pub lent-arrays : PairArrays n (lentParents t m) (lentLabels t m) (lentParents u k) (lentLabels u k) work
+  lent-arrays =
+      to-parts (λ x ps ls. PairArrays x ps ls (lentParents u k) (lentLabels u k) work)
+      t n m (h .first .words) n-is m-is
+      (to-parts (λ x qs ms. PairArrays x (parents t) (labels t) qs ms work)
+      u (tips t) k (h .second .words) (h .same-tips) k-is own-arrays)
+
+  pub lent-crossed : (new : List ℕ)
+      → new ≡ crossed (tableOf n (lentParents t m) (lentLabels t m)) (tableOf n (lentParents u k) (lentLabels u k)) work
+      → new ≡ crossed t u work
+  lent-crossed new e =
+      of-parts (λ x qs ms. new ≡ crossed (tableOf (tips t) (parents t) (labels t)) (tableOf x qs ms) work)
+      u (tips t) k (h .second .words) (h .same-tips) k-is
+      (of-parts (λ x ps ls. new ≡ crossed (tableOf x ps ls) (tableOf x (lentParents u k) (lentLabels u k)) work)
+      t n m (h .first .words) n-is m-is e)
+      ∙ ap₂ (λ (x y : Table). crossed x y work)
+      (table-of-parts t (h .first .words)) (table-of-parts u (h .second .words))
+
+-- ---- the lent cells afterwards
+
+pub crossings-accepted : (t u : Table) (work new : List ℕ) (k : ℕ) → k ≡ refusal (pairOrder t u (length work))
+    → k ≡ 0 → new ≡ crossed t u work → new ≡ afterCrossings t u work
+unfolding afterCrossings
+crossings-accepted t u work new k e z h = h ∙ sym (if-accepted _ _ _ (sym e ∙ z))
+
+pub crossings-refused : (t u : Table) (work : List ℕ) (k : ℕ) → k ≡ refusal (pairOrder t u (length work))
+    → k ≢ 0 → work ≡ afterCrossings t u work
+unfolding afterCrossings
+crossings-refused t u work k e d = sym (if-refused _ _ _ (λ z. d (e ∙ z)))
+
+-- a pair whose number is 0
+pub pair-accepted : (t u : Table) (cells k : ℕ) → k ≡ refusal (pairOrder t u cells) → k ≡ 0 → IsPair t u cells
+pair-accepted t u cells k e z = pair-check t u cells .0 (sym e ∙ z)

@@ -1,0 +1,63 @@
+// The split counts of two trees.
+use super::crosses::fill;
+use super::pairs::pair_refusal;
+use super::splits::column_splits;
+use super::splits::common_rows;
+use super::splits::row_splits;
+use super::words::wide;
+ghost use mathlib.Core.Path.{_≡_};
+ghost use lib.ListN.{length};
+ghost use Rattle.tree_pairs.specs.Crossings.{afterCrossings};
+ghost use Rattle.tree_pairs.specs.SplitAnswer.{SplitsCountable, counted, splitAnswer};
+
+// The number; the first tree's splits, the second's, those of both; and the Robinson-Foulds distance.
+pub struct SplitCounts {
+    pub refusal: u16,
+    pub first: u16,
+    pub second: u16,
+    pub common: u16,
+    pub distance: u16,
+}
+
+// The splits of rows and columns, counted in the cells.
+fn count_splits(work: &[u16], rows: usize, width: usize, n: usize) -> SplitCounts
+    requires { ⌜ SplitsCountable (now work) rows width n ⌝ }
+    ensures { λ r. ⌜ r ≡ counted (now (work .entry)) rows width n ⌝ }
+{
+    let first = row_splits(work, rows, width, n);
+    let second = column_splits(work, rows, width, n);
+    let common = common_rows(work, rows, width, n);
+    SplitCounts {
+        refusal: 0,
+        first,
+        second,
+        common,
+        distance: first + second - 2 * common,
+    }
+}
+
+// The split counts, with the crossings in the cells afterwards. Tip edges are no splits.
+pub fn split_counts(first: &[u16], second: &[u16], work: &mut [u16]) -> SplitCounts
+    ensures { λ r. ⌜
+        (r ≡ splitAnswer (now (first .entry)) (now (second .entry)) (length (now (work .entry))))
+        × (now (work .exit) ≡ afterCrossings (now (first .entry)) (now (second .entry)) (now (work .entry)))
+        ⌝ }
+{
+    let number = pair_refusal(first, second, work.len());
+    if number != 0 {
+        return SplitCounts {
+            refusal: number,
+            first: 0,
+            second: 0,
+            common: 0,
+            distance: 0,
+        };
+    }
+    fill(first, second, work);
+    count_splits(
+        work,
+        wide(first[1]) - 1,
+        wide(second[1]) - 1,
+        wide(first[0]),
+    )
+}

@@ -1,0 +1,73 @@
+// The crossing counts of two trees.
+use super::marks::clear;
+use super::marks::nodes_of;
+use super::marks::tip_rows;
+use super::pairs::pair_refusal;
+use super::rows::add_rows;
+use super::words::wide;
+ghost use mathlib.Core.Path.{_≡_};
+ghost use lib.ListN.{length};
+ghost use Rattle.trees.specs.Table.{tableOf};
+ghost use Rattle.trees.specs.Refusals.{refusal};
+ghost use Rattle.tree_pairs.specs.PairOrder.{IsPair, pairOrder};
+ghost use Rattle.tree_pairs.specs.Crossings.{crossed, afterCrossings};
+ghost use Rattle.tree_pairs.specs.Filling.{PairArrays};
+
+// A tip's row is marked and added up the second tree, then each row is added to its parent's. `parents` and `labels`
+// are the first tree's, `others` and `marks` the second's.
+fn fill_arrays(
+    parents: &[u16],
+    labels: &[u16],
+    others: &[u16],
+    marks: &[u16],
+    n: usize,
+    work: &mut [u16],
+)
+    requires { ⌜ PairArrays n (now parents) (now labels) (now others) (now marks) (now work) ⌝ }
+    ensures { λ _. ⌜
+        now (work .exit)
+        ≡ crossed (tableOf n (now (parents .entry)) (now (labels .entry)))
+        (tableOf n (now (others .entry)) (now (marks .entry))) (now (work .entry))
+        ⌝ }
+{
+    let width = others.len() - 1;
+    clear(work, (parents.len() - 1) * width);
+    let nodes = nodes_of(marks);
+    tip_rows(labels, n, others, &nodes, work);
+    add_rows(parents, work, width);
+}
+
+// The crossings of two tables that were checked, into their cells.
+pub(crate) fn fill(first: &[u16], second: &[u16], work: &mut [u16])
+    requires { ⌜ IsPair (now first) (now second) (length (now work)) ⌝ }
+    ensures { λ _. ⌜
+        now (work .exit) ≡ crossed (now (first .entry)) (now (second .entry)) (now (work .entry))
+        ⌝ }
+{
+    let n = wide(first[0]);
+    let m = wide(first[1]);
+    let k = wide(second[1]);
+    fill_arrays(
+        &first[2..2 + m],
+        &first[2 + m..],
+        &second[2..2 + k],
+        &second[2 + k..],
+        n,
+        work,
+    );
+}
+
+// How many labels lie beyond both edge i of the first tree and edge j of the second, in cell
+// (i - 1)(m' - 1) + (j - 1). The two trees may be one slice.
+pub fn crossings(first: &[u16], second: &[u16], work: &mut [u16]) -> u16
+    ensures { λ r. ⌜
+        (r ≡ refusal (pairOrder (now (first .entry)) (now (second .entry)) (length (now (work .entry)))))
+        × (now (work .exit) ≡ afterCrossings (now (first .entry)) (now (second .entry)) (now (work .entry)))
+        ⌝ }
+{
+    let number = pair_refusal(first, second, work.len());
+    if number == 0 {
+        fill(first, second, work);
+    }
+    number
+}
