@@ -18,6 +18,7 @@ use Rattle.tree_pairs.specs.PairOrder.{IsPair, cellsNeeded}
 use Rattle.tree_pairs.specs.Crossings.{edgeCrossing, crossed, inOrder, cellOf, in-order-length, cell-of-edges}
 use Rattle.tree_pairs.specs.SplitCells.{row-cell, column-cell}
 use Rattle.claims.specs.CodeCells.{childCell, ownCell, codeCell, Crossed}
+use Rattle.claims.specs.CodeSizes.{codeSize}
 
 -- ---- tests
 
@@ -72,8 +73,9 @@ module _ (t : Table) where
 -- ---- two tables
 
 module _ (t u : Table) where
-  other-size : ℕ → ℕ
-  other-size k = count (tips t) (beyond u (suc k))
+  -- the tips beyond edge k of the second tree, counted in the first
+  abbrev otherSize : ℕ → ℕ
+  otherSize k = count (tips t) (beyond u (suc k))
 
   both-rising : (j k : ℕ) → crossing t u (2 * j) (2 * k) ≡ edgeCrossing t u (suc j) (suc k)
   unfolding crossing edgeCrossing
@@ -91,8 +93,8 @@ module _ (t u : Table) where
       ∙ first-alone (beyond t (suc j) x) (beyond u (suc k) x))
 
   second-rising : (j k : ℕ)
-      → crossing t u (suc (2 * j)) (2 * k) + edgeCrossing t u (suc j) (suc k) ≡ other-size k
-  unfolding crossing edgeCrossing other-size
+      → crossing t u (suc (2 * j)) (2 * k) + edgeCrossing t u (suc j) (suc k) ≡ otherSize k
+  unfolding crossing edgeCrossing
   second-rising j k =
       sym (sum-add (tips t) _ _)
       ∙ sum-cong (tips t) (λ x.
@@ -101,9 +103,9 @@ module _ (t u : Table) where
       ∙ second-alone (beyond t (suc j) x) (beyond u (suc k) x))
 
   both-falling : (j k : ℕ)
-      → crossing t u (suc (2 * j)) (suc (2 * k)) + edgeSize t j + other-size k
+      → crossing t u (suc (2 * j)) (suc (2 * k)) + edgeSize t j + otherSize k
       ≡ tips t + edgeCrossing t u (suc j) (suc k)
-  unfolding crossing edgeCrossing other-size
+  unfolding crossing edgeCrossing
   both-falling j k = omega (
     arith,
     sum-add (tips t) (λ x. bit (behindEdge t (suc (2 * j)) x && behindEdge u (suc (2 * k)) x)) here,
@@ -145,8 +147,8 @@ module _ (t u : Table) (work : List ℕ) (p : IsPair t u (length work)) where
     unfolding cells w
     row-is = row-cell t u (p .first) (p .second) (p .same-tips) work j lj
 
-    column-is : word cells k ≡ other-size t u k
-    unfolding cells other-size
+    column-is : word cells k ≡ count (tips t) (beyond u (suc k))
+    unfolding cells
     column-is = column-cell t u (p .first) (p .second) (p .same-tips) work k lk
 
     at-both : word cells (j * w + k) ≡ crossing t u (2 * j) (2 * k)
@@ -181,6 +183,51 @@ module _ (t u : Table) (work : List ℕ) (p : IsPair t u (length work)) where
       at-both (c (suc i) / 2) (c' (suc j) / 2) (h .inside (suc i) l) (h' .inside (suc j) m)
       ∙ ap₂ (crossing t u) (sym (h .children (suc i) (omega arith) l)) (sym (h' .children (suc j) (omega arith) m))
 
+  -- ---- the sizes, by rows and by columns
+
+  -- the sizes of the first tree begin the rows, ..
+  pub first-size : (d : ℕ) (c : ℕ → ℕ) → NodeCodes (nodes t - 1) d c → (i : ℕ) → i < d
+      → codeSize (crossed t u work) (nodes u - 1) (tips t) (λ i. c i / 2) i ≡ size t (c i)
+  unfolding codeSize cells w
+  first-size d c h zero l =
+      let j = c 0 / 2 in
+      let some = p .second .tips-range in
+      let many = p .second .nodes-range in
+      omega (arith, row-is j 0 (h .inside 0 l) (omega arith), size-falling t j) ∙ ap (size t) (sym (h .own))
+  first-size d c h (suc i) l =
+      let j = c (suc i) / 2 in
+      let some = p .second .tips-range in
+      let many = p .second .nodes-range in
+      row-is j 0 (h .inside (suc i) l) (omega arith)
+      ∙ sym (size-rising t j)
+      ∙ ap (size t) (sym (h .children (suc i) (omega arith) l))
+
+  -- .. those of the second are the first row
+  column-size : (k : ℕ) → k < nodes u - 1 → word cells (k * 1) ≡ edgeSize u k
+  column-size k l =
+      let some = p .first .tips-range in
+      let many = p .first .nodes-range in
+      ap (word cells) (once k)
+      ∙ column-is 0 k (omega arith) l
+      ∙ ap (λ (n : ℕ). count n (beyond u (suc k))) (p .same-tips)
+    where
+      once : (k : ℕ) → k * 1 ≡ k
+      once k = omega arith
+
+  pub second-size : (d : ℕ) (c : ℕ → ℕ) → NodeCodes (nodes u - 1) d c → (i : ℕ) → i < d
+      → codeSize (crossed t u work) 1 (tips t) (λ i. c i / 2) i ≡ size u (c i)
+  unfolding codeSize cells
+  second-size d c h zero l =
+      let k = c 0 / 2 in
+      omega (arith, column-size k (h .inside 0 l), size-falling u k, p .same-tips) ∙ ap (size u) (sym (h .own))
+  second-size d c h (suc i) l =
+      let k = c (suc i) / 2 in
+      column-size k (h .inside (suc i) l)
+      ∙ sym (size-rising u k)
+      ∙ ap (size u) (sym (h .children (suc i) (omega arith) l))
+
+  -- ---- what the code asks of the cells
+
   long : length cells ≡ length work
   unfolding cells crossed
   long = omega (
@@ -191,9 +238,8 @@ module _ (t u : Table) (work : List ℕ) (p : IsPair t u (length work)) where
     p .room,
   )
 
-  -- what the code asks of the cells
   pub crossed-cells : Crossed (crossed t u work) (nodes t - 1) (nodes u - 1) (tips t)
-  unfolding cells w other-size
+  unfolding cells w
   crossed-cells =
       let few = p .first .tips-range in
       let rows = p .first .nodes-range in

@@ -1,0 +1,128 @@
+-- The invariant: `s` is the sum of the products before cell `a`, and `k` the place of cell `a`.
+-- Assumes nothing.
+use mathlib.Core.Path.{_≡_, refl, _∙_, ap}
+use Prim.Native.Nat.{ℕ, _+_, _*_, _-_, _≤_}
+use native.Mathlib.Omega.{arith}
+use Rattle.sums.specs.Sum.{sum}
+use Rattle.trees.specs.Table.{word}
+use Rattle.claims.specs.Lines.{lineCell, restCell, product-le, sum-step}
+use borrow.Author.Needs.{needs}
+use Rattle.claims.proofs.lines.line_rest.Statement.{statement}
+use Rattle.claims.proofs.lines.line_rest.Tie as tie
+
+abbrev Inv-loop : tie.InvT-loop
+Inv-loop cells at step len totals s₀ k₀ a₀ s k a =
+    (a ≤ len)
+    × (k ≡ at + a * step)
+    × (s ≡ sum a (restCell cells totals at step))
+    × (s ≤ a * 16777216)
+
+abbrev μ-loop : tie.MeasureT-loop
+μ-loop cells at step len totals s₀ k₀ a₀ s k a = len - a
+
+abbrev start : tie.After-big Inv-loop μ-loop → tie.Start Inv-loop μ-loop
+start c = c .before .before .before .before .before .before
+
+-- the cell that was read
+cell : (c : tie.After-big Inv-loop μ-loop) → c .big .result ≡ lineCell (start c .args .cells .now)
+    (start c .args .at) (start c .args .step) (c .before .before .before .loop .a)
+cell c =
+    c .big .ensures .0
+    ∙ ap (λ (k : ℕ). word (start c .args .cells .now) k) (c .before .before .before .loop .inv .1)
+
+term-le : (c : tie.After-big Inv-loop μ-loop)
+    → c .big .result * (word (start c .args .totals .now) (c .before .before .before .loop .a) - c .big .result)
+    ≤ 16777216
+term-le c =
+    let q = start c .pre .1 .low (c .before .before .before .loop .a) (c .before .before .loop-test .taken) in
+    product-le 65536 256 (c .big .result) _ (omega arith) (omega (arith, q))
+
+loop-holds : tie.Need-loop-holds Inv-loop μ-loop
+unfolding sum
+loop-holds c = (omega arith, omega arith, refl, omega arith)
+
+mul-big : tie.Need-mul-big Inv-loop μ-loop
+mul-big c =
+    let l = c .before .loop in
+    omega (arith, c .before .before .before .before .pre .0 .inside (l .a) (c .loop-test .taken))
+
+shared-slice-read-big : tie.Need-shared-slice-read-big Inv-loop μ-loop
+shared-slice-read-big c =
+    let l = c .before .before .loop in
+    omega (arith, c .before .before .before .before .before .pre .0 .inside (l .a) (c .before .loop-test .taken))
+
+big-requires : tie.Need-big-requires Inv-loop μ-loop
+big-requires c κs = search needs
+
+mul-s : tie.Need-mul-s Inv-loop μ-loop
+mul-s c = search needs
+
+shared-slice-read-s : tie.Need-shared-slice-read-s Inv-loop μ-loop
+shared-slice-read-s c = search needs
+
+sub-s : tie.Need-sub-s Inv-loop μ-loop
+sub-s c =
+    let l = c .before .before .before in
+    omega (arith, cell (c .before), start (c .before) .pre .1 .covers (l .before .loop .a) (l .loop-test .taken))
+
+mul-s-2 : tie.Need-mul-s-2 Inv-loop μ-loop
+mul-s-2 c = omega (arith, term-le (c .before))
+
+add-s : tie.Need-add-s Inv-loop μ-loop
+add-s c = omega (arith, term-le (c .before), start (c .before) .pre .1 .few)
+
+add-k : tie.Need-add-k Inv-loop μ-loop
+add-k c =
+    let l = c .before .before .before .before .loop in
+    let p = start (c .before) in
+    omega (
+      arith,
+      p .pre .0 .at-le,
+      p .pre .0 .step-le,
+      product-le 65536 65536 (l .a) (p .args .step) (omega (arith, p .pre .1 .few)) (omega (arith, p .pre .0 .step-le)),
+    )
+
+add-a : tie.Need-add-a Inv-loop μ-loop
+add-a c = search needs
+
+loop-less : tie.Need-loop-less Inv-loop μ-loop
+loop-less c = search needs
+
+loop-again : tie.Need-loop-again Inv-loop μ-loop
+loop-again c =
+    let l = c .before .before .before .before .loop in
+    let p = start (c .before) in
+    let f = restCell (p .args .cells .now) (p .args .totals .now) (p .args .at) (p .args .step) in
+    let e = ap (λ (x : ℕ). x * (word (p .args .totals .now) (l .a) - x)) (cell (c .before)) in (
+      omega arith,
+      omega arith,
+      sum-step (l .a) f _ _ (l .inv .2) e,
+      omega (arith, term-le (c .before)),
+    )
+
+returns : tie.Need-returns Inv-loop μ-loop
+returns c =
+    let l = c .before .loop in
+    let e : l .a ≡ c .before .before .before .before .args .len = omega arith in
+    rw e at (l .inv .2)
+
+pub line-rest-spec : {M : Type 1} → statement M
+line-rest-spec =
+    tie.close
+    (tie.spec
+    Inv-loop
+    μ-loop
+    loop-holds
+    mul-big
+    shared-slice-read-big
+    big-requires
+    mul-s
+    shared-slice-read-s
+    sub-s
+    mul-s-2
+    add-s
+    add-k
+    add-a
+    loop-less
+    loop-again
+    returns)

@@ -1,0 +1,245 @@
+-- The invariant: the pairs with the second tree's nodes before `v` are summed.
+-- Assumes nothing.
+use Prim.Native.Nat.{_+_, _-_, _≤_}
+use mathlib.Core.Path.{_≡_, refl, sym, _∙_}
+use native.Mathlib.Omega.{arith}
+use lib.ListN.{length}
+use Rattle.claims.specs.Block.{Scratch}
+use Rattle.claims.specs.CodeLists.{part-inside}
+use Rattle.claims.specs.PairLoops.{Summed, summed-none, summed-next, summed-most, summed-all}
+use Rattle.claims.specs.PairLoops.{rowS2, rowS3, few-row, row-room, row-S2, row-S3}
+use Rattle.claims.proofs.pair_sums.node_row.Statement.{statement}
+use Rattle.claims.proofs.pair_sums.node_row.Tie as tie
+
+abbrev Inv-loop : tie.InvT-loop
+Inv-loop work width n rows parents starts edges block₀ sums₀ totals₀ down₀ along₀ dots₀ s2₀ s3₀ v₀
+    block sums totals down along dots s2 s3 v =
+    (v ≤ length parents)
+    × Summed (rowS2 work width n rows parents) (rowS3 work width n rows parents) v s2 s3
+    × (length block ≡ length block₀)
+    × (length sums ≡ length sums₀)
+    × (length totals ≡ length totals₀)
+    × (length down ≡ length down₀)
+    × (length along ≡ length along₀)
+    × (length dots ≡ length dots₀)
+
+abbrev μ-loop : tie.MeasureT-loop
+μ-loop work width n rows parents starts edges block₀ sums₀ totals₀ down₀ along₀ dots₀ s2₀ s3₀ v₀
+    block sums totals down along dots s2 s3 v = length parents - v
+
+returns : tie.Need-returns Inv-loop μ-loop
+returns c =
+    let s = c .before .before .before .before .before .before .before .before .before .before .before .before in
+    let a = s .args in
+    let q = few-row (a .work .now) (a .width) (a .n) (a .rows .now) (a .parents .now) (c .if1 .taken) in
+    (sym (q .0), sym (q .1))
+
+loop-holds : tie.Need-loop-holds Inv-loop μ-loop
+loop-holds c =
+    (omega arith, summed-none _ _, refl, refl, refl, refl, refl, refl)
+
+mul-from : tie.Need-mul-from Inv-loop μ-loop
+mul-from c =
+    let l = c in
+    let m = l .before .before in
+    let s = m .before .before .before .before .before .before .before .before .before .before .before .before in
+    let h = s .pre .0 .row (omega (arith, m .if1 .left)) in
+    omega (arith, h .lists .parents .few, l .loop-test .taken, h .lists .begins .long)
+
+shared-slice-read-from : tie.Need-shared-slice-read-from Inv-loop μ-loop
+shared-slice-read-from c =
+    let l = c .before in
+    let m = l .before .before in
+    let s = m .before .before .before .before .before .before .before .before .before .before .before .before in
+    let h = s .pre .0 .row (omega (arith, m .if1 .left)) in
+    omega (arith, h .lists .parents .few, l .loop-test .taken, h .lists .begins .long)
+
+add-to : tie.Need-add-to Inv-loop μ-loop
+add-to c =
+    let l = c .before in
+    let m = l .before .before in
+    let s = m .before .before .before .before .before .before .before .before .before .before .before .before in
+    let h = s .pre .0 .row (omega (arith, m .if1 .left)) in
+    omega (arith, h .lists .parents .few, l .loop-test .taken, h .lists .begins .long)
+
+mul-to : tie.Need-mul-to Inv-loop μ-loop
+mul-to c =
+    let l = c .before in
+    let m = l .before .before in
+    let s = m .before .before .before .before .before .before .before .before .before .before .before .before in
+    let h = s .pre .0 .row (omega (arith, m .if1 .left)) in
+    omega (arith, h .lists .parents .few, l .loop-test .taken, h .lists .begins .long)
+
+shared-slice-read-to : tie.Need-shared-slice-read-to Inv-loop μ-loop
+shared-slice-read-to c =
+    let l = c .before .before in
+    let m = l .before .before in
+    let s = m .before .before .before .before .before .before .before .before .before .before .before .before in
+    let h = s .pre .0 .row (omega (arith, m .if1 .left)) in
+    omega (arith, h .lists .parents .few, l .loop-test .taken, h .lists .begins .long)
+
+mul-node-pair : tie.Need-mul-node-pair Inv-loop μ-loop
+mul-node-pair c =
+    let l = c .before .before in
+    let m = l .before .before in
+    let s = m .before .before .before .before .before .before .before .before .before .before .before .before in
+    let h = s .pre .0 .row (omega (arith, m .if1 .left)) in
+    omega (arith, part-inside _ _ _ (h .lists) _ (l .loop-test .taken))
+
+sub-node-pair : tie.Need-sub-node-pair Inv-loop μ-loop
+sub-node-pair c =
+    let l = c .before .before in
+    let m = l .before .before in
+    let s = m .before .before .before .before .before .before .before .before .before .before .before .before in
+    let h = s .pre .0 .row (omega (arith, m .if1 .left)) in
+    part-inside _ _ _ (h .lists) _ (l .loop-test .taken) .0
+
+part-node-pair-start : tie.Need-part-node-pair-start Inv-loop μ-loop
+part-node-pair-start c =
+    let l = c .before .before in
+    let m = l .before .before in
+    let s = m .before .before .before .before .before .before .before .before .before .before .before .before in
+    let h = s .pre .0 .row (omega (arith, m .if1 .left)) in
+    part-inside _ _ _ (h .lists) _ (l .loop-test .taken) .0
+
+part-node-pair-end : tie.Need-part-node-pair-end Inv-loop μ-loop
+part-node-pair-end c =
+    let l = c .before .before in
+    let m = l .before .before in
+    let s = m .before .before .before .before .before .before .before .before .before .before .before .before in
+    let h = s .pre .0 .row (omega (arith, m .if1 .left)) in
+    part-inside _ _ _ (h .lists) _ (l .loop-test .taken) .1
+
+node-pair-requires : tie.Need-node-pair-requires Inv-loop μ-loop
+node-pair-requires c κs =
+    let l = c .before .before .before .before .before .before .before .before .before in
+    let m = l .before .before in
+    let s = m .before .before .before .before .before .before .before .before .before .before .before .before in
+    let h = s .pre .0 .row (omega (arith, m .if1 .left)) in
+    let i = l .before .loop .inv in
+    (rw (i .2) (row-room _ _ _ _ _ _ _ _ h _ (l .loop-test .taken)),
+    record {
+      sums-long = omega (arith, i .3, s .pre .1 .sums-long);
+      totals-long = omega (arith, i .4, s .pre .1 .totals-long);
+      down-long = omega (arith, i .5, s .pre .1 .down-long);
+      along-long = omega (arith, i .6, s .pre .1 .along-long);
+      dots-long = omega (arith, i .7, s .pre .1 .dots-long);
+    })
+
+add-s2 : tie.Need-add-s2 Inv-loop μ-loop
+add-s2 c =
+    let p = c .before .before .before .before .before .before .before .before .before .before .before .before .before in
+    let l = p .before .before .before .before .before .before .before .before .before .before in
+    let m = l .before .before in
+    let s = m .before .before .before .before .before .before .before .before .before .before .before .before in
+    let h = s .pre .0 .row (omega (arith, m .if1 .left)) in
+    let q = summed-next _ _ _ _ _ (l .before .loop .inv .1) _ _
+        (row-S2 _ _ _ _ _ _ _ _ h _ (l .loop-test .taken) _ (p .node-pair .ensures .0))
+        (row-S3 _ _ _ _ _ _ _ _ h _ (l .loop-test .taken) _ (p .node-pair .ensures .1)) in
+    omega (arith, summed-most _ _ _ _ _ q _ 699170560 (omega (arith, l .loop-test .taken)) (h .all-S2) (h .all-S3))
+
+add-s3 : tie.Need-add-s3 Inv-loop μ-loop
+add-s3 c =
+    let p = c .before .before .before .before .before .before .before .before .before .before .before .before .before .before in
+    let l = p .before .before .before .before .before .before .before .before .before .before in
+    let m = l .before .before in
+    let s = m .before .before .before .before .before .before .before .before .before .before .before .before in
+    let h = s .pre .0 .row (omega (arith, m .if1 .left)) in
+    let q = summed-next _ _ _ _ _ (l .before .loop .inv .1) _ _
+        (row-S2 _ _ _ _ _ _ _ _ h _ (l .loop-test .taken) _ (p .node-pair .ensures .0))
+        (row-S3 _ _ _ _ _ _ _ _ h _ (l .loop-test .taken) _ (p .node-pair .ensures .1)) in
+    omega (arith, summed-most _ _ _ _ _ q _ 699170560 (omega (arith, l .loop-test .taken)) (h .all-S2) (h .all-S3))
+
+add-v : tie.Need-add-v Inv-loop μ-loop
+add-v c =
+    let p = c .before .before .before .before .before .before .before .before .before .before .before .before .before .before in
+    let l = p .before .before .before .before .before .before .before .before .before .before in
+    let m = l .before .before in
+    let s = m .before .before .before .before .before .before .before .before .before .before .before .before in
+    let h = s .pre .0 .row (omega (arith, m .if1 .left)) in
+    omega (arith, h .lists .parents .few, l .loop-test .taken)
+
+loop-less : tie.Need-loop-less Inv-loop μ-loop
+loop-less c =
+    let p = c .before .before .before .before .before .before .before .before .before .before .before .before .before .before in
+    let l = p .before .before .before .before .before .before .before .before .before .before in
+    let m = l .before .before in
+    let s = m .before .before .before .before .before .before .before .before .before .before .before .before in
+    let h = s .pre .0 .row (omega (arith, m .if1 .left)) in
+    omega (arith, l .loop-test .taken)
+
+loop-again : tie.Need-loop-again Inv-loop μ-loop
+loop-again c =
+    let p = c .before .before .before .before .before .before .before .before .before .before .before .before .before .before in
+    let l = p .before .before .before .before .before .before .before .before .before .before in
+    let m = l .before .before in
+    let s = m .before .before .before .before .before .before .before .before .before .before .before .before in
+    let h = s .pre .0 .row (omega (arith, m .if1 .left)) in
+    let i = l .before .loop .inv in
+    let q = summed-next _ _ _ _ _ (l .before .loop .inv .1) _ _
+        (row-S2 _ _ _ _ _ _ _ _ h _ (l .loop-test .taken) _ (p .node-pair .ensures .0))
+        (row-S3 _ _ _ _ _ _ _ _ h _ (l .loop-test .taken) _ (p .node-pair .ensures .1)) in
+    (
+      omega (arith, l .loop-test .taken),
+      q,
+      p .node-pair .kept .1 .1 .1 .1 .1 .0 ∙ i .2,
+      p .node-pair .kept .1 .1 .1 .1 .1 .1 .0 ∙ i .3,
+      p .node-pair .kept .1 .1 .1 .1 .1 .1 .1 .0 ∙ i .4,
+      p .node-pair .kept .1 .1 .1 .1 .1 .1 .1 .1 .0 ∙ i .5,
+      p .node-pair .kept .1 .1 .1 .1 .1 .1 .1 .1 .1 .0 ∙ i .6,
+      p .node-pair .kept .1 .1 .1 .1 .1 .1 .1 .1 .1 .1 .0 ∙ i .7,
+    )
+
+same-length : tie.Need-same-length Inv-loop μ-loop
+same-length c = c .before .loop .inv .2
+
+same-length-2 : tie.Need-same-length-2 Inv-loop μ-loop
+same-length-2 c = c .before .loop .inv .3
+
+same-length-3 : tie.Need-same-length-3 Inv-loop μ-loop
+same-length-3 c = c .before .loop .inv .4
+
+same-length-4 : tie.Need-same-length-4 Inv-loop μ-loop
+same-length-4 c = c .before .loop .inv .5
+
+same-length-5 : tie.Need-same-length-5 Inv-loop μ-loop
+same-length-5 c = c .before .loop .inv .6
+
+same-length-6 : tie.Need-same-length-6 Inv-loop μ-loop
+same-length-6 c = c .before .loop .inv .7
+
+returns-2 : tie.Need-returns-2 Inv-loop μ-loop
+returns-2 c =
+    let i = c .before .loop .inv in
+    summed-all _ _ _ _ _ (i .1) _ (i .0) (omega (arith, c .loop-test .left))
+
+pub node-row-spec : {M : Type 1} → statement M
+node-row-spec =
+    tie.close
+    (tie.spec
+    Inv-loop
+    μ-loop
+    returns
+    loop-holds
+    mul-from
+    shared-slice-read-from
+    add-to
+    mul-to
+    shared-slice-read-to
+    mul-node-pair
+    sub-node-pair
+    part-node-pair-start
+    part-node-pair-end
+    node-pair-requires
+    add-s2
+    add-s3
+    add-v
+    loop-less
+    loop-again
+    same-length
+    same-length-2
+    same-length-3
+    same-length-4
+    same-length-5
+    same-length-6
+    returns-2)

@@ -1,0 +1,242 @@
+-- The invariant: the pairs with the first tree's nodes before `v` are summed.
+-- Assumes nothing.
+use Prim.Native.Nat.{ℕ, _+_, _-_, _≤_}
+use mathlib.Core.Path.{_≡_, refl, sym, _∙_}
+use native.Mathlib.Omega.{arith}
+use lib.ListN.{length, length-replicate}
+use Rattle.claims.specs.CodeLists.{part-inside}
+use Rattle.claims.specs.PairLoops.{Summed, summed-none, summed-next, summed-most, summed-all}
+use Rattle.claims.specs.PairLoops.{nodeS2, nodeS3, node-room, node-S2, node-S3}
+use Rattle.claims.proofs.pair_sums.pair_sums.Statement.{statement}
+use Rattle.claims.proofs.pair_sums.pair_sums.Tie as tie
+
+abbrev Inv-loop : tie.InvT-loop
+Inv-loop work n parents starts edges others begins columns width block₀ sums₀ totals₀ down₀ along₀ dots₀ s2₀ s3₀ v₀
+    block sums totals down along dots s2 s3 v =
+    (v ≤ length parents)
+    × Summed (nodeS2 work (length others - 1) n parents others) (nodeS3 work (length others - 1) n parents others)
+    v s2 s3
+    × (length block ≡ 65536)
+    × (length sums ≡ 256)
+    × (length totals ≡ 256)
+    × (length down ≡ 256)
+    × (length along ≡ 256)
+    × (length dots ≡ 256)
+
+abbrev μ-loop : tie.MeasureT-loop
+μ-loop work n parents starts edges others begins columns width block₀ sums₀ totals₀ down₀ along₀ dots₀ s2₀ s3₀ v₀
+    block sums totals down along dots s2 s3 v = length parents - v
+
+sub-width : tie.Need-sub-width Inv-loop μ-loop
+sub-width c =
+    let s = c .before .before .before .before .before .before .before in omega (arith, s .pre .second .parents .some)
+
+loop-holds : tie.Need-loop-holds Inv-loop μ-loop
+loop-holds c =
+    (omega arith, summed-none _ _, length-replicate {A = ℕ} 65536 0, refl, refl, refl, refl, refl)
+
+mul-from : tie.Need-mul-from Inv-loop μ-loop
+mul-from c =
+    let l = c in
+    let m = l .before .before in
+    let s = m .before .before .before .before .before .before .before in
+    let h = s .pre in
+    omega (arith, h .first .parents .few, l .loop-test .taken, h .first .begins .long)
+
+shared-slice-read-from : tie.Need-shared-slice-read-from Inv-loop μ-loop
+shared-slice-read-from c =
+    let l = c .before in
+    let m = l .before .before in
+    let s = m .before .before .before .before .before .before .before in
+    let h = s .pre in
+    omega (arith, h .first .parents .few, l .loop-test .taken, h .first .begins .long)
+
+add-to : tie.Need-add-to Inv-loop μ-loop
+add-to c =
+    let l = c .before in
+    let m = l .before .before in
+    let s = m .before .before .before .before .before .before .before in
+    let h = s .pre in
+    omega (arith, h .first .parents .few, l .loop-test .taken, h .first .begins .long)
+
+mul-to : tie.Need-mul-to Inv-loop μ-loop
+mul-to c =
+    let l = c .before in
+    let m = l .before .before in
+    let s = m .before .before .before .before .before .before .before in
+    let h = s .pre in
+    omega (arith, h .first .parents .few, l .loop-test .taken, h .first .begins .long)
+
+shared-slice-read-to : tie.Need-shared-slice-read-to Inv-loop μ-loop
+shared-slice-read-to c =
+    let l = c .before .before in
+    let m = l .before .before in
+    let s = m .before .before .before .before .before .before .before in
+    let h = s .pre in
+    omega (arith, h .first .parents .few, l .loop-test .taken, h .first .begins .long)
+
+mul-node-row : tie.Need-mul-node-row Inv-loop μ-loop
+mul-node-row c =
+    let l = c .before .before in
+    let m = l .before .before in
+    let s = m .before .before .before .before .before .before .before in
+    let h = s .pre in
+    omega (arith, part-inside _ _ _ (h .first) _ (l .loop-test .taken))
+
+sub-node-row : tie.Need-sub-node-row Inv-loop μ-loop
+sub-node-row c =
+    let l = c .before .before in
+    let m = l .before .before in
+    let s = m .before .before .before .before .before .before .before in
+    let h = s .pre in
+    part-inside _ _ _ (h .first) _ (l .loop-test .taken) .0
+
+part-node-row-start : tie.Need-part-node-row-start Inv-loop μ-loop
+part-node-row-start c =
+    let l = c .before .before in
+    let m = l .before .before in
+    let s = m .before .before .before .before .before .before .before in
+    let h = s .pre in
+    part-inside _ _ _ (h .first) _ (l .loop-test .taken) .0
+
+part-node-row-end : tie.Need-part-node-row-end Inv-loop μ-loop
+part-node-row-end c =
+    let l = c .before .before in
+    let m = l .before .before in
+    let s = m .before .before .before .before .before .before .before in
+    let h = s .pre in
+    part-inside _ _ _ (h .first) _ (l .loop-test .taken) .1
+
+slice-aggregate-node-row : tie.Need-slice-aggregate-node-row Inv-loop μ-loop
+slice-aggregate-node-row c = let l = c .before .before .before .before in sym (l .before .loop .inv .2)
+
+slice-aggregate-node-row-2 : tie.Need-slice-aggregate-node-row-2 Inv-loop μ-loop
+slice-aggregate-node-row-2 c = let l = c .before .before .before .before .before in sym (l .before .loop .inv .3)
+
+slice-aggregate-node-row-3 : tie.Need-slice-aggregate-node-row-3 Inv-loop μ-loop
+slice-aggregate-node-row-3 c = let l = c .before .before .before .before .before .before in sym (l .before .loop .inv .4)
+
+slice-aggregate-node-row-4 : tie.Need-slice-aggregate-node-row-4 Inv-loop μ-loop
+slice-aggregate-node-row-4 c = let l = c .before .before .before .before .before .before .before in sym (l .before .loop .inv .5)
+
+slice-aggregate-node-row-5 : tie.Need-slice-aggregate-node-row-5 Inv-loop μ-loop
+slice-aggregate-node-row-5 c = let l = c .before .before .before .before .before .before .before .before in sym (l .before .loop .inv .6)
+
+slice-aggregate-node-row-6 : tie.Need-slice-aggregate-node-row-6 Inv-loop μ-loop
+slice-aggregate-node-row-6 c = let l = c .before .before .before .before .before .before .before .before .before in sym (l .before .loop .inv .7)
+
+node-row-requires : tie.Need-node-row-requires Inv-loop μ-loop
+node-row-requires c κs =
+    let l = c .before .before .before .before .before .before .before .before .before in
+    let m = l .before .before in
+    let s = m .before .before .before .before .before .before .before in
+    let h = s .pre in
+    let i = l .before .loop .inv in
+    (node-room _ _ _ _ _ _ _ _ _ h _ (l .loop-test .taken) _ (omega (arith, i .2)),
+    record {
+      sums-long = omega (arith, i .3);
+      totals-long = omega (arith, i .4);
+      down-long = omega (arith, i .5);
+      along-long = omega (arith, i .6);
+      dots-long = omega (arith, i .7);
+    })
+
+add-s2 : tie.Need-add-s2 Inv-loop μ-loop
+add-s2 c =
+    let p = c .before .before .before .before .before .before .before in
+    let l = p .before .before .before .before .before .before .before .before .before .before in
+    let m = l .before .before in
+    let s = m .before .before .before .before .before .before .before in
+    let h = s .pre in
+    let q = summed-next _ _ _ _ _ (l .before .loop .inv .1) _ _
+        (node-S2 _ _ _ _ _ _ _ _ _ h _ (l .loop-test .taken) _ (p .node-row .ensures .0))
+        (node-S3 _ _ _ _ _ _ _ _ _ h _ (l .loop-test .taken) _ (p .node-row .ensures .1)) in
+    omega (arith, summed-most _ _ _ _ _ q _ 699170560 (omega (arith, l .loop-test .taken)) (h .all-S2) (h .all-S3))
+
+add-s3 : tie.Need-add-s3 Inv-loop μ-loop
+add-s3 c =
+    let p = c .before .before .before .before .before .before .before .before in
+    let l = p .before .before .before .before .before .before .before .before .before .before in
+    let m = l .before .before in
+    let s = m .before .before .before .before .before .before .before in
+    let h = s .pre in
+    let q = summed-next _ _ _ _ _ (l .before .loop .inv .1) _ _
+        (node-S2 _ _ _ _ _ _ _ _ _ h _ (l .loop-test .taken) _ (p .node-row .ensures .0))
+        (node-S3 _ _ _ _ _ _ _ _ _ h _ (l .loop-test .taken) _ (p .node-row .ensures .1)) in
+    omega (arith, summed-most _ _ _ _ _ q _ 699170560 (omega (arith, l .loop-test .taken)) (h .all-S2) (h .all-S3))
+
+add-v : tie.Need-add-v Inv-loop μ-loop
+add-v c =
+    let p = c .before .before .before .before .before .before .before .before in
+    let l = p .before .before .before .before .before .before .before .before .before .before in
+    let m = l .before .before in
+    let s = m .before .before .before .before .before .before .before in
+    let h = s .pre in
+    omega (arith, h .first .parents .few, l .loop-test .taken)
+
+loop-less : tie.Need-loop-less Inv-loop μ-loop
+loop-less c =
+    let p = c .before .before .before .before .before .before .before .before in
+    let l = p .before .before .before .before .before .before .before .before .before .before in
+    let m = l .before .before in
+    let s = m .before .before .before .before .before .before .before in
+    let h = s .pre in
+    omega (arith, l .loop-test .taken)
+
+loop-again : tie.Need-loop-again Inv-loop μ-loop
+loop-again c =
+    let p = c .before .before .before .before .before .before .before .before in
+    let l = p .before .before .before .before .before .before .before .before .before .before in
+    let m = l .before .before in
+    let s = m .before .before .before .before .before .before .before in
+    let h = s .pre in
+    let i = l .before .loop .inv in
+    let q = summed-next _ _ _ _ _ (l .before .loop .inv .1) _ _
+        (node-S2 _ _ _ _ _ _ _ _ _ h _ (l .loop-test .taken) _ (p .node-row .ensures .0))
+        (node-S3 _ _ _ _ _ _ _ _ _ h _ (l .loop-test .taken) _ (p .node-row .ensures .1)) in
+    (
+      omega (arith, l .loop-test .taken),
+      q,
+      p .node-row .kept .1 .1 .1 .1 .1 .1 .1 .0 ∙ i .2,
+      p .node-row .kept .1 .1 .1 .1 .1 .1 .1 .1 .0 ∙ i .3,
+      p .node-row .kept .1 .1 .1 .1 .1 .1 .1 .1 .1 .0 ∙ i .4,
+      p .node-row .kept .1 .1 .1 .1 .1 .1 .1 .1 .1 .1 .0 ∙ i .5,
+      p .node-row .kept .1 .1 .1 .1 .1 .1 .1 .1 .1 .1 .1 .0 ∙ i .6,
+      p .node-row .kept .1 .1 .1 .1 .1 .1 .1 .1 .1 .1 .1 .1 .0 ∙ i .7,
+    )
+
+returns : tie.Need-returns Inv-loop μ-loop
+returns c =
+    let i = c .before .loop .inv in
+    summed-all _ _ _ _ _ (i .1) _ (i .0) (omega (arith, c .loop-test .left))
+
+pub pair-sums-spec : {M : Type 1} → statement M
+pair-sums-spec =
+    tie.close
+    (tie.spec
+    Inv-loop
+    μ-loop
+    sub-width
+    loop-holds
+    mul-from
+    shared-slice-read-from
+    add-to
+    mul-to
+    shared-slice-read-to
+    mul-node-row
+    sub-node-row
+    part-node-row-start
+    part-node-row-end
+    slice-aggregate-node-row
+    slice-aggregate-node-row-2
+    slice-aggregate-node-row-3
+    slice-aggregate-node-row-4
+    slice-aggregate-node-row-5
+    slice-aggregate-node-row-6
+    node-row-requires
+    add-s2
+    add-s3
+    add-v
+    loop-less
+    loop-again
+    returns)

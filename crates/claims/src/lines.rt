@@ -1,0 +1,135 @@
+// Sums along rows and columns of a block: a line of cells is told by its start, its step and its length.
+use super::words::big;
+ghost use mathlib.Core.Path.{_≡_};
+ghost use Prim.Native.Nat.{_≤_};
+ghost use lib.ListN.{length};
+ghost use Rattle.sums.specs.Sum.{sum};
+ghost use Rattle.trees.specs.Table.{word};
+ghost use Rattle.claims.specs.Filled.{filled};
+ghost use Rattle.claims.specs.Lines.{Line, Lines, Totals, AllTotals, Low};
+ghost use Rattle.claims.specs.Lines.{lineCell, restCell, lineSum, lineRest, squared};
+
+// The sum of a line.
+pub(crate) fn line_sum(cells: &[u16], at: usize, step: usize, len: usize) -> u64
+    requires { ⌜ Line (length (now cells)) at step len ⌝ }
+    ensures { λ r. ⌜ r ≡ sum len (lineCell (now (cells .entry)) at step) ⌝ }
+{
+    let mut s: u64 = 0;
+    let mut k = at;
+    let mut a = 0;
+    while a < len {
+        s += big(cells[k]);
+        k += step;
+        a += 1;
+    }
+    s
+}
+
+// The squares of a line.
+pub(crate) fn line_squares(cells: &[u16], at: usize, step: usize, len: usize) -> u64
+    requires { ⌜ Line (length (now cells)) at step len ⌝ }
+    ensures { λ r. ⌜ r ≡ sum len (squared (lineCell (now (cells .entry)) at step)) ⌝ }
+{
+    let mut s: u64 = 0;
+    let mut k = at;
+    let mut a = 0;
+    while a < len {
+        let t = big(cells[k]);
+        s += t * t;
+        k += step;
+        a += 1;
+    }
+    s
+}
+
+// Each cell of a line times the rest of its total.
+fn line_rest(cells: &[u16], at: usize, step: usize, len: usize, totals: &[u64]) -> u64
+    requires { ⌜ Line (length (now cells)) at step len ⌝ }
+    requires { ⌜ Totals (now cells) (now totals) at step len ⌝ }
+    ensures { λ r. ⌜ r ≡ sum len (restCell (now (cells .entry)) (now (totals .entry)) at step) ⌝ }
+{
+    let mut s: u64 = 0;
+    let mut k = at;
+    let mut a = 0;
+    while a < len {
+        let t = big(cells[k]);
+        s += t * (totals[a] - t);
+        k += step;
+        a += 1;
+    }
+    s
+}
+
+// The sum of the first numbers.
+pub(crate) fn total(xs: &[u64], len: usize) -> u64
+    requires { ⌜ Low (now xs) len ⌝ }
+    ensures { λ r. ⌜ r ≡ sum len (word (now (xs .entry))) ⌝ }
+{
+    let mut s: u64 = 0;
+    let mut i = 0;
+    while i < len {
+        s += xs[i];
+        i += 1;
+    }
+    s
+}
+
+// The squares of the first numbers.
+pub(crate) fn total_squares(xs: &[u64], len: usize) -> u64
+    requires { ⌜ Low (now xs) len ⌝ }
+    ensures { λ r. ⌜ r ≡ sum len (squared (word (now (xs .entry)))) ⌝ }
+{
+    let mut s: u64 = 0;
+    let mut i = 0;
+    while i < len {
+        s += xs[i] * xs[i];
+        i += 1;
+    }
+    s
+}
+
+// The sums of lines that begin `gap` apart.
+pub(crate) fn line_sums(
+    cells: &[u16],
+    gap: usize,
+    count: usize,
+    step: usize,
+    len: usize,
+    out: &mut [u64],
+)
+    requires { ⌜ Lines (length (now cells)) gap count step len × (count ≤ length (now out)) ⌝ }
+    ensures { λ _. ⌜ now (out .exit)
+        ≡ filled (lineSum (now (cells .entry)) gap step len) count (now (out .entry)) ⌝ }
+{
+    let mut i = 0;
+    let mut at = 0;
+    while i < count {
+        out[i] = line_sum(cells, at, step, len);
+        at += gap;
+        i += 1;
+    }
+}
+
+// The cells of such lines, each times the rest of its total.
+pub(crate) fn line_rests(
+    cells: &[u16],
+    gap: usize,
+    count: usize,
+    step: usize,
+    len: usize,
+    totals: &[u64],
+    out: &mut [u64],
+)
+    requires { ⌜ Lines (length (now cells)) gap count step len × (count ≤ length (now out)) ⌝ }
+    requires { ⌜ AllTotals (now cells) (now totals) gap count step len ⌝ }
+    ensures { λ _. ⌜ now (out .exit)
+        ≡ filled (lineRest (now (cells .entry)) (now (totals .entry)) gap step len) count (now (out .entry)) ⌝ }
+{
+    let mut i = 0;
+    let mut at = 0;
+    while i < count {
+        out[i] = line_rest(cells, at, step, len, totals);
+        at += gap;
+        i += 1;
+    }
+}

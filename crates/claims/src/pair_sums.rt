@@ -1,0 +1,119 @@
+// What all pairs of nodes add to twice S2 and to S3.
+use super::node_pair::node_pair;
+use super::terms::PairTerms;
+ghost use mathlib.Core.Path.{_≡_};
+ghost use Prim.Native.Nat.{_-_};
+ghost use lib.ListN.{length};
+ghost use Rattle.sums.specs.Sum.{sum};
+ghost use Rattle.claims.specs.Block.{Scratch};
+ghost use Rattle.claims.specs.PairLoops.{RowRoom, NodePairs, rowS2, rowS3, nodeS2, nodeS3};
+
+// A node of the first tree, given by its edges, with every node of the second. Fewer than three codes make no
+// claim.
+fn node_row(
+    work: &[u16],
+    width: usize,
+    n: u16,
+    rows: &[usize],
+    parents: &[u16],
+    starts: &[usize],
+    edges: &[usize],
+    block: &mut [u16],
+    sums: &mut [u64],
+    totals: &mut [u64],
+    down: &mut [u64],
+    along: &mut [u64],
+    dots: &mut [u64],
+) -> PairTerms
+    requires { ⌜ RowRoom (now work) width n (now rows) (now parents) (now starts) (now edges) (length (now block)) ⌝ }
+    requires { ⌜ Scratch (now sums) (now totals) (now down) (now along) (now dots) ⌝ }
+    ensures { λ r. ⌜
+        (r .s2 ≡ sum (length (now (parents .entry)))
+        (rowS2 (now (work .entry)) width n (now (rows .entry)) (now (parents .entry))))
+        × (r .s3 ≡ sum (length (now (parents .entry)))
+        (rowS3 (now (work .entry)) width n (now (rows .entry)) (now (parents .entry))))
+        ⌝ }
+{
+    if rows.len() < 3 {
+        return PairTerms { s2: 0, s3: 0 };
+    }
+    let mut s2: u64 = 0;
+    let mut s3: u64 = 0;
+    let mut v = 0;
+    while v < parents.len() {
+        let from = starts[v];
+        let to = starts[v + 1];
+        let pair = node_pair(
+            work,
+            width,
+            n,
+            rows,
+            &edges[from..to],
+            block,
+            sums,
+            totals,
+            down,
+            along,
+            dots,
+        );
+        s2 += pair.s2;
+        s3 += pair.s3;
+        v += 1;
+    }
+    PairTerms { s2, s3 }
+}
+
+// Every node of the first tree with every node of the second.
+pub(crate) fn pair_sums(
+    work: &[u16],
+    n: u16,
+    parents: &[u16],
+    starts: &[usize],
+    edges: &[usize],
+    others: &[u16],
+    begins: &[usize],
+    columns: &[usize],
+) -> PairTerms
+    requires { ⌜ NodePairs (now work) (length (now others) - 1) n (now parents) (now starts) (now edges)
+        (now others) (now begins) (now columns) ⌝ }
+    ensures { λ r. ⌜
+        (r .s2 ≡ sum (length (now (parents .entry)))
+        (nodeS2 (now (work .entry)) (length (now (others .entry)) - 1) n (now (parents .entry)) (now (others .entry))))
+        × (r .s3 ≡ sum (length (now (parents .entry)))
+        (nodeS3 (now (work .entry)) (length (now (others .entry)) - 1) n (now (parents .entry)) (now (others .entry))))
+        ⌝ }
+{
+    let width = others.len() - 1;
+    let mut block = [0u16; 65536];
+    let mut sums = [0u64; 256];
+    let mut totals = [0u64; 256];
+    let mut down = [0u64; 256];
+    let mut along = [0u64; 256];
+    let mut dots = [0u64; 256];
+    let mut s2: u64 = 0;
+    let mut s3: u64 = 0;
+    let mut v = 0;
+    while v < parents.len() {
+        let from = starts[v];
+        let to = starts[v + 1];
+        let row = node_row(
+            work,
+            width,
+            n,
+            &edges[from..to],
+            others,
+            begins,
+            columns,
+            &mut block,
+            &mut sums,
+            &mut totals,
+            &mut down,
+            &mut along,
+            &mut dots,
+        );
+        s2 += row.s2;
+        s3 += row.s3;
+        v += 1;
+    }
+    PairTerms { s2, s3 }
+}
