@@ -69,12 +69,23 @@ pub record Crossed (work : List ℕ) (rows w n : ℕ) : Type 0 where
   pub tips-few : n ≤ 256
   pub in-row : (r c : ℕ) → r < rows → c < w → word work (r * w + c) ≤ word work (r * w)
   pub in-column : (r c : ℕ) → r < rows → c < w → word work (r * w + c) ≤ word work c
-  pub row-most : (r : ℕ) → r < rows → word work (r * w) ≤ 256
-  pub column-most : (c : ℕ) → c < w → word work c ≤ 256
+  pub row-most : (r : ℕ) → r < rows → word work (r * w) ≤ n
+  pub column-most : (c : ℕ) → c < w → word work c ≤ n
   pub neither : (r c : ℕ) → r < rows → c < w → word work (r * w) + word work c ≤ n + word work (r * w + c)
 
 small-product : (x y : ℕ) → x ≤ 512 → y ≤ 512 → x * y ≤ 512 * 512
 small-product x y l m = mul-le-mul l m
+
+-- the first cell of row r
+pub row-start : (work : List ℕ) (rows w n : ℕ) → Crossed work rows w n → (r : ℕ) → r < rows → 1 ≤ w
+    → (r * w < length work) × (r * w ≤ 262144)
+row-start work rows w n h r lr some = (
+  omega (arith, ends, h .inside),
+  omega (arith, small-product r w (omega (arith, h .rows-few)) (h .narrow)),
+)
+  where
+    ends : (r + 1) * w ≤ rows * w
+    ends = mul-le-mul-right w (omega arith)
 
 pub cell-room : (work : List ℕ) (rows w n : ℕ) → Crossed work rows w n → (r c : ℕ) → r < rows → c < w
     → CellRoom work (r * w) c
@@ -84,8 +95,8 @@ cell-room work rows w n h r c lr lc = record {
   narrow = omega (arith, h .narrow);
   in-row = h .in-row r c lr lc;
   in-column = h .in-column r c lr lc;
-  row-most = h .row-most r lr;
-  column-most = h .column-most c lc;
+  row-most = omega (arith, h .row-most r lr, h .tips-few);
+  column-most = omega (arith, h .column-most c lc, h .tips-few);
 }
   where
     ends : (r + 1) * w ≤ rows * w

@@ -22,3 +22,5 @@ pub mod BlockTerms
 pub mod NineCells
 pub mod NinePair
 pub mod PairLoops
+pub mod SumsOf
+pub mod LentSums

@@ -98,10 +98,10 @@ module _ (sizes : List ℕ) (count : ℕ) (h : SizesFew sizes count) (i : ℕ) (
       → x ≤ 4294967296 → p ≤ 32768 → SizeTerms sizes count (i + 1) (plus + x) (pairs + p)
   next-term plus pairs whole s p x q e es ep ex lx lp = record {
     plus-is =
-      ap₂ (λ (a b : ℕ). a + b) (q .plus-is) (ex ∙ ap₂ sizeTerm es (ap (λ (z : ℕ). whole - z) es ∙ rest-is whole e))
-      ∙ sym (sum-next i (λ k. sizeTerm (word sizes k) (others count (word sizes) k)));
+        ap₂ (λ (a b : ℕ). a + b) (q .plus-is) (ex ∙ ap₂ sizeTerm es (ap (λ (z : ℕ). whole - z) es ∙ rest-is whole e))
+        ∙ sym (sum-next i (λ k. sizeTerm (word sizes k) (others count (word sizes) k)));
     pairs-is =
-      ap₂ (λ (a b : ℕ). a + b) (q .pairs-is) (ep ∙ ap choose2 es) ∙ sym (sum-next i (λ k. choose2 (word sizes k)));
+        ap₂ (λ (a b : ℕ). a + b) (q .pairs-is) (ep ∙ ap choose2 es) ∙ sym (sum-next i (λ k. choose2 (word sizes k)));
     plus-most = omega (arith, q .plus-most);
     pairs-few = omega (arith, q .pairs-few);
   }

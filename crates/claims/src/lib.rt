@@ -14,3 +14,7 @@ mod fills; // fills.rt: the block of the cells of two nodes
 mod nine; // nine.rt: two nodes with three codes into each
 mod node_pair; // node_pair.rt: what two nodes add, from the crossings of edges
 mod pair_sums; // pair_sums.rt: what all pairs of nodes add
+mod totals; // totals.rt: the claim sums of two trees
+
+pub use totals::ClaimSums;
+pub use totals::claim_sums;

@@ -1,1 +1,2 @@
 pub mod FoursTable
+pub mod QuartetAnswer

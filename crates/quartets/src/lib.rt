@@ -1,2 +1,12 @@
-// The quartet table of two tree tables.
+// Two tree tables: crossings, claim sums, the quartet table and split counts. Every public function takes any words in
+// slices of any length, and answers in full or refuses with one number.
 mod fours; // fours.rt: the number of sets of four
+mod tables; // tables.rt: the quartet table of two trees
+
+pub use claims::ClaimSums;
+pub use claims::claim_sums;
+pub use tables::QuartetTable;
+pub use tables::quartet_table;
+pub use tree_pairs::SplitCounts;
+pub use tree_pairs::crossings;
+pub use tree_pairs::split_counts;

@@ -27,7 +27,7 @@ returns-2 c =
     let three = c .before .before .if2 .taken in
     let three' = c .before .if3 .taken in
     let cells = codeCell (s .args .work .now) (s .args .width) (s .args .n) (word (s .args .rows .now))
-        (word (s .args .columns .now)) in (
+    (word (s .args .columns .now)) in (
       c .nine-cells .ensures .0 ∙ ap₂ (λ (d d' : ℕ). pairS2 d d' cells) (sym three) (sym three'),
       c .nine-cells .ensures .1 ∙ ap₂ (λ (d d' : ℕ). pairS3 d d' cells) (sym three) (sym three'),
     )
@@ -45,9 +45,11 @@ block-terms-requires c κs =
     let f = a .before .before .before in
     let o = f .before .before .before in
     let s = o .before .before .before .before .before .before .before .before .before .before in
-    let p = s .pre .0 .pair (omega (arith, o .if1 .left)) in
-    (filled-block _ _ _ _ _ _ p _ (f .fill-block .ensures)
-    (omega (arith, f .fill-block .kept .1 .1 .1 .1 .1 .0)), s .pre .1)
+    let p = s .pre .0 .pair (omega (arith, o .if1 .left)) in (
+      filled-block _ _ _ _ _ _ p _ (f .fill-block .ensures)
+          (omega (arith, f .fill-block .kept .1 .1 .1 .1 .1 .0)),
+      s .pre .1,
+    )
 
 same-length : tie.Need-same-length
 same-length c = search needs

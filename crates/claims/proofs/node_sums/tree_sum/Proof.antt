@@ -89,8 +89,11 @@ add-total c =
     let n = c .before .before in
     let l = n .before .before .before .before .before in
     let s = l .before .before .before .before .before .before .before in
-    omega (arith, next-node _ _ _ _ _ _ _ (s .pre) _ (l .loop-test .taken) _ _
-    (l .before .loop .inv .2) (n .node-sum .ensures) .1)
+    omega (
+      arith,
+      next-node _ _ _ _ _ _ _ (s .pre) _ (l .loop-test .taken) _ _
+          (l .before .loop .inv .2) (n .node-sum .ensures) .1,
+    )
 
 add-v : tie.Need-add-v Inv-loop μ-loop
 add-v c =
@@ -110,7 +113,7 @@ loop-again : tie.Need-loop-again Inv-loop μ-loop
 loop-again c =
     let n = c .before .before in
     let l = n .before .before .before .before .before in
-    let s = l .before .before .before .before .before .before .before in    let q = next-node _ _ _ _ _ _ _ (s .pre) _ (l .loop-test .taken) _ _
+    let s = l .before .before .before .before .before .before .before in let q = next-node _ _ _ _ _ _ _ (s .pre) _ (l .loop-test .taken) _ _
     (l .before .loop .inv .2) (n .node-sum .ensures) in (
       omega (arith, l .loop-test .taken),
       n .node-sum .kept .1 .1 .1 .1 .0 ∙ l .before .loop .inv .1,

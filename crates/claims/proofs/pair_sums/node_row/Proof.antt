@@ -116,15 +116,16 @@ node-pair-requires c κs =
     let m = l .before .before in
     let s = m .before .before .before .before .before .before .before .before .before .before .before .before in
     let h = s .pre .0 .row (omega (arith, m .if1 .left)) in
-    let i = l .before .loop .inv in
-    (rw (i .2) (row-room _ _ _ _ _ _ _ _ h _ (l .loop-test .taken)),
-    record {
-      sums-long = omega (arith, i .3, s .pre .1 .sums-long);
-      totals-long = omega (arith, i .4, s .pre .1 .totals-long);
-      down-long = omega (arith, i .5, s .pre .1 .down-long);
-      along-long = omega (arith, i .6, s .pre .1 .along-long);
-      dots-long = omega (arith, i .7, s .pre .1 .dots-long);
-    })
+    let i = l .before .loop .inv in (
+      rw (i .2) (row-room _ _ _ _ _ _ _ _ h _ (l .loop-test .taken)),
+      record {
+        sums-long = omega (arith, i .3, s .pre .1 .sums-long);
+        totals-long = omega (arith, i .4, s .pre .1 .totals-long);
+        down-long = omega (arith, i .5, s .pre .1 .down-long);
+        along-long = omega (arith, i .6, s .pre .1 .along-long);
+        dots-long = omega (arith, i .7, s .pre .1 .dots-long);
+      },
+    )
 
 add-s2 : tie.Need-add-s2 Inv-loop μ-loop
 add-s2 c =
@@ -134,8 +135,8 @@ add-s2 c =
     let s = m .before .before .before .before .before .before .before .before .before .before .before .before in
     let h = s .pre .0 .row (omega (arith, m .if1 .left)) in
     let q = summed-next _ _ _ _ _ (l .before .loop .inv .1) _ _
-        (row-S2 _ _ _ _ _ _ _ _ h _ (l .loop-test .taken) _ (p .node-pair .ensures .0))
-        (row-S3 _ _ _ _ _ _ _ _ h _ (l .loop-test .taken) _ (p .node-pair .ensures .1)) in
+    (row-S2 _ _ _ _ _ _ _ _ h _ (l .loop-test .taken) _ (p .node-pair .ensures .0))
+    (row-S3 _ _ _ _ _ _ _ _ h _ (l .loop-test .taken) _ (p .node-pair .ensures .1)) in
     omega (arith, summed-most _ _ _ _ _ q _ 699170560 (omega (arith, l .loop-test .taken)) (h .all-S2) (h .all-S3))
 
 add-s3 : tie.Need-add-s3 Inv-loop μ-loop
@@ -146,8 +147,8 @@ add-s3 c =
     let s = m .before .before .before .before .before .before .before .before .before .before .before .before in
     let h = s .pre .0 .row (omega (arith, m .if1 .left)) in
     let q = summed-next _ _ _ _ _ (l .before .loop .inv .1) _ _
-        (row-S2 _ _ _ _ _ _ _ _ h _ (l .loop-test .taken) _ (p .node-pair .ensures .0))
-        (row-S3 _ _ _ _ _ _ _ _ h _ (l .loop-test .taken) _ (p .node-pair .ensures .1)) in
+    (row-S2 _ _ _ _ _ _ _ _ h _ (l .loop-test .taken) _ (p .node-pair .ensures .0))
+    (row-S3 _ _ _ _ _ _ _ _ h _ (l .loop-test .taken) _ (p .node-pair .ensures .1)) in
     omega (arith, summed-most _ _ _ _ _ q _ 699170560 (omega (arith, l .loop-test .taken)) (h .all-S2) (h .all-S3))
 
 add-v : tie.Need-add-v Inv-loop μ-loop
@@ -177,9 +178,8 @@ loop-again c =
     let h = s .pre .0 .row (omega (arith, m .if1 .left)) in
     let i = l .before .loop .inv in
     let q = summed-next _ _ _ _ _ (l .before .loop .inv .1) _ _
-        (row-S2 _ _ _ _ _ _ _ _ h _ (l .loop-test .taken) _ (p .node-pair .ensures .0))
-        (row-S3 _ _ _ _ _ _ _ _ h _ (l .loop-test .taken) _ (p .node-pair .ensures .1)) in
-    (
+    (row-S2 _ _ _ _ _ _ _ _ h _ (l .loop-test .taken) _ (p .node-pair .ensures .0))
+    (row-S3 _ _ _ _ _ _ _ _ h _ (l .loop-test .taken) _ (p .node-pair .ensures .1)) in (
       omega (arith, l .loop-test .taken),
       q,
       p .node-pair .kept .1 .1 .1 .1 .1 .0 ∙ i .2,

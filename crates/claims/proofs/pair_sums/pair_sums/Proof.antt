@@ -131,15 +131,16 @@ node-row-requires c κs =
     let m = l .before .before in
     let s = m .before .before .before .before .before .before .before in
     let h = s .pre in
-    let i = l .before .loop .inv in
-    (node-room _ _ _ _ _ _ _ _ _ h _ (l .loop-test .taken) _ (omega (arith, i .2)),
-    record {
-      sums-long = omega (arith, i .3);
-      totals-long = omega (arith, i .4);
-      down-long = omega (arith, i .5);
-      along-long = omega (arith, i .6);
-      dots-long = omega (arith, i .7);
-    })
+    let i = l .before .loop .inv in (
+      node-room _ _ _ _ _ _ _ _ _ h _ (l .loop-test .taken) _ (omega (arith, i .2)),
+      record {
+        sums-long = omega (arith, i .3);
+        totals-long = omega (arith, i .4);
+        down-long = omega (arith, i .5);
+        along-long = omega (arith, i .6);
+        dots-long = omega (arith, i .7);
+      },
+    )
 
 add-s2 : tie.Need-add-s2 Inv-loop μ-loop
 add-s2 c =
@@ -149,8 +150,8 @@ add-s2 c =
     let s = m .before .before .before .before .before .before .before in
     let h = s .pre in
     let q = summed-next _ _ _ _ _ (l .before .loop .inv .1) _ _
-        (node-S2 _ _ _ _ _ _ _ _ _ h _ (l .loop-test .taken) _ (p .node-row .ensures .0))
-        (node-S3 _ _ _ _ _ _ _ _ _ h _ (l .loop-test .taken) _ (p .node-row .ensures .1)) in
+    (node-S2 _ _ _ _ _ _ _ _ _ h _ (l .loop-test .taken) _ (p .node-row .ensures .0))
+    (node-S3 _ _ _ _ _ _ _ _ _ h _ (l .loop-test .taken) _ (p .node-row .ensures .1)) in
     omega (arith, summed-most _ _ _ _ _ q _ 699170560 (omega (arith, l .loop-test .taken)) (h .all-S2) (h .all-S3))
 
 add-s3 : tie.Need-add-s3 Inv-loop μ-loop
@@ -161,8 +162,8 @@ add-s3 c =
     let s = m .before .before .before .before .before .before .before in
     let h = s .pre in
     let q = summed-next _ _ _ _ _ (l .before .loop .inv .1) _ _
-        (node-S2 _ _ _ _ _ _ _ _ _ h _ (l .loop-test .taken) _ (p .node-row .ensures .0))
-        (node-S3 _ _ _ _ _ _ _ _ _ h _ (l .loop-test .taken) _ (p .node-row .ensures .1)) in
+    (node-S2 _ _ _ _ _ _ _ _ _ h _ (l .loop-test .taken) _ (p .node-row .ensures .0))
+    (node-S3 _ _ _ _ _ _ _ _ _ h _ (l .loop-test .taken) _ (p .node-row .ensures .1)) in
     omega (arith, summed-most _ _ _ _ _ q _ 699170560 (omega (arith, l .loop-test .taken)) (h .all-S2) (h .all-S3))
 
 add-v : tie.Need-add-v Inv-loop μ-loop
@@ -192,9 +193,8 @@ loop-again c =
     let h = s .pre in
     let i = l .before .loop .inv in
     let q = summed-next _ _ _ _ _ (l .before .loop .inv .1) _ _
-        (node-S2 _ _ _ _ _ _ _ _ _ h _ (l .loop-test .taken) _ (p .node-row .ensures .0))
-        (node-S3 _ _ _ _ _ _ _ _ _ h _ (l .loop-test .taken) _ (p .node-row .ensures .1)) in
-    (
+    (node-S2 _ _ _ _ _ _ _ _ _ h _ (l .loop-test .taken) _ (p .node-row .ensures .0))
+    (node-S3 _ _ _ _ _ _ _ _ _ h _ (l .loop-test .taken) _ (p .node-row .ensures .1)) in (
       omega (arith, l .loop-test .taken),
       q,
       p .node-row .kept .1 .1 .1 .1 .1 .1 .1 .0 ∙ i .2,

@@ -1,0 +1,72 @@
+// The claim sums of two trees.
+use super::code_lists::code_starts;
+use super::code_lists::edge_list;
+use super::node_sums::tree_sum;
+use super::pair_sums::pair_sums;
+use super::words::wide;
+use tree_pairs::crossings;
+ghost use mathlib.Core.Path.{_≡_};
+ghost use lib.ListN.{length};
+ghost use Rattle.tree_pairs.specs.Crossings.{afterCrossings};
+ghost use Rattle.claims.specs.SumsOf.{Summable, summed, claimAnswer};
+
+// The number; S, S', S2 and S3.
+pub struct ClaimSums {
+    pub refusal: u16,
+    pub first: u64,
+    pub second: u64,
+    pub same: u64,
+    pub different: u64,
+}
+
+// The sums of two trees given by their parents, whose crossings are in the cells.
+fn sums_of(parents: &[u16], others: &[u16], work: &[u16], n: u16) -> ClaimSums
+    requires { ⌜ Summable (now work) n (now parents) (now others) ⌝ }
+    ensures { λ r. ⌜ r ≡ summed (now (work .entry)) n (now (parents .entry)) (now (others .entry)) ⌝ }
+{
+    let starts = code_starts(parents);
+    let edges = edge_list(parents, &starts);
+    let begins = code_starts(others);
+    let columns = edge_list(others, &begins);
+    let mut sizes = [0u16; 256];
+    let first = tree_sum(
+        work,
+        others.len() - 1,
+        n,
+        parents,
+        &starts,
+        &edges,
+        &mut sizes,
+    );
+    let second = tree_sum(work, 1, n, others, &begins, &columns, &mut sizes);
+    let pairs = pair_sums(work, n, parents, &starts, &edges, others, &begins, &columns);
+    ClaimSums {
+        refusal: 0,
+        first: first / 2,
+        second: second / 2,
+        same: pairs.s2 / 2,
+        different: pairs.s3,
+    }
+}
+
+// The claim sums, with the crossings in the cells afterwards.
+pub fn claim_sums(first: &[u16], second: &[u16], work: &mut [u16]) -> ClaimSums
+    ensures { λ r. ⌜
+        (r ≡ claimAnswer (now (first .entry)) (now (second .entry)) (length (now (work .entry))))
+        × (now (work .exit) ≡ afterCrossings (now (first .entry)) (now (second .entry)) (now (work .entry)))
+        ⌝ }
+{
+    let number = crossings(first, second, work);
+    if number != 0 {
+        return ClaimSums {
+            refusal: number,
+            first: 0,
+            second: 0,
+            same: 0,
+            different: 0,
+        };
+    }
+    let m = wide(first[1]);
+    let k = wide(second[1]);
+    sums_of(&first[2..2 + m], &second[2..2 + k], work, first[0])
+}

@@ -1,0 +1,78 @@
+// The quartet table of two trees.
+use super::fours::sets_of_four;
+use claims::claim_sums;
+ghost use mathlib.Core.Path.{_≡_};
+ghost use lib.ListN.{length};
+ghost use Rattle.tree_pairs.specs.Crossings.{afterCrossings};
+ghost use Rattle.quartets.specs.QuartetAnswer.{TableFits, DemandThree, formed, quartetAnswer};
+
+// The number; the same butterfly in both trees, different butterflies, a butterfly in the first only, in the second
+// only, a star in both; and the distance B + C + D.
+pub struct QuartetTable {
+    pub refusal: u16,
+    pub a: u64,
+    pub b: u64,
+    pub c: u64,
+    pub d: u64,
+    pub e: u64,
+    pub distance: u64,
+}
+
+// A count as a wider one.
+fn widened(x: u32) -> u64
+    ensures { λ r. ⌜ r ≡ x ⌝ }
+{
+    x as u64
+}
+
+// A word as an index.
+fn wide(x: u16) -> usize
+    ensures { λ r. ⌜ r ≡ x ⌝ }
+{
+    x as usize
+}
+
+// The five formulas, from the four claim sums and n alone.
+fn form_table(first: u64, second: u64, same: u64, different: u64, n: u16) -> QuartetTable
+    requires { ⌜ TableFits n first second same different ⌝ }
+    ensures { λ r. ⌜ r ≡ formed n first second same different ⌝ }
+{
+    let a = same / 2;
+    let b = different / 4;
+    let c = first / 2 - a - b;
+    let d = second / 2 - a - b;
+    let all = widened(sets_of_four(wide(n)));
+    QuartetTable {
+        refusal: 0,
+        a,
+        b,
+        c,
+        d,
+        e: all - a - b - c - d,
+        distance: b + c + d,
+    }
+}
+
+// The quartet table, with the crossings in the cells afterwards.
+pub fn quartet_table(first: &[u16], second: &[u16], work: &mut [u16]) -> QuartetTable
+    ensures { λ r. ⌜
+        (r ≡ quartetAnswer (now (first .entry)) (now (second .entry)) (length (now (work .entry))))
+        × DemandThree (now (first .entry)) (now (second .entry)) (length (now (work .entry))) r
+        × (now (work .exit) ≡ afterCrossings (now (first .entry)) (now (second .entry)) (now (work .entry)))
+        ⌝ }
+{
+    let sums = claim_sums(first, second, work);
+    let number = sums.refusal;
+    if number != 0 {
+        return QuartetTable {
+            refusal: number,
+            a: 0,
+            b: 0,
+            c: 0,
+            d: 0,
+            e: 0,
+            distance: 0,
+        };
+    }
+    form_table(sums.first, sums.second, sums.same, sums.different, first[0])
+}
