@@ -335,11 +335,12 @@ def all_cases():
     yield from (walked(balanced(256), 5), topology(star(256), 255, 254, 253, 252))
 
 
-def store(folder, cases):
-    """Writes the cases and their answers as stdin and stdout; with --check, tells whether they stand there."""
+def store(folder, cases, room=65536):
+    """Writes the cases and their answers as stdin and stdout; with --check, tells whether they stand there.
+    A program reads at most as many bytes as it has room for."""
     stdin = "".join(" ".join(map(str, numbers)) + "\n" for numbers, _ in cases)
     stdout = "".join(" ".join(map(str, words)) + "\n" for _, words in cases)
-    assert len(stdin) <= 65536, len(stdin)
+    assert len(stdin) <= room, len(stdin)
     files = {"stdin": stdin, "stdout": stdout}
     if sys.argv[1:] == ["--check"]:
         stale = [name for name, text in files.items() if (folder / name).read_text() != text]
