@@ -42,14 +42,16 @@ fn form_table(first: u64, second: u64, same: u64, different: u64, n: u16) -> Qua
     let c = first / 2 - a - b;
     let d = second / 2 - a - b;
     let all = widened(sets_of_four(wide(n)));
+    let e = all - a - b - c - d;
+    let distance = b + c + d;
     QuartetTable {
         refusal: 0,
         a,
         b,
         c,
         d,
-        e: all - a - b - c - d,
-        distance: b + c + d,
+        e,
+        distance,
     }
 }
 

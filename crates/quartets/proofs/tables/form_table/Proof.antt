@@ -29,37 +29,37 @@ sets-of-four-requires c κs = omega (arith, c .wide .ensures, c .before .pre .ti
 widened-requires : tie.Need-widened-requires
 widened-requires c κs = search needs
 
-sub-t11 : tie.Need-sub-t11
-sub-t11 c =
+sub-e : tie.Need-sub-e
+sub-e c =
     let s = c .before .before .before in
     let all = c .widened .ensures ∙ c .before .sets-of-four .ensures ∙ ap fours (c .before .before .wide .ensures) in
     omega (arith, all, s .pre .E-fits)
 
-sub-t12 : tie.Need-sub-t12
-sub-t12 c =
+sub-e-2 : tie.Need-sub-e-2
+sub-e-2 c =
     let s = c .before .before .before in
     let all = c .widened .ensures ∙ c .before .sets-of-four .ensures ∙ ap fours (c .before .before .wide .ensures) in
     omega (arith, all, s .pre .E-fits)
 
-sub-t15 : tie.Need-sub-t15
-sub-t15 c =
+sub-e-3 : tie.Need-sub-e-3
+sub-e-3 c =
     let s = c .before .before .before in
     let all = c .widened .ensures ∙ c .before .sets-of-four .ensures ∙ ap fours (c .before .before .wide .ensures) in
     omega (arith, all, s .pre .E-fits)
 
-sub-t16 : tie.Need-sub-t16
-sub-t16 c =
+sub-e-4 : tie.Need-sub-e-4
+sub-e-4 c =
     let s = c .before .before .before in
     let all = c .widened .ensures ∙ c .before .sets-of-four .ensures ∙ ap fours (c .before .before .wide .ensures) in
     rest-fits _ _ _ _ _ _ all (s .pre .E-fits)
 
-add-t17 : tie.Need-add-t17
-add-t17 c =
+add-distance : tie.Need-add-distance
+add-distance c =
     let s = c .before .before .before in
     omega (arith, s .pre .C-fits, s .pre .S-most, s .pre .S'-most)
 
-add-t18 : tie.Need-add-t18
-add-t18 c =
+add-distance-2 : tie.Need-add-distance-2
+add-distance-2 c =
     let s = c .before .before .before in
     omega (arith, s .pre .C-fits, s .pre .S-most, s .pre .S'-most)
 
@@ -80,10 +80,10 @@ form-table-spec =
     wide-requires
     sets-of-four-requires
     widened-requires
-    sub-t11
-    sub-t12
-    sub-t15
-    sub-t16
-    add-t17
-    add-t18
+    sub-e
+    sub-e-2
+    sub-e-3
+    sub-e-4
+    add-distance
+    add-distance-2
     returns)
