@@ -1,15 +1,14 @@
 -- The part of the list of edges that belongs to a node.
 -- Assumes nothing.
-use mathlib.Core.Path.{_≡_, sym, _∙_, ap}
+use mathlib.Core.Path.{_≡_, _∙_, ap}
 use mathlib.Core.List.{List}
-use Prim.Native.Nat.{ℕ, suc, _+_, _*_, _-_, _/_, _≤_, _<_}
+use Prim.Native.Nat.{ℕ, suc, _+_, _-_, _≤_, _<_}
 use native.Mathlib.Numerals.{add-one}
 use native.Mathlib.Omega.{arith}
 use lib.ListN.{length, take, drop, length-drop}
 use lib.Seq.{getD-take, getD-drop, length-take-le}
-use Rattle.sums.specs.Sum.{sum}
 use Rattle.trees.specs.Table.{word}
-use Rattle.claims.specs.CodesAt.{Parents, Starts, EdgeList, codesOf, degreeAt, codeInto, codesBefore}
+use Rattle.claims.specs.CodesAt.{Parents, Starts, EdgeList, degreeAt, codesBefore}
 use Rattle.claims.specs.CodesAt.{starts-inside, starts-suc, code-inside}
 use Rattle.claims.specs.NodeSums.{edgeInto}
 

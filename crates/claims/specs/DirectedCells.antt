@@ -7,12 +7,11 @@ use mathlib.Core.List.{List}
 use Prim.Native.Nat.{ℕ, zero, suc, _+_, _*_, _-_, _/_, _≤_, _<_}
 use native.Mathlib.Omega.{arith}
 use lib.ListN.{length, drop, length-append, length-drop}
-use Rattle.sums.specs.Sum.{sum, sum-ext, sum-cong, sum-add, sum-const, sum-mono}
-use Rattle.sums.specs.Bits.{bit, bit-le, bit-not}
+use Rattle.sums.specs.Sum.{sum-cong, sum-add, sum-const}
+use Rattle.sums.specs.Bits.{bit, bit-not}
 use Rattle.sums.specs.Counts.{count, count-le}
-use Rattle.shapes.specs.Directions.{behind, behind-even, behind-odd}
+use Rattle.shapes.specs.Directions.{behind-even, behind-odd}
 use Rattle.trees.specs.Table.{Table, word, tips, nodes, parent, nodeOf, beyond}
-use Rattle.trees.specs.IsTree.{IsTree}
 use Rattle.counting.specs.ClaimSums.{behindEdge, size, crossing}
 use Rattle.tree_pairs.specs.PairOrder.{IsPair, cellsNeeded}
 use Rattle.tree_pairs.specs.Crossings.{edgeCrossing, crossed, inOrder, cellOf, in-order-length, cell-of-edges}

@@ -3,7 +3,7 @@
 use mathlib.Core.Path.{_≡_, refl, sym, _∙_, ap, ap₂}
 use mathlib.Core.Logic.{_⊎_, inl, inr}
 use mathlib.Core.List.{List}
-use Prim.Native.Nat.{ℕ, zero, suc, _+_, _*_, _-_, _/_, _≤_, _<_}
+use Prim.Native.Nat.{ℕ, zero, suc, _*_, _-_, _/_, _≤_, _<_}
 use native.Mathlib.Omega.{arith}
 use lib.ListN.{length}
 use Rattle.sums.specs.Sum.{sum, sum-ext}
@@ -87,7 +87,8 @@ module _ (t u : Table) (work : List ℕ) (p : IsPair t u (length work)) where
 
   pub first-sum : sum (length (parents t)) (nodeSum (crossed t u work) (nodes u - 1) (tips t) (parents t)) ≡ 2 * S t
   first-sum =
-      ap (λ (m : ℕ). sum m (nodeSum (crossed t u work) (nodes u - 1) (tips t) (parents t))) (parents-length t (g .words))
+      ap (λ (m : ℕ). sum m (nodeSum (crossed t u work) (nodes u - 1) (tips t) (parents t)))
+      (parents-length t (g .words))
       ∙ sum-ext (nodes t) _ _ first-node
       ∙ sym (S-over-nodes t (treeCodes t g) g)
 

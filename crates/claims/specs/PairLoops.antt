@@ -1,7 +1,7 @@
 -- What pairs of nodes add to twice S2 and to S3, summed row by row.
 -- Assumes nothing.
-use mathlib.Core.Path.{_≡_, refl, sym, _∙_, ap, ap₂}
-use mathlib.Core.Logic.{_⊎_, inl, inr}
+use mathlib.Core.Path.{_≡_, refl, _∙_, ap}
+use mathlib.Core.Logic.{inl, inr}
 use mathlib.Core.List.{List}
 use Prim.Native.Nat.{ℕ, zero, suc, _+_, _*_, _-_, _≤_, _<_}
 use native.Mathlib.Nat.{mul-le-mul}
@@ -278,7 +278,11 @@ module _ (work : List ℕ) (w n : ℕ) (ps starts edges qs starts' edges' : List
     width = h .width;
     room = k;
     few = h .second-few;
-    whole = λ v' l' m'. rw (e, sum-ext (degreeAt ps v) _ _ (λ i li. sum-cong (degreeAt qs v') (λ j. same-rows v' i j li)))
+    whole = λ v' l' m'. rw (
+      e,
+      sum-ext (degreeAt ps v) _ _ (λ i li.
+          sum-cong (degreeAt qs v') (λ j. same-rows v' i j li)),
+    )
         (h .whole v v' l l' (omega (arith, e)) m');
     all-S2 = omega (
       arith,

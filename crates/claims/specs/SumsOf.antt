@@ -1,13 +1,13 @@
 -- The claim sums of two trees, from their parents and the crossings of their edges.
 -- Assumes nothing.
-use mathlib.Core.Path.{_≡_, refl, sym, _∙_, ap, ap₂}
+use mathlib.Core.Path.{_≡_, refl, _∙_, ap}
 use mathlib.Core.Logic.{_≢_}
 use mathlib.Core.List.{List}
-use Prim.Native.Nat.{ℕ, zero, suc, _+_, _*_, _-_, _/_, _≤_, _<_}
+use Prim.Native.Nat.{ℕ, zero, suc, _*_, _-_, _/_, _≤_, _<_}
 use native.Mathlib.Omega.{arith}
 use lib.ListN.{length}
 use Rattle.sums.specs.Sum.{sum}
-use Rattle.trees.specs.Table.{Table, word, tips, nodes, parents, parents-length}
+use Rattle.trees.specs.Table.{Table, tips, nodes, parents, parents-length}
 use Rattle.trees.specs.Refusals.{refusal, ifAccepted}
 use Rattle.trees.specs.IsTree.{IsTree}
 use Rattle.counting.specs.ClaimSums.{S, S2, S3}
@@ -182,9 +182,10 @@ module _ (t u : Table) (work : List ℕ) (p : IsPair t u (length work)) where
         crossed = rw (long, long') (crossed-cells t u work p);
         first-few = λ v l. let d = degree-few t g v (omega (arith, long)) in omega arith;
         second-few = λ v l. let d = degree-few u h v (omega (arith, long')) in omega arith;
-        first-whole = λ v l m. let w = rw (← long') at (first-whole t u work p v (inner-first v m) (omega (arith, long)))
-            in omega arith;
-        second-whole = λ v l m. let w = second-whole t u work p v (inner-second v m) (omega (arith, long')) in omega arith;
+        first-whole = λ v l m.
+            let w = rw (← long') at (first-whole t u work p v (inner-first v m) (omega (arith, long))) in omega arith;
+        second-whole = λ v l m.
+            let w = second-whole t u work p v (inner-second v m) (omega (arith, long')) in omega arith;
         cells-whole = λ v v' l l' m m'. let w = rw (← long') at (cells-whole t u work p v v'
             (inner-first v m) (omega (arith, long)) (inner-second v' m') (omega (arith, long'))) in omega arith;
         first-most = rw (long', first-sum t u work p) (omega (arith, q .S-most));

@@ -1,8 +1,8 @@
 -- The codes into each node of a tree table, from its parent words.
 -- Assumes nothing.
-use mathlib.Core.Path.{_≡_, sym, _∙_, ap, subst}
+use mathlib.Core.Path.{_≡_, subst}
 use mathlib.Core.Logic.{_≢_}
-use Prim.Native.Nat.{ℕ, zero, suc, _+_, _*_, _-_, _/_, _≤_, _<_}
+use Prim.Native.Nat.{ℕ, zero, suc, _*_, _-_, _≤_, _<_}
 use native.Mathlib.Decide.{decLt}
 use native.Mathlib.Omega.{arith}
 use lib.ListN.{length}
@@ -53,7 +53,8 @@ module _ (t : Table) (g : IsTree t) where
   -- the codes into v, each once
   pub tree-lists : (v : ℕ) → Lists (codes t) (head (parent t)) v (degreeAt (parents t) v) (codeInto (parents t) v)
   unfolding parent
-  tree-lists v = subst (λ (k : ℕ). Lists k (head (word (parents t))) v (degreeAt (parents t) v) (codeInto (parents t) v))
+  tree-lists v = subst
+      (λ (k : ℕ). Lists k (head (word (parents t))) v (degreeAt (parents t) v) (codeInto (parents t) v))
       all-codes (lists-codes (codesOf (parents t)) (head (word (parents t))) v)
 
   -- the lists that the code makes

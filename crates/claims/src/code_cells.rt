@@ -1,5 +1,5 @@
-// The crossing of two codes, from the crossings of their edges: `base` is where the row of the first edge begins, `c` the
-// column of the second.
+// The crossing of two codes, from the crossings of their edges: `base` is where the row of the first edge begins,
+// `c` the column of the second.
 ghost use mathlib.Core.Path.{_≡_};
 ghost use Prim.Native.Nat.{_+_, _-_, _≤_};
 ghost use Rattle.trees.specs.Table.{word};

@@ -77,8 +77,10 @@ pub(crate) fn tree_sum(
     sizes: &mut [u16],
 ) -> u64
     requires { ⌜ TreeSizes (now work) step n (now parents) (now starts) (now edges) (length (now sizes)) ⌝ }
-    ensures { λ r. ⌜ (r ≡ sum (length (now (parents .entry))) (nodeSum (now (work .entry)) step n (now (parents .entry))))
-        × (r ≤ 699170560) ⌝ }
+    ensures { λ r. ⌜
+        (r ≡ sum (length (now (parents .entry))) (nodeSum (now (work .entry)) step n (now (parents .entry))))
+        × (r ≤ 699170560)
+        ⌝ }
 {
     let mut total: u64 = 0;
     let mut v = 0;

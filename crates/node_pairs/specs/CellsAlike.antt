@@ -1,9 +1,8 @@
 -- What two nodes add depends on their cells alone.
 -- Assumes nothing.
-use mathlib.Core.Path.{_≡_, refl, ap, ap₂}
+use mathlib.Core.Path.{_≡_, refl, ap}
 use Prim.Native.Nat.{ℕ, _*_, _<_}
 use Rattle.sums.specs.Sum.{sum-ext}
-use Rattle.shapes.specs.Claims.{choose2}
 use Rattle.node_pairs.specs.Cells.{apart, sumApart, pairS2, pairS3}
 
 pub apart-ext : (d : ℕ) (F G : ℕ → ℕ → ℕ → ℕ)

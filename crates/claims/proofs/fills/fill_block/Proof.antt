@@ -1,10 +1,9 @@
 -- The invariant: the first `i` rows of the block are filled.
 -- Assumes nothing.
-use Prim.Native.Nat.{_+_, _*_, _-_, _≤_, _<_}
-use mathlib.Core.Path.{_≡_, refl, sym, _∙_}
+use Prim.Native.Nat.{_-_, _≤_}
+use mathlib.Core.Path.{_≡_, refl, _∙_}
 use native.Mathlib.Omega.{arith}
 use lib.ListN.{length}
-use Rattle.trees.specs.Table.{word}
 use Rattle.claims.specs.NodeBlock.{RowsFilled, node-cell-room, row-room, first-row-room, own-filled, child-filled}
 use borrow.Author.Needs.{needs}
 use Rattle.claims.proofs.fills.fill_block.Statement.{statement}

@@ -4,7 +4,6 @@ use mathlib.Core.Path.{_∙_}
 use native.Mathlib.Omega.{arith}
 use Rattle.trees.specs.Table.{word}
 use Rattle.claims.specs.NinePair.{three-room, own-neither, nine-S2, nine-S3, nine-few}
-use borrow.Author.Needs.{needs}
 use Rattle.claims.proofs.node_pair.nine_cells.Statement.{statement}
 use Rattle.claims.proofs.node_pair.nine_cells.Tie as tie
 
@@ -35,8 +34,10 @@ mul-own-cells c =
 own-cells-requires : tie.Need-own-cells-requires
 own-cells-requires c κs =
     let b = c .before .before .before .before in
-    let p = b .before .before .before .pre in
-    ((three-room _ _ _ _ _ (p .0) (p .1 .0) (p .1 .1) 0 (omega arith), p .0 .crossed .tips-few), own-neither _ _ _ _ _ (p .0) (p .1 .0) (p .1 .1))
+    let p = b .before .before .before .pre in (
+      (three-room _ _ _ _ _ (p .0) (p .1 .0) (p .1 .1) 0 (omega arith), p .0 .crossed .tips-few),
+      own-neither _ _ _ _ _ (p .0) (p .1 .0) (p .1 .1),
+    )
 
 shared-slice-read-child-cells : tie.Need-shared-slice-read-child-cells
 shared-slice-read-child-cells c =

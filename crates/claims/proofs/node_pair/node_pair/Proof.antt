@@ -1,6 +1,6 @@
 -- Nine cells, or the block filled and summed.
 -- Assumes nothing.
-use mathlib.Core.Path.{_≡_, sym, _∙_, ap₂}
+use mathlib.Core.Path.{sym, _∙_, ap₂}
 use Prim.Native.Nat.{ℕ}
 use native.Mathlib.Omega.{arith}
 use Rattle.node_pairs.specs.Cells.{pairS2, pairS3}

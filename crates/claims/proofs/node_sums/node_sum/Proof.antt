@@ -1,11 +1,9 @@
 -- Fewer than three codes make no claim; otherwise the sizes are written and their terms added up.
 -- Assumes nothing.
-use mathlib.Core.Path.{_≡_, sym, _∙_}
+use mathlib.Core.Path.{sym}
 use native.Mathlib.Omega.{arith}
-use Rattle.trees.specs.Table.{word}
 use Rattle.claims.specs.NodeSums.{sizes-few}
 use Rattle.claims.specs.TreeSizes.{sizes-room, written-few, written-sum}
-use borrow.Author.Needs.{needs}
 use Rattle.claims.proofs.node_sums.node_sum.Statement.{statement}
 use Rattle.claims.proofs.node_sums.node_sum.Tie as tie
 

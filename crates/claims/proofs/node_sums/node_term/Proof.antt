@@ -1,7 +1,6 @@
 -- The invariant: the terms of the sizes before `i` are added up.
 -- Assumes nothing.
-use Prim.Native.Nat.{_+_, _*_, _-_, _≤_}
-use mathlib.Core.Path.{_≡_, sym, _∙_}
+use Prim.Native.Nat.{_-_, _≤_}
 use native.Mathlib.Omega.{arith}
 use Rattle.claims.specs.SizeTerms.{SizeTerms, sizes-line, line-whole, no-terms}
 use Rattle.claims.specs.SizeTerms.{size-low, next-term, node-is}
@@ -107,8 +106,8 @@ mul-result c =
     let s = q .before .before .before in
     omega (
       arith,
-      node-is (s .args .sizes .now) (s .args .count) _ _ _ _ (l .loop .inv .1) (l .loop .inv .0) (omega (arith, c .loop-test .left))
-          (q .line-squares .ensures),
+      node-is (s .args .sizes .now) (s .args .count) _ _ _ _ (l .loop .inv .1) (l .loop .inv .0)
+          (omega (arith, c .loop-test .left)) (q .line-squares .ensures),
       s .pre .few,
     )
 
@@ -119,8 +118,8 @@ sub-result c =
     let s = q .before .before .before in
     omega (
       arith,
-      node-is (s .args .sizes .now) (s .args .count) _ _ _ _ (l .loop .inv .1) (l .loop .inv .0) (omega (arith, c .loop-test .left))
-          (q .line-squares .ensures),
+      node-is (s .args .sizes .now) (s .args .count) _ _ _ _ (l .loop .inv .1) (l .loop .inv .0)
+          (omega (arith, c .loop-test .left)) (q .line-squares .ensures),
       s .pre .few,
     )
 
@@ -131,8 +130,8 @@ returns c =
     let s = q .before .before .before in
     omega (
       arith,
-      node-is (s .args .sizes .now) (s .args .count) _ _ _ _ (l .loop .inv .1) (l .loop .inv .0) (omega (arith, c .loop-test .left))
-          (q .line-squares .ensures),
+      node-is (s .args .sizes .now) (s .args .count) _ _ _ _ (l .loop .inv .1) (l .loop .inv .0)
+          (omega (arith, c .loop-test .left)) (q .line-squares .ensures),
       s .pre .few,
     )
 

@@ -1,6 +1,6 @@
 -- No pairs of no tips; otherwise the definition.
 -- Assumes nothing.
-use mathlib.Core.Path.{_≡_, _∙_, ap, sym}
+use mathlib.Core.Path.{_∙_, ap, sym}
 use native.Mathlib.Omega.{arith}
 use Rattle.shapes.specs.Claims.{choose2}
 use Rattle.claims.specs.SizeTerms.{pairs-none, pairs-some, pairs-fit}

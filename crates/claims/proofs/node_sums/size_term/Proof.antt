@@ -1,6 +1,6 @@
 -- The products stay low.
 -- Assumes nothing.
-use mathlib.Core.Path.{_≡_, ap}
+use mathlib.Core.Path.{ap}
 use Prim.Native.Nat.{ℕ, _+_, _*_}
 use native.Mathlib.Omega.{arith}
 use Rattle.claims.specs.SizeTerms.{squares-most, size-term-most}

@@ -1,14 +1,13 @@
 -- The invariant: the nodes before `v` are summed.
 -- Assumes nothing.
-use Prim.Native.Nat.{_+_, _-_, _≤_}
-use mathlib.Core.Path.{_≡_, refl, sym, _∙_}
+use Prim.Native.Nat.{_-_, _≤_}
+use mathlib.Core.Path.{_≡_, refl, _∙_}
 use native.Mathlib.Omega.{arith}
 use lib.ListN.{length}
 use Rattle.sums.specs.Sum.{sum}
 use Rattle.claims.specs.CodeLists.{part-inside}
 use Rattle.claims.specs.NodeSums.{nodeSum}
 use Rattle.claims.specs.TreeSizes.{no-node, node-sizes, next-node}
-use borrow.Author.Needs.{needs}
 use Rattle.claims.proofs.node_sums.tree_sum.Statement.{statement}
 use Rattle.claims.proofs.node_sums.tree_sum.Tie as tie
 
@@ -113,7 +112,8 @@ loop-again : tie.Need-loop-again Inv-loop μ-loop
 loop-again c =
     let n = c .before .before in
     let l = n .before .before .before .before .before in
-    let s = l .before .before .before .before .before .before .before in let q = next-node _ _ _ _ _ _ _ (s .pre) _ (l .loop-test .taken) _ _
+    let s = l .before .before .before .before .before .before .before in
+    let q = next-node _ _ _ _ _ _ _ (s .pre) _ (l .loop-test .taken) _ _
     (l .before .loop .inv .2) (n .node-sum .ensures) in (
       omega (arith, l .loop-test .taken),
       n .node-sum .kept .1 .1 .1 .1 .0 ∙ l .before .loop .inv .1,

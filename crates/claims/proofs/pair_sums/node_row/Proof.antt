@@ -1,10 +1,9 @@
 -- The invariant: the pairs with the second tree's nodes before `v` are summed.
 -- Assumes nothing.
-use Prim.Native.Nat.{_+_, _-_, _≤_}
+use Prim.Native.Nat.{_-_, _≤_}
 use mathlib.Core.Path.{_≡_, refl, sym, _∙_}
 use native.Mathlib.Omega.{arith}
 use lib.ListN.{length}
-use Rattle.claims.specs.Block.{Scratch}
 use Rattle.claims.specs.CodeLists.{part-inside}
 use Rattle.claims.specs.PairLoops.{Summed, summed-none, summed-next, summed-most, summed-all}
 use Rattle.claims.specs.PairLoops.{rowS2, rowS3, few-row, row-room, row-S2, row-S3}
@@ -141,7 +140,8 @@ add-s2 c =
 
 add-s3 : tie.Need-add-s3 Inv-loop μ-loop
 add-s3 c =
-    let p = c .before .before .before .before .before .before .before .before .before .before .before .before .before .before in
+    let z = c .before .before .before .before .before .before .before in
+    let p = z .before .before .before .before .before .before .before in
     let l = p .before .before .before .before .before .before .before .before .before .before in
     let m = l .before .before in
     let s = m .before .before .before .before .before .before .before .before .before .before .before .before in
@@ -153,7 +153,8 @@ add-s3 c =
 
 add-v : tie.Need-add-v Inv-loop μ-loop
 add-v c =
-    let p = c .before .before .before .before .before .before .before .before .before .before .before .before .before .before in
+    let z = c .before .before .before .before .before .before .before in
+    let p = z .before .before .before .before .before .before .before in
     let l = p .before .before .before .before .before .before .before .before .before .before in
     let m = l .before .before in
     let s = m .before .before .before .before .before .before .before .before .before .before .before .before in
@@ -162,7 +163,8 @@ add-v c =
 
 loop-less : tie.Need-loop-less Inv-loop μ-loop
 loop-less c =
-    let p = c .before .before .before .before .before .before .before .before .before .before .before .before .before .before in
+    let z = c .before .before .before .before .before .before .before in
+    let p = z .before .before .before .before .before .before .before in
     let l = p .before .before .before .before .before .before .before .before .before .before in
     let m = l .before .before in
     let s = m .before .before .before .before .before .before .before .before .before .before .before .before in
@@ -171,7 +173,8 @@ loop-less c =
 
 loop-again : tie.Need-loop-again Inv-loop μ-loop
 loop-again c =
-    let p = c .before .before .before .before .before .before .before .before .before .before .before .before .before .before in
+    let z = c .before .before .before .before .before .before .before in
+    let p = z .before .before .before .before .before .before .before in
     let l = p .before .before .before .before .before .before .before .before .before .before in
     let m = l .before .before in
     let s = m .before .before .before .before .before .before .before .before .before .before .before .before in

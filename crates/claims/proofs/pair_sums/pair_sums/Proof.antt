@@ -1,6 +1,6 @@
 -- The invariant: the pairs with the first tree's nodes before `v` are summed.
 -- Assumes nothing.
-use Prim.Native.Nat.{ℕ, _+_, _-_, _≤_}
+use Prim.Native.Nat.{ℕ, _-_, _≤_}
 use mathlib.Core.Path.{_≡_, refl, sym, _∙_}
 use native.Mathlib.Omega.{arith}
 use lib.ListN.{length, length-replicate}
@@ -108,22 +108,34 @@ part-node-row-end c =
     part-inside _ _ _ (h .first) _ (l .loop-test .taken) .1
 
 slice-aggregate-node-row : tie.Need-slice-aggregate-node-row Inv-loop μ-loop
-slice-aggregate-node-row c = let l = c .before .before .before .before in sym (l .before .loop .inv .2)
+slice-aggregate-node-row c =
+    let l = c .before .before .before .before in
+    sym (l .before .loop .inv .2)
 
 slice-aggregate-node-row-2 : tie.Need-slice-aggregate-node-row-2 Inv-loop μ-loop
-slice-aggregate-node-row-2 c = let l = c .before .before .before .before .before in sym (l .before .loop .inv .3)
+slice-aggregate-node-row-2 c =
+    let l = c .before .before .before .before .before in
+    sym (l .before .loop .inv .3)
 
 slice-aggregate-node-row-3 : tie.Need-slice-aggregate-node-row-3 Inv-loop μ-loop
-slice-aggregate-node-row-3 c = let l = c .before .before .before .before .before .before in sym (l .before .loop .inv .4)
+slice-aggregate-node-row-3 c =
+    let l = c .before .before .before .before .before .before in
+    sym (l .before .loop .inv .4)
 
 slice-aggregate-node-row-4 : tie.Need-slice-aggregate-node-row-4 Inv-loop μ-loop
-slice-aggregate-node-row-4 c = let l = c .before .before .before .before .before .before .before in sym (l .before .loop .inv .5)
+slice-aggregate-node-row-4 c =
+    let l = c .before .before .before .before .before .before .before in
+    sym (l .before .loop .inv .5)
 
 slice-aggregate-node-row-5 : tie.Need-slice-aggregate-node-row-5 Inv-loop μ-loop
-slice-aggregate-node-row-5 c = let l = c .before .before .before .before .before .before .before .before in sym (l .before .loop .inv .6)
+slice-aggregate-node-row-5 c =
+    let l = c .before .before .before .before .before .before .before .before in
+    sym (l .before .loop .inv .6)
 
 slice-aggregate-node-row-6 : tie.Need-slice-aggregate-node-row-6 Inv-loop μ-loop
-slice-aggregate-node-row-6 c = let l = c .before .before .before .before .before .before .before .before .before in sym (l .before .loop .inv .7)
+slice-aggregate-node-row-6 c =
+    let l = c .before .before .before .before .before .before .before .before .before in
+    sym (l .before .loop .inv .7)
 
 node-row-requires : tie.Need-node-row-requires Inv-loop μ-loop
 node-row-requires c κs =

@@ -1,14 +1,13 @@
 -- The invariant: the first `i` sizes are written.
 -- Assumes nothing.
-use Prim.Native.Nat.{ℕ, _+_, _*_, _-_, _≤_, _<_}
+use Prim.Native.Nat.{ℕ, _*_, _-_, _≤_, _<_}
 use mathlib.Core.List.{List}
-use mathlib.Core.Path.{_≡_, refl, sym, _∙_}
+use mathlib.Core.Path.{_≡_, refl, _∙_}
 use native.Mathlib.Omega.{arith}
 use lib.ListN.{length, length-set}
 use Rattle.trees.specs.Table.{word}
 use Rattle.claims.specs.CodeSizes.{codeSize, size-first, size-later}
 use Rattle.claims.specs.NodeBlock.{Written, written-first, written-next}
-use borrow.Author.Needs.{needs}
 use Rattle.claims.proofs.sizes.fill_sizes.Statement.{statement}
 use Rattle.claims.proofs.sizes.fill_sizes.Tie as tie
 

@@ -1,6 +1,6 @@
 -- The crossings, then the sums over the two trees' parents.
 -- Assumes nothing.
-use mathlib.Core.Path.{_≡_, refl, sym, _∙_}
+use mathlib.Core.Path.{refl}
 use native.Mathlib.Omega.{arith}
 use Rattle.claims.specs.LentSums.{lent-words, lent-summable, lent-claims}
 use Rattle.claims.specs.SumsOf.{claims-refused}

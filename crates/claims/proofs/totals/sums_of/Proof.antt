@@ -1,6 +1,6 @@
 -- Lists of codes for both trees, then the sums over nodes and over pairs of nodes.
 -- Assumes nothing.
-use mathlib.Core.Path.{_≡_, refl, sym, _∙_}
+use mathlib.Core.Path.{refl, sym}
 use native.Mathlib.Omega.{arith}
 use Rattle.claims.specs.SumsOf.{first-lists, second-lists, first-sizes, second-sizes, node-pairs, summed-is}
 use Rattle.claims.proofs.totals.sums_of.Statement.{statement}
@@ -16,10 +16,14 @@ code-starts-requires-2 : tie.Need-code-starts-requires-2
 code-starts-requires-2 c κs = c .before .before .before .before .before .before .pre .second
 
 edge-list-requires-2 : tie.Need-edge-list-requires-2
-edge-list-requires-2 c κs = (c .before .before .before .before .before .before .before .before .pre .second, c .before .code-starts2 .ensures)
+edge-list-requires-2 c κs =
+    let s = c .before .before .before .before .before .before .before .before in
+    (s .pre .second, c .before .code-starts2 .ensures)
 
 sub-tree-sum : tie.Need-sub-tree-sum
-sub-tree-sum c = let s = c .before .before .before .before .before .before .before .before .before in omega (arith, s .pre .some)
+sub-tree-sum c =
+    let s = c .before .before .before .before .before .before .before .before .before in
+    omega (arith, s .pre .some)
 
 slice-aggregate-tree-sum : tie.Need-slice-aggregate-tree-sum
 slice-aggregate-tree-sum c =
@@ -41,7 +45,8 @@ tree-sum-requires c κs =
     let b = c .before .before .before in
     let e = b .before .before .before in
     let s = e .before .before .before .before .before .before in
-    first-sizes _ _ _ _ (s .pre) _ _ (first-lists _ _ _ _ (s .pre) _ _ (e .before .before .code-starts .ensures) (e .edge-list .ensures))
+    first-sizes _ _ _ _ (s .pre) _ _
+    (first-lists _ _ _ _ (s .pre) _ _ (e .before .before .code-starts .ensures) (e .edge-list .ensures))
 
 slice-aggregate-tree-sum-4 : tie.Need-slice-aggregate-tree-sum-4
 slice-aggregate-tree-sum-4 c =
@@ -85,12 +90,14 @@ slice-aggregate-pair-sums-3 c =
 
 slice-aggregate-pair-sums-4 : tie.Need-slice-aggregate-pair-sums-4
 slice-aggregate-pair-sums-4 c =
-    let b = c .before .before .before .before .before .before .before .before .before .before .before .before .before .before in
+    let z = c .before .before .before .before .before .before .before in
+    let b = z .before .before .before .before .before .before .before in
     sym (b .edge-list2 .ensures .long)
 
 pair-sums-requires : tie.Need-pair-sums-requires
 pair-sums-requires c κs =
-    let b = c .before .before .before .before .before .before .before .before .before .before .before .before .before .before in
+    let z = c .before .before .before .before .before .before .before in
+    let b = z .before .before .before .before .before .before .before in
     let e = b .before .before .before in
     let s = e .before .before .before .before .before .before in
     node-pairs _ _ _ _ (s .pre) _ _ _ _

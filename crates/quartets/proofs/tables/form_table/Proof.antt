@@ -1,6 +1,6 @@
 -- The five formulas: no subtraction goes below 0.
 -- Assumes nothing.
-use mathlib.Core.Path.{_≡_, _∙_, ap}
+use mathlib.Core.Path.{_∙_, ap}
 use native.Mathlib.Omega.{arith}
 use Rattle.sums.specs.Fours.{fours}
 use Rattle.quartets.specs.QuartetAnswer.{rest-fits, table-formed}

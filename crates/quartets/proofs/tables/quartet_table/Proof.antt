@@ -1,7 +1,6 @@
 -- The claim sums, then the five formulas; what comes out is the table of counts.
 -- Assumes nothing.
-use mathlib.Core.Path.{_≡_, refl, sym, _∙_}
-use native.Mathlib.Omega.{arith}
+use mathlib.Core.Path.{refl, _∙_}
 use Rattle.quartets.specs.QuartetAnswer.{sums-pair, sums-fit, table-counts, table-refused, answer-has, first-word}
 use borrow.Author.Needs.{needs}
 use Rattle.quartets.proofs.tables.quartet_table.Statement.{statement}
