@@ -13,8 +13,9 @@ use Rattle.node_pairs.specs.Aggregates.{rowSum, columnSum, whole, squares, rowS
 use Rattle.node_pairs.specs.Aggregates.{rowWithout, columnWithout, down, along, rest, rest-cell}
 use Rattle.node_pairs.specs.CellForms.{pairsOff}
 use Rattle.node_pairs.specs.PairsOff.{pairs-off-cell}
+use Rattle.sums.specs.Products.{product-le}
 use Rattle.claims.specs.Block.{Block, blockCell}
-use Rattle.claims.specs.Lines.{Line, Low, lineCell, squared, product-le}
+use Rattle.claims.specs.Lines.{Line, Low, lineCell, squared}
 use Rattle.claims.specs.MatrixBounds.{cell-row-le, cell-column-le, row-without-is, column-without-is}
 use Rattle.claims.specs.MatrixBounds.{row-le, column-le, squares-le, row-squares-le, column-squares-le}
 use Rattle.claims.specs.MatrixBounds.{down-le, along-le}

@@ -11,8 +11,9 @@ use Rattle.node_pairs.specs.Cells.{pairS2, pairS3}
 use Rattle.node_pairs.specs.Aggregates.{transposed, rowSum, columnSum, down, along}
 use Rattle.node_pairs.specs.CellForms.{pairS2-cells}
 use Rattle.node_pairs.specs.ClosedForms.{dotSquares, termSquares, pairS3-rows, pairS3-columns}
+use Rattle.sums.specs.Products.{product-le}
 use Rattle.claims.specs.Block.{Block, blockCell}
-use Rattle.claims.specs.Lines.{Lines, AllTotals, lineSum, lineRest, product-le}
+use Rattle.claims.specs.Lines.{Lines, AllTotals, lineSum, lineRest}
 use Rattle.claims.specs.Filled.{filled, filled-at, length-filled}
 use Rattle.claims.specs.MatrixBounds.{cell-row-le, cell-column-le, row-without-is, column-without-is}
 use Rattle.claims.specs.MatrixBounds.{row-le, column-le}

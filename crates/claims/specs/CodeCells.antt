@@ -3,9 +3,10 @@
 use mathlib.Core.Path.{_≡_}
 use mathlib.Core.List.{List}
 use Prim.Native.Nat.{ℕ, zero, suc, _+_, _*_, _-_, _≤_, _<_}
-use native.Mathlib.Nat.{mul-le-mul, mul-le-mul-right}
+use native.Mathlib.Nat.{mul-le-mul-right}
 use native.Mathlib.Omega.{arith}
 use lib.ListN.{length}
+use Rattle.sums.specs.Products.{product-le}
 use Rattle.trees.specs.Table.{word}
 
 -- In rows of w cells, edge r of the first tree and edge c of the second (counted from 0) meet in cell r * w + c. The
@@ -73,15 +74,12 @@ pub record Crossed (work : List ℕ) (rows w n : ℕ) : Type 0 where
   pub column-most : (c : ℕ) → c < w → word work c ≤ n
   pub neither : (r c : ℕ) → r < rows → c < w → word work (r * w) + word work c ≤ n + word work (r * w + c)
 
-small-product : (x y : ℕ) → x ≤ 512 → y ≤ 512 → x * y ≤ 512 * 512
-small-product x y l m = mul-le-mul l m
-
 -- the first cell of row r
 pub row-start : (work : List ℕ) (rows w n : ℕ) → Crossed work rows w n → (r : ℕ) → r < rows → 1 ≤ w
     → (r * w < length work) × (r * w ≤ 262144)
 row-start work rows w n h r lr some = (
   omega (arith, ends, h .inside),
-  omega (arith, small-product r w (omega (arith, h .rows-few)) (h .narrow)),
+  omega (arith, product-le 512 512 r w (omega (arith, h .rows-few)) (h .narrow)),
 )
   where
     ends : (r + 1) * w ≤ rows * w
@@ -91,7 +89,7 @@ pub cell-room : (work : List ℕ) (rows w n : ℕ) → Crossed work rows w n →
     → CellRoom work (r * w) c
 cell-room work rows w n h r c lr lc = record {
   inside = omega (arith, ends, h .inside);
-  low = omega (arith, small-product r w (omega (arith, h .rows-few)) (h .narrow));
+  low = omega (arith, product-le 512 512 r w (omega (arith, h .rows-few)) (h .narrow));
   narrow = omega (arith, h .narrow);
   in-row = h .in-row r c lr lc;
   in-column = h .in-column r c lr lc;

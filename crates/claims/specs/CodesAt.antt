@@ -175,15 +175,3 @@ module _ (ps : List ℕ) (h : Parents ps) where
         (lists-codes (codesOf ps) (head (word ps)) v) i 0 k (omega arith) (λ q. omega arith)
         (omega (arith, z, e, own-first v (omega (arith, e)) l .1)))
   ]
-
-  -- into node 0 only children's edges lead
-  pub root-even : (i : ℕ) → i < degreeAt ps 0 → codeInto ps 0 i ≡ 2 * (codeInto ps 0 i / 2)
-  root-even i k = elim (code-cases (codeInto ps 0 i)) [
-    | inl z ↦ z
-    | inr z ↦ absurd (omega (
-      arith,
-      head-of-code (codesOf ps) (head (word ps)) 0 i k,
-      ap (head (word ps)) z,
-      head-odd (word ps) (codeInto ps 0 i / 2),
-    ))
-  ]

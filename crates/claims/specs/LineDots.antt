@@ -10,7 +10,8 @@ use Rattle.sums.specs.Sum.{sum, sum-ext, sum-cong, sum-swap, sum-mono, sum-cons
 use Rattle.sums.specs.SetsOfFour.{sets2}
 use Rattle.trees.specs.Table.{word}
 use Rattle.node_pairs.specs.ClosedForms.{dot, dotSquares, termSquares}
-use Rattle.claims.specs.Lines.{Line, Low, lineCell, squared, product-le, sum-next, sum-step}
+use Rattle.sums.specs.Products.{product-le}
+use Rattle.claims.specs.Lines.{Line, Low, lineCell, squared, sum-next, sum-step}
 use Rattle.claims.specs.Filled.{filled, filled-at}
 use Rattle.claims.specs.MatrixBounds.{products-le}
 

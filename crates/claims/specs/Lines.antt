@@ -3,7 +3,6 @@
 use mathlib.Core.Path.{_≡_, sym, _∙_, ap₂}
 use mathlib.Core.List.{List}
 use Prim.Native.Nat.{ℕ, _+_, _*_, _-_, _≤_, _<_}
-use native.Mathlib.Nat.{mul-le-mul}
 use native.Mathlib.Numerals.{add-one}
 use lib.ListN.{length}
 use Rattle.sums.specs.Sum.{sum, sum-suc}
@@ -61,10 +60,6 @@ pub record Low (xs : List ℕ) (len : ℕ) : Type 0 where
   pub inside : len ≤ length xs
   pub few : len ≤ 256
   pub low : (a : ℕ) → a < len → word xs a ≤ 65536
-
--- a product of low numbers is low
-pub product-le : (p q x y : ℕ) → x ≤ p → y ≤ q → x * y ≤ p * q
-product-le p q x y l m = mul-le-mul l m
 
 -- ---- sums, as a loop finds them
 

@@ -2,10 +2,11 @@
 -- A diagonal is three cells in different rows and different columns.
 -- Assumes nothing.
 use mathlib.Core.Path.{_≡_, refl, sym, _∙_, ap, ap₂}
-use Prim.Native.Nat.{ℕ, zero, suc, _+_, _*_, _-_, _/_, _≤_}
-use native.Mathlib.Nat.{mul-le-mul}
+use Prim.Native.Nat.{ℕ, zero, suc, _+_, _*_, _-_, _≤_}
 use native.Mathlib.Omega.{arith}
+use Rattle.sums.specs.Products.{product-le}
 use Rattle.shapes.specs.Claims.{choose2}
+use Rattle.shapes.specs.OrderedClaims.{choose2-square}
 use Rattle.node_pairs.specs.Cells.{pairS2, pairS3}
 use Rattle.node_pairs.specs.ThreeByThree.{termS2, termS3, sumRow, sumNine, pairS2-three, pairS3-three}
 
@@ -50,38 +51,23 @@ weighed p q r = p * q * r * (p + q + r)
 
 -- ---- bounds
 
-mul-le : (a b c d : ℕ) → a ≤ c → b ≤ d → a * b ≤ c * d
-mul-le a b c d h k = mul-le-mul h k
-
 module _ (p q r : ℕ) (hp : p ≤ 256) (hq : q ≤ 256) (hr : r ≤ 256) where
   pub pair-le : p * q ≤ 65536
-  pair-le = mul-le p q 256 256 hp hq
+  pair-le = product-le 256 256 p q hp hq
 
-  pub product-le : product p q r ≤ 16777216
-  product-le = mul-le (p * q) r 65536 256 pair-le hr
+  pub diagonal-le : product p q r ≤ 16777216
+  diagonal-le = product-le 65536 256 (p * q) r pair-le hr
 
   pub weighed-le : weighed p q r ≤ 12884901888
-  weighed-le = mul-le (p * q * r) (p + q + r) 16777216 768 product-le (omega (arith, hp, hq, hr))
+  weighed-le = product-le 16777216 768 (p * q * r) (p + q + r) diagonal-le (omega (arith, hp, hq, hr))
 
 -- all cells times the products of two times three diagonals
 pub all-le : (x0 x1 x2 y0 y1 y2 z0 z1 z2 p p' : ℕ) → Nine x0 x1 x2 y0 y1 y2 z0 z1 z2 → p ≤ 50331648
     → p' ≤ 50331648 → (x0 + x1 + x2 + y0 + y1 + y2 + z0 + z1 + z2) * (p + p') ≤ 231928233984
 all-le x0 x1 x2 y0 y1 y2 z0 z1 z2 p p' h k l =
-    mul-le (x0 + x1 + x2 + y0 + y1 + y2 + z0 + z1 + z2) (p + p') 2304 100663296 (omega arith) (omega arith)
+    product-le 2304 100663296 (x0 + x1 + x2 + y0 + y1 + y2 + z0 + z1 + z2) (p + p') (omega arith) (omega arith)
 
 -- ---- the claim sums
-
-even-product : (k : ℕ) → 2 * (suc k * k / 2) ≡ suc k * k
-even-product zero = omega arith
-even-product (suc k) = omega (arith, even-product k)
-
-choose2-double : (k : ℕ) → 2 * choose2 k + k ≡ k * k
-unfolding choose2
-choose2-double zero = omega arith
-choose2-double (suc k) = ap (λ (z : ℕ). 2 * (suc k * z / 2) + suc k) (pred k) ∙ omega (arith, even-product k)
-  where
-    pred : (k : ℕ) → suc k - 1 ≡ k
-    pred k = omega arith
 
 -- what a cell t gives with two cells a and b of one of the two diagonals through it, where c and d are the cells of
 -- the other: for S2 ..
@@ -99,9 +85,9 @@ sumParts P p q r a b c d e f = P p q r a b + P q r p c d + P r p q e f
 diagonal-S2 : (p q r a b c d e f : ℕ) → 2 * sumParts partS2 p q r a b c d e f + 3 * product p q r ≡ weighed p q r
 diagonal-S2 p q r a b c d e f = omega (
   arith,
-  ap (λ (z : ℕ). z * (q * r)) (choose2-double p),
-  ap (λ (z : ℕ). z * (r * p)) (choose2-double q),
-  ap (λ (z : ℕ). z * (p * q)) (choose2-double r),
+  ap (λ (z : ℕ). z * (q * r)) (choose2-square p),
+  ap (λ (z : ℕ). z * (r * p)) (choose2-square q),
+  ap (λ (z : ℕ). z * (p * q)) (choose2-square r),
 )
 
 -- n is the sum of all nine cells

@@ -3,11 +3,12 @@
 use mathlib.Core.Path.{_≡_, sym, _∙_, ap}
 use mathlib.Core.List.{List}
 use Prim.Native.Nat.{ℕ, zero, suc, _+_, _*_, _≤_, _<_}
-use native.Mathlib.Nat.{mul-le-mul, mul-le-mul-right}
+use native.Mathlib.Nat.{mul-le-mul-right}
 use native.Mathlib.Decide.{decLt}
 use native.Mathlib.Omega.{arith}
 use lib.ListN.{length, set, length-set}
 use lib.Seq.{getD-set-same, getD-set-other}
+use Rattle.sums.specs.Products.{product-le}
 use Rattle.trees.specs.Table.{word}
 use Rattle.claims.specs.CodeCells.{CellRoom, Crossed, cell-room, codeCell, ownCell, childCell}
 
@@ -71,18 +72,11 @@ pub record NodeEdges (work : List ℕ) (w n : ℕ) (rows columns : List ℕ) : T
   pub columns-inside : (j : ℕ) → j < length columns → word columns j < w
 
 module _ (work : List ℕ) (w n : ℕ) (rows columns : List ℕ) (h : NodeEdges work w n rows columns) where
-  -- the cells of two nodes
-  abbrev pub nodeCells : ℕ → ℕ → ℕ
-  nodeCells = codeCell work w n (word rows) (word columns)
-
   pub node-cell-room : (i j : ℕ) → i < length rows → j < length columns
       → CellRoom work (word rows i * w) (word columns j)
   node-cell-room i j li lj =
       cell-room work (h .edges) w n (h .crossed) (word rows i) (word columns j)
       (h .rows-inside i li) (h .columns-inside j lj)
-
-  row-low : (i d d' : ℕ) → i < d → d ≤ 256 → d' ≤ 256 → i * d' ≤ 256 * 256
-  row-low i d d' l m m' = mul-le-mul {n₂ = 256} (omega arith) m'
 
   row-end : (i d d' : ℕ) → i < d → (i + 1) * d' ≤ d * d'
   row-end i d d' l = mul-le-mul-right d' (omega arith)
@@ -92,7 +86,7 @@ module _ (work : List ℕ) (w n : ℕ) (rows columns : List ℕ) (h : NodeEdges 
   row-room size i l m = record {
     some = h .columns-some;
     few = h .columns-few;
-    low = omega (arith, row-low i (length rows) (length columns) m (h .rows-few) (h .columns-few));
+    low = omega (arith, product-le 256 256 i (length columns) (omega (arith, h .rows-few)) (h .columns-few));
     inside = omega (arith, row-end i (length rows) (length columns) m);
     room = λ j lj. node-cell-room i j m lj;
   }

@@ -4,11 +4,11 @@ use mathlib.Core.Path.{_≡_, refl, _∙_, ap}
 use mathlib.Core.Logic.{inl, inr}
 use mathlib.Core.List.{List}
 use Prim.Native.Nat.{ℕ, zero, suc, _+_, _*_, _-_, _≤_, _<_}
-use native.Mathlib.Nat.{mul-le-mul}
 use native.Mathlib.Numerals.{add-one}
 use native.Mathlib.Omega.{arith}
 use lib.ListN.{length}
 use Rattle.sums.specs.Sum.{sum, sum-suc, sum-ext, sum-cong, sum-none, sum-ge, sum-part}
+use Rattle.sums.specs.Products.{product-le}
 use Rattle.node_pairs.specs.Cells.{pairS2, pairS3}
 use Rattle.node_pairs.specs.CellTotals.{pairS2-few, pairS3-few}
 use Rattle.node_pairs.specs.CellsAlike.{pairS2-ext, pairS3-ext}
@@ -39,12 +39,6 @@ module _ (f g : ℕ → ℕ) (i s2 s3 : ℕ) (h : Summed f g i s2 s3) where
   summed-next a b ea eb = record {
     s2-is = omega (arith, h .s2-is, ea, sum-more i f);
     s3-is = omega (arith, h .s3-is, eb, sum-more i g);
-  }
-
-  pub summed-skip : f i ≡ 0 → g i ≡ 0 → Summed f g (i + 1) s2 s3
-  summed-skip ef eg = record {
-    s2-is = omega (arith, h .s2-is, ef, sum-more i f);
-    s3-is = omega (arith, h .s3-is, eg, sum-more i g);
   }
 
   -- a part is no more than the whole
@@ -80,12 +74,9 @@ few-S3 d d' I l = pairS3-few d d' I (inr (omega arith))
 
 module _ (work : List ℕ) (w n : ℕ) (rows columns : List ℕ) (size : ℕ)
     (h : NodePair work w n rows columns size) where
-  small : (d d' : ℕ) → d ≤ 256 → d' ≤ 256 → d * d' ≤ 256 * 256
-  small d d' l m = mul-le-mul l m
-
   pub block-room : length rows * length columns ≤ size
   block-room =
-      let b = small (length rows) (length columns) (h .edges .rows-few) (h .edges .columns-few) in
+      let b = product-le 256 256 (length rows) (length columns) (h .edges .rows-few) (h .edges .columns-few) in
       omega (arith, b, h .room)
 
   module _ (block : List ℕ) (q : RowsFilled work w n rows columns block (length rows)) where

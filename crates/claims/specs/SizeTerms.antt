@@ -3,10 +3,10 @@
 use mathlib.Core.Path.{_≡_, refl, sym, _∙_, ap, ap₂}
 use mathlib.Core.List.{List}
 use Prim.Native.Nat.{ℕ, _+_, _*_, _-_, _/_, _≤_, _<_}
-use native.Mathlib.Nat.{mul-le-mul}
 use native.Mathlib.Omega.{arith}
 use lib.ListN.{length}
 use Rattle.sums.specs.Sum.{sum, sum-cong, sum-ge, sum-mul-right}
+use Rattle.sums.specs.Products.{product-le}
 use Rattle.shapes.specs.Claims.{choose2}
 use Rattle.node_pairs.specs.NodeSums.{others, others-and-own, node-closed}
 use Rattle.trees.specs.Table.{word}
@@ -19,9 +19,6 @@ pub record SizesFew (sizes : List ℕ) (count : ℕ) : Type 0 where
   pub few : count ≤ 256
   pub whole : sum count (word sizes) ≤ 256
 
-small-product : (x p y q : ℕ) → x ≤ p → y ≤ q → x * y ≤ p * q
-small-product x p y q l m = mul-le-mul l m
-
 -- ---- one size
 
 pub pairs-none : 0 ≡ choose2 0
@@ -29,7 +26,7 @@ unfolding choose2
 pairs-none = refl
 
 pub pairs-fit : (s : ℕ) → s ≤ 256 → s * (s - 1) ≤ 65536
-pairs-fit s l = small-product s 256 (s - 1) 256 l (omega arith)
+pairs-fit s l = product-le 256 256 s (s - 1) l (omega arith)
 
 pub pairs-some : (s : ℕ) → s ≤ 256 → (s * (s - 1) / 2 ≡ choose2 s) × (s * (s - 1) / 2 ≤ 32768)
 unfolding choose2
@@ -40,7 +37,7 @@ unfolding choose2
 pairs-most s l = omega (arith, pairs-fit s l)
 
 pub squares-most : (s o : ℕ) → s ≤ 256 → o ≤ 256 → (o * o ≤ 65536) × (s * s ≤ 65536)
-squares-most s o l m = (small-product o 256 o 256 m m, small-product s 256 s 256 l l)
+squares-most s o l m = (product-le 256 256 o o m m, product-le 256 256 s s l l)
 
 -- what a code with s tips behind it gives, where o tips are behind the others
 abbrev pub sizeTerm : ℕ → ℕ → ℕ
@@ -49,7 +46,7 @@ sizeTerm s o = choose2 s * (o * o + s * s)
 pub size-term-most : (s o p : ℕ) → p ≡ choose2 s → s ≤ 256 → o ≤ 256 → p * (o * o + s * s) ≤ 4294967296
 size-term-most s o p e l m =
     let q = squares-most s o l m in
-    small-product p 32768 (o * o + s * s) 131072 (omega (arith, e, pairs-most s l)) (omega (arith, q .0, q .1))
+    product-le 32768 131072 p (o * o + s * s) (omega (arith, e, pairs-most s l)) (omega (arith, q .0, q .1))
 
 -- ---- a line of sizes
 

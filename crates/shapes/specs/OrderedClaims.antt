@@ -179,7 +179,7 @@ unfolding sum
 gauss zero = refl
 gauss (suc k) = omega (arith, gauss k)
 
-choose2-square : (k : ℕ) → 2 * choose2 k + k ≡ k * k
+pub choose2-square : (k : ℕ) → 2 * choose2 k + k ≡ k * k
 unfolding choose2
 choose2-square k = ap (λ (x : ℕ). 2 * (x / 2) + k) (even k) ∙ half (sum k (λ i. i)) ∙ gauss k
   where

@@ -4,6 +4,7 @@ use mathlib.Core.Path.{_≡_, refl, _∙_, ap, ap₂}
 use mathlib.Core.Bool.{Bool, true, false, not, _&&_}
 use mathlib.Core.Logic.{inl, inr, _≢_}
 use Prim.Native.Nat.{ℕ, zero, suc, _+_, _*_, _≤_, _<_}
+use native.Mathlib.Nat.{mul-le-mul}
 use native.Mathlib.Omega.{arith}
 use lib.Dec.{eqb}
 use Rattle.sums.specs.Sum.{sum, sum-ext, sum-cong, sum-add, sum-mul-left, sum-mul-right}
@@ -25,6 +26,10 @@ bit-and false false = refl
 -- a bit in both factors counts once
 pub ne-once : (a b x y : ℕ) → (ne a b * x) * (ne a b * y) ≡ ne a b * (x * y)
 ne-once a b x y = omega (arith, ap (λ (z : ℕ). z * (x * y)) (bit-sq (not (eqb a b))))
+
+-- a product of low numbers is low
+pub product-le : (p q x y : ℕ) → x ≤ p → y ≤ q → x * y ≤ p * q
+product-le p q x y l m = mul-le-mul l m
 
 -- ---- a product that is not 0 has no factor 0
 

@@ -4,10 +4,11 @@ use mathlib.Core.Path.{_≡_, refl, _∙_, ap, subst}
 use mathlib.Core.List.{List}
 use mathlib.Core.Logic.{_≢_}
 use Prim.Native.Nat.{ℕ, suc, _+_, _*_, _-_, _≤_, _<_}
-use native.Mathlib.Nat.{suc-mul, mul-le-mul, mul-le-mul-right, lt-of-not-le}
+use native.Mathlib.Nat.{suc-mul, mul-le-mul-right, lt-of-not-le}
 use native.Mathlib.Decide.{decLt}
 use native.Mathlib.Omega.{arith}
 use lib.ListN.{length}
+use Rattle.sums.specs.Products.{product-le}
 use Rattle.shapes.specs.Ancestors.{Rooted, parent-lt}
 use Rattle.shapes.specs.Totals.{total, AddedFrom, added-from-none, added-from-all}
 use Rattle.shapes.specs.Totals.{added-from-next, added-from-le}
@@ -48,7 +49,7 @@ row-end a b w l = rw (← suc-mul) (mul-le-mul-right w l)
 
 -- a row begins at word 2¹⁸ or before
 pub row-near : (a w : ℕ) → a ≤ 512 → w ≤ 512 → a * w ≤ 262144
-row-near a w h k = mul-le-mul h k
+row-near a w h k = product-le 512 512 a w h k
 
 pub rows-none : (ps old : List ℕ) (w : ℕ) → Room ps old w → AddingRows ps old w (length ps) old
 rows-none ps old w a = record {

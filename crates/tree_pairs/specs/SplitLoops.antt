@@ -3,12 +3,13 @@
 use mathlib.Core.Path.{_≡_, refl, sym, ap, subst, _∙_}
 use mathlib.Core.Bool.{Bool, true, false}
 use Prim.Native.Nat.{ℕ, _+_, _*_, _≤_, _<_}
-use native.Mathlib.Nat.{mul-le-mul, mul-le-mul-right}
+use native.Mathlib.Nat.{mul-le-mul-right}
 use native.Mathlib.Numerals.{add-one}
 use native.Mathlib.Omega.{arith}
 use lib.Dec.{T}
 use Rattle.sums.specs.Sum.{sum, sum-suc}
 use Rattle.sums.specs.Bits.{bit, bit-T, bit-no}
+use Rattle.sums.specs.Products.{product-le}
 use Rattle.sums.specs.Counts.{count, count-le}
 
 -- ---- room
@@ -27,13 +28,10 @@ pub record RowRoom (cells base width : ℕ) : Type 0 where
   pub narrow : width ≤ 512
   pub inside : base + width ≤ cells
 
-product-le : (x p y q : ℕ) → x ≤ p → y ≤ q → x * y ≤ p * q
-product-le x p y q l m = mul-le-mul l m
-
 pub row-room : (cells rows width n : ℕ) → SplitRoom cells rows width n → (i : ℕ) → i < rows
     → RowRoom cells (i * width) width
 row-room cells rows width n a i l = record {
-  low = omega (arith, product-le i 512 width 512 (omega (arith, a .few)) (a .narrow));
+  low = omega (arith, product-le 512 512 i width (omega (arith, a .few)) (a .narrow));
   narrow = a .narrow;
   inside = omega (arith, a .inside, ends);
 }

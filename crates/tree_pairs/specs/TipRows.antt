@@ -4,11 +4,12 @@ use mathlib.Core.Path.{_≡_, refl, sym, _∙_, ap, subst}
 use mathlib.Core.List.{List}
 use Prim.Native.Nat.{ℕ, zero, suc, _+_, _*_, _-_, _≤_, _<_}
 use native.Mathlib.Decide.{ℕ-discrete}
-use native.Mathlib.Nat.{zero-mul, mul-le-mul, mul-le-mul-right}
+use native.Mathlib.Nat.{zero-mul, mul-le-mul-right}
 use native.Mathlib.Omega.{arith}
 use lib.Dec.{ltb}
 use lib.ListN.{length, set, length-set}
 use lib.Seq.{getD-set-same, getD-set-other}
+use Rattle.sums.specs.Products.{product-le}
 use Rattle.sums.specs.Sum.{sum-ext}
 use Rattle.sums.specs.Bits.{bit, bit-le, bit-T, bit-no, is, is-eq, is-other}
 use Rattle.sums.specs.Tests.{lt-iff}
@@ -131,9 +132,6 @@ next-row v w l =
     let e : v + 1 - 1 ≡ v = omega arith in
     ap (λ (x : ℕ). x * w) e ∙ sym (row-end v w l)
 
-product-le : (x p y q : ℕ) → x ≤ p → y ≤ q → x * y ≤ p * q
-product-le x p y q l m = mul-le-mul l m
-
 -- an earlier row ends before a later one begins
 row-before : (u v w : ℕ) → u ≤ v → u * w ≤ v * w
 row-before u v w l = mul-le-mul-right w l
@@ -155,7 +153,7 @@ module _ (ls : List ℕ) (n : ℕ) (ps nodes old : List ℕ) (a : TipRoom ls n p
   pub base-low : (v - 1) * (length ps - 1) ≤ 262144
   base-low = omega (
     arith,
-    product-le (v - 1) 512 (length ps - 1) 512 (omega (arith, a .rows)) (omega (arith, a .few)),
+    product-le 512 512 (v - 1) (length ps - 1) (omega (arith, a .rows)) (omega (arith, a .few)),
   )
 
   pub mark-room : (x : ℕ) → x ≡ word ls v → x < n

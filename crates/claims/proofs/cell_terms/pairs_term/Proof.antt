@@ -5,8 +5,8 @@ use Prim.Native.Nat.{_+_, _*_, _-_, _/_, _≤_}
 use native.Mathlib.Nat.{le-trans}
 use native.Mathlib.Omega.{arith}
 use Rattle.shapes.specs.Claims.{choose2}
-use Rattle.claims.specs.Lines.{product-le}
 use borrow.Author.Needs.{needs}
+use Rattle.sums.specs.Products.{product-le}
 use Rattle.claims.proofs.cell_terms.pairs_term.Statement.{statement}
 use Rattle.claims.proofs.cell_terms.pairs_term.Tie as tie
 

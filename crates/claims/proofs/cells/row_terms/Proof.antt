@@ -7,8 +7,8 @@ use Prim.Native.Nat.{ℕ, _+_, _*_, _-_, _≤_, _<_}
 use native.Mathlib.Omega.{arith}
 use lib.ListN.{length}
 use Rattle.trees.specs.Table.{word}
+use Rattle.sums.specs.Products.{product-le}
 use Rattle.claims.specs.Block.{blockCell}
-use Rattle.claims.specs.Lines.{product-le}
 use Rattle.claims.specs.CellSums.{RowTerms, row-none, row-next, row-skip, row-same}
 use Rattle.claims.specs.BlockCells.{row-inside, cell-room, cell-gives}
 use borrow.Author.Needs.{needs}

@@ -5,7 +5,8 @@ use Prim.Native.Nat.{ℕ, _+_, _*_, _-_, _≤_}
 use native.Mathlib.Omega.{arith}
 use Rattle.sums.specs.Sum.{sum}
 use Rattle.trees.specs.Table.{word}
-use Rattle.claims.specs.Lines.{lineCell, restCell, product-le, sum-step}
+use Rattle.sums.specs.Products.{product-le}
+use Rattle.claims.specs.Lines.{lineCell, restCell, sum-step}
 use borrow.Author.Needs.{needs}
 use Rattle.claims.proofs.lines.line_rest.Statement.{statement}
 use Rattle.claims.proofs.lines.line_rest.Tie as tie

@@ -5,7 +5,8 @@ use Prim.Native.Nat.{ℕ, _+_, _*_, _-_, _≤_}
 use native.Mathlib.Omega.{arith}
 use Rattle.sums.specs.Sum.{sum}
 use Rattle.trees.specs.Table.{word}
-use Rattle.claims.specs.Lines.{lineCell, product-le, sum-step}
+use Rattle.sums.specs.Products.{product-le}
+use Rattle.claims.specs.Lines.{lineCell, sum-step}
 use borrow.Author.Needs.{needs}
 use Rattle.claims.proofs.lines.line_sum.Statement.{statement}
 use Rattle.claims.proofs.lines.line_sum.Tie as tie
