@@ -2,14 +2,14 @@
 -- Assumes nothing.
 use mathlib.Core.Path.{_≡_, refl}
 use mathlib.Core.List.{[], _∷_}
-use Prim.Native.Nat.{ℕ}
 use Rattle.pair_file.specs.declared.figures.Figures.{Figures}
 use Rattle.pair_file.specs.Decimal.{decimalIn, decimalOf}
 use Rattle.pair_file.specs.Lines.{spaced, spacedAll, line}
+use Rattle.pair_file.specs.PairFigures.{ofRefusal}
 use Rattle.pair_file.specs.Listing.{firstLines, quartetLines, splitLine, lines, listed}
 
 -- the figures of P and Q, K1 of document 01
-abbrev ofPAndQ : Figures
+abbrev pub ofPAndQ : Figures
 ofPAndQ = record {
   refusal = 0;
   tips = 5;
@@ -17,17 +17,6 @@ ofPAndQ = record {
   quartets = record { a = 3; b = 0; c = 2; d = 0; e = 0 };
   distance = 2;
   splits = record { first = 2; second = 1; common = 1; distance = 1 };
-}
-
--- a refusal, with nothing but zeros beside it
-abbrev ofRefusal : ℕ → Figures
-ofRefusal k = record {
-  refusal = k;
-  tips = 0;
-  claims = record { first = 0; second = 0; same = 0; different = 0 };
-  quartets = record { a = 0; b = 0; c = 0; d = 0; e = 0 };
-  distance = 0;
-  splits = record { first = 0; second = 0; common = 0; distance = 0 };
 }
 
 -- leaves 5

@@ -1,0 +1,82 @@
+-- The answers of the libraries as plain structs, field by field.
+-- Assumes nothing.
+use mathlib.Core.Path.{_≡_, refl}
+use Prim.Native.Nat.{ℕ}
+use Rattle.trees.specs.declared.centres.CentreAnswer as trees-centre
+use Rattle.trees.specs.declared.quartet.TopologyAnswer as trees-topology
+use Rattle.trees.specs.declared.quartet.Topology.{Topology}
+use Rattle.trees.specs.declared.quartet.Topology.the-variants.{Butterfly, Star}
+use Rattle.tree_pairs.specs.declared.counts.SplitCounts.{SplitCounts}
+use Rattle.claims.specs.declared.totals.ClaimSums.{ClaimSums}
+use Rattle.quartets.specs.declared.tables.QuartetTable.{QuartetTable}
+use Rattle.capi.specs.declared.answers.CentreAnswer.{CentreAnswer}
+use Rattle.capi.specs.declared.answers.TopologyAnswer.{TopologyAnswer}
+use Rattle.capi.specs.declared.answers.ClaimSumsAnswer.{ClaimSumsAnswer}
+use Rattle.capi.specs.declared.answers.QuartetTableAnswer.{QuartetTableAnswer}
+use Rattle.capi.specs.declared.answers.SplitCountsAnswer.{SplitCountsAnswer}
+
+unfoldable pub plainCentre : trees-centre.CentreAnswer → CentreAnswer
+plainCentre a = record { refusal = a .refusal; node = a .node }
+
+-- 1 for a butterfly and 0 for a star
+abbrev pub butterflyOf : Topology → ℕ
+butterflyOf (Butterfly p) = 1
+butterflyOf Star = 0
+
+-- the partner of the smallest label, 0 for a star
+abbrev pub partnerOf : Topology → ℕ
+partnerOf (Butterfly p) = p
+partnerOf Star = 0
+
+unfoldable pub plainTopology : trees-topology.TopologyAnswer → TopologyAnswer
+plainTopology a = record {
+  refusal = a .refusal;
+  butterfly = butterflyOf (a .topology);
+  partner = partnerOf (a .topology);
+}
+
+unfoldable pub plainClaims : ClaimSums → ClaimSumsAnswer
+plainClaims a = record {
+  refusal = a .refusal;
+  first = a .first;
+  second = a .second;
+  same = a .same;
+  different = a .different;
+}
+
+unfoldable pub plainTable : QuartetTable → QuartetTableAnswer
+plainTable a = record {
+  refusal = a .refusal;
+  a = a .a;
+  b = a .b;
+  c = a .c;
+  d = a .d;
+  e = a .e;
+  distance = a .distance;
+}
+
+unfoldable pub plainSplits : SplitCounts → SplitCountsAnswer
+plainSplits a = record {
+  refusal = a .refusal;
+  first = a .first;
+  second = a .second;
+  common = a .common;
+  distance = a .distance;
+}
+
+-- from the widened counts
+pub splits-plain : (r : SplitCounts) (a b c d : ℕ) → a ≡ r .first → b ≡ r .second → c ≡ r .common → d ≡ r .distance
+    → record { refusal = r .refusal; first = a; second = b; common = c; distance = d } ≡ plainSplits r
+unfolding plainSplits
+splits-plain r a b c d ea eb ec ed = rw (ea, eb, ec, ed) refl
+
+-- from the case of the topology
+pub butterfly-plain : (r : trees-topology.TopologyAnswer) (p : ℕ) → r .topology ≡ Butterfly p
+    → record { refusal = r .refusal; butterfly = 1; partner = p } ≡ plainTopology r
+unfolding plainTopology
+butterfly-plain r p e = rw e refl
+
+pub star-plain : (r : trees-topology.TopologyAnswer) → r .topology ≡ Star
+    → record { refusal = r .refusal; butterfly = 0; partner = 0 } ≡ plainTopology r
+unfolding plainTopology
+star-plain r e = rw e refl

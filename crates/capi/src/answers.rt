@@ -1,0 +1,48 @@
+// The answers as plain structs, laid out as in C.
+
+// The number; the node, or 0.
+#[repr(C)]
+pub struct CentreAnswer {
+    pub refusal: u16,
+    pub node: u16,
+}
+
+// The number; 1 for a butterfly and 0 for a star; the partner of the smallest label, or 0.
+#[repr(C)]
+pub struct TopologyAnswer {
+    pub refusal: u16,
+    pub butterfly: u16,
+    pub partner: u16,
+}
+
+// The number; S, S', S2 and S3.
+#[repr(C)]
+pub struct ClaimSumsAnswer {
+    pub refusal: u16,
+    pub first: u64,
+    pub second: u64,
+    pub same: u64,
+    pub different: u64,
+}
+
+// The number; A to E and B + C + D.
+#[repr(C)]
+pub struct QuartetTableAnswer {
+    pub refusal: u16,
+    pub a: u64,
+    pub b: u64,
+    pub c: u64,
+    pub d: u64,
+    pub e: u64,
+    pub distance: u64,
+}
+
+// The number; the splits of the first tree, of the second, of both; and the Robinson-Foulds distance.
+#[repr(C)]
+pub struct SplitCountsAnswer {
+    pub refusal: u16,
+    pub first: u64,
+    pub second: u64,
+    pub common: u64,
+    pub distance: u64,
+}

@@ -1,0 +1,168 @@
+// The exported functions. A slice is a pointer to its elements, then their number.
+use super::answers::CentreAnswer;
+use super::answers::ClaimSumsAnswer;
+use super::answers::QuartetTableAnswer;
+use super::answers::SplitCountsAnswer;
+use super::answers::TopologyAnswer;
+use quartets::claim_sums;
+use quartets::crossings;
+use quartets::quartet_table;
+use quartets::split_counts;
+use trees::Topology;
+use trees::centre;
+use trees::check;
+use trees::refusal_of;
+use trees::topology_of;
+use trees::walk;
+ghost use mathlib.Core.Path.{_≡_};
+ghost use lib.ListN.{length};
+ghost use Rattle.trees.specs.Refusals.{refusal};
+ghost use Rattle.trees.specs.TreeCheck.{treeOrder};
+ghost use Rattle.trees.specs.Orders.{walkOrder};
+ghost use Rattle.trees.specs.Walk.{afterWalk};
+ghost use Rattle.trees.specs.Centre.{centreAnswer};
+ghost use Rattle.trees.specs.Topology.{topologyAnswer};
+ghost use Rattle.tree_pairs.specs.PairOrder.{pairOrder};
+ghost use Rattle.tree_pairs.specs.Crossings.{afterCrossings};
+ghost use Rattle.tree_pairs.specs.SplitAnswer.{splitAnswer};
+ghost use Rattle.claims.specs.SumsOf.{claimAnswer};
+ghost use Rattle.quartets.specs.QuartetAnswer.{quartetAnswer};
+ghost use Rattle.capi.specs.PlainAnswers.{plainCentre, plainTopology, plainClaims, plainTable, plainSplits};
+
+// The tree check's number.
+#[no_mangle]
+pub extern "C" fn leskwyn_check(table: &[u16]) -> u16
+    ensures { λ r. ⌜ r ≡ refusal (treeOrder (now (table .entry))) ⌝ }
+{
+    refusal_of(check(table))
+}
+
+// The walk's number, and the labels in the lent cells.
+#[no_mangle]
+pub extern "C" fn leskwyn_walk(table: &[u16], cells: &mut [u16]) -> u16
+    ensures { λ r. ⌜
+        (r ≡ refusal (walkOrder (now (table .entry)) (length (now (cells .entry)))))
+        × (now (cells .exit) ≡ afterWalk (now (table .entry)) (now (cells .entry)))
+        ⌝ }
+{
+    walk(table, cells)
+}
+
+// The centre of three labels.
+#[no_mangle]
+pub extern "C" fn leskwyn_centre(table: &[u16], a: u16, b: u16, c: u16) -> CentreAnswer
+    ensures { λ r. ⌜ r ≡ plainCentre (centreAnswer (now (table .entry)) a b c) ⌝ }
+{
+    let answer = centre(table, a, b, c);
+    CentreAnswer {
+        refusal: answer.refusal,
+        node: answer.node,
+    }
+}
+
+// The topology of four labels.
+#[no_mangle]
+pub extern "C" fn leskwyn_topology(table: &[u16], a: u16, b: u16, c: u16, d: u16) -> TopologyAnswer
+    ensures { λ r. ⌜ r ≡ plainTopology (topologyAnswer (now (table .entry)) a b c d) ⌝ }
+{
+    let answer = topology_of(table, a, b, c, d);
+    let topology = answer.topology;
+    match topology {
+        Topology::Butterfly(partner) => TopologyAnswer {
+            refusal: answer.refusal,
+            butterfly: 1,
+            partner,
+        },
+        Topology::Star => TopologyAnswer {
+            refusal: answer.refusal,
+            butterfly: 0,
+            partner: 0,
+        },
+    }
+}
+
+// The pair's number, and the crossings in the lent cells.
+#[no_mangle]
+pub extern "C" fn leskwyn_crossings(first: &[u16], second: &[u16], work: &mut [u16]) -> u16
+    ensures { λ r. ⌜
+        (r ≡ refusal (pairOrder (now (first .entry)) (now (second .entry)) (length (now (work .entry)))))
+        × (now (work .exit) ≡ afterCrossings (now (first .entry)) (now (second .entry)) (now (work .entry)))
+        ⌝ }
+{
+    crossings(first, second, work)
+}
+
+// The claim sums, and the crossings in the lent cells.
+#[no_mangle]
+pub extern "C" fn leskwyn_claim_sums(
+    first: &[u16],
+    second: &[u16],
+    work: &mut [u16],
+) -> ClaimSumsAnswer
+    ensures { λ r. ⌜
+        (r ≡ plainClaims (claimAnswer (now (first .entry)) (now (second .entry)) (length (now (work .entry)))))
+        × (now (work .exit) ≡ afterCrossings (now (first .entry)) (now (second .entry)) (now (work .entry)))
+        ⌝ }
+{
+    let sums = claim_sums(first, second, work);
+    ClaimSumsAnswer {
+        refusal: sums.refusal,
+        first: sums.first,
+        second: sums.second,
+        same: sums.same,
+        different: sums.different,
+    }
+}
+
+// The quartet table, and the crossings in the lent cells.
+#[no_mangle]
+pub extern "C" fn leskwyn_quartet_table(
+    first: &[u16],
+    second: &[u16],
+    work: &mut [u16],
+) -> QuartetTableAnswer
+    ensures { λ r. ⌜
+        (r ≡ plainTable (quartetAnswer (now (first .entry)) (now (second .entry)) (length (now (work .entry)))))
+        × (now (work .exit) ≡ afterCrossings (now (first .entry)) (now (second .entry)) (now (work .entry)))
+        ⌝ }
+{
+    let table = quartet_table(first, second, work);
+    QuartetTableAnswer {
+        refusal: table.refusal,
+        a: table.a,
+        b: table.b,
+        c: table.c,
+        d: table.d,
+        e: table.e,
+        distance: table.distance,
+    }
+}
+
+// A count as a wider one.
+fn widened(x: u16) -> u64
+    ensures { λ r. ⌜ r ≡ x ⌝ }
+{
+    x as u64
+}
+
+// The split counts, and the crossings in the lent cells.
+#[no_mangle]
+pub extern "C" fn leskwyn_split_counts(
+    first: &[u16],
+    second: &[u16],
+    work: &mut [u16],
+) -> SplitCountsAnswer
+    ensures { λ r. ⌜
+        (r ≡ plainSplits (splitAnswer (now (first .entry)) (now (second .entry)) (length (now (work .entry)))))
+        × (now (work .exit) ≡ afterCrossings (now (first .entry)) (now (second .entry)) (now (work .entry)))
+        ⌝ }
+{
+    let counts = split_counts(first, second, work);
+    SplitCountsAnswer {
+        refusal: counts.refusal,
+        first: widened(counts.first),
+        second: widened(counts.second),
+        common: widened(counts.common),
+        distance: widened(counts.distance),
+    }
+}

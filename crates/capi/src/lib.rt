@@ -1,0 +1,4 @@
+// The operations for callers in C and Rust: numbers, slices and plain structs. Each has the promise of the operation that
+// it wraps.
+mod answers; // answers.rt: the answers as plain structs
+mod exports; // exports.rt: the exported functions

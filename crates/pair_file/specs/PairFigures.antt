@@ -1,0 +1,140 @@
+-- The figures of a pair of tables and of a file, as the code finds them.
+-- Assumes nothing.
+use mathlib.Core.Path.{_≡_, refl, sym, _∙_, ap, ap₂}
+use mathlib.Core.Logic.{_≢_}
+use mathlib.Core.List.{List}
+use Prim.Native.Nat.{ℕ, zero, suc, _+_, _%_, _≤_, _<_}
+use native.Mathlib.Omega.{arith}
+use lib.ListN.{length, take}
+use Rattle.trees.specs.Table.{Table, word, tips, rest}
+use Rattle.trees.specs.Refusals.{refusal, ifAccepted}
+use Rattle.counting.specs.ClaimSums.{S, S2, S3}
+use Rattle.counting.specs.Cases.{A, B, C, D, E, quartets}
+use Rattle.counting.specs.SplitCounts.{splits, commonSplits, robinsonFoulds}
+use Rattle.tree_pairs.specs.PairOrder.{pairOrder, pair-check}
+use Rattle.tree_pairs.specs.SplitAnswer.{splitAnswer}
+use Rattle.tree_pairs.specs.SplitAnswer as split_counts
+use Rattle.tree_pairs.specs.declared.counts.SplitCounts.{SplitCounts}
+use Rattle.claims.specs.SumsOf.{claimAnswer}
+use Rattle.claims.specs.SumsOf as claim_sums
+use Rattle.claims.specs.declared.totals.ClaimSums.{ClaimSums}
+use Rattle.quartets.specs.QuartetAnswer.{quartetAnswer}
+use Rattle.quartets.specs.QuartetAnswer as quartet_table
+use Rattle.quartets.specs.declared.tables.QuartetTable.{QuartetTable}
+use Rattle.pair_file.specs.declared.figures.Figures.{Figures}
+use Rattle.pair_file.specs.PairFile.{fileWords, firstLength, firstTable, secondTable, wordsOrder}
+use Rattle.pair_file.specs.PairFile.{fileOrder, figuresOf, comparison}
+use Rattle.pair_file.specs.FileWords.{first-part, second-part}
+use Rattle.pair_file.specs.FileOrder.{too-long, odd-length, even-length}
+
+-- the number of a refusal, and zeros
+abbrev pub ofRefusal : ℕ → Figures
+ofRefusal number = record {
+  refusal = number;
+  tips = 0;
+  claims = record { first = 0; second = 0; same = 0; different = 0 };
+  quartets = record { a = 0; b = 0; c = 0; d = 0; e = 0 };
+  distance = 0;
+  splits = record { first = 0; second = 0; common = 0; distance = 0 };
+}
+
+-- the figures of two tables, by the pair's order
+unfoldable pub pairFigures : Table → Table → Figures
+pairFigures t u = figuresOf (refusal (pairOrder t u 15625)) t u
+
+-- the figures of a file's words
+unfoldable pub wordFigures : List ℕ → Figures
+wordFigures words = pairFigures (firstTable words) (secondTable words)
+
+-- the figures of three answers that are no refusals
+abbrev pub answered : ℕ → ClaimSums → QuartetTable → SplitCounts → Figures
+answered n sums cases counts = record {
+  refusal = 0;
+  tips = n;
+  claims = record {
+    first = sums .first;
+    second = sums .second;
+    same = sums .same;
+    different = sums .different;
+  };
+  quartets = record { a = cases .a; b = cases .b; c = cases .c; d = cases .d; e = cases .e };
+  distance = cases .distance;
+  splits = record {
+    first = counts .first;
+    second = counts .second;
+    common = counts .common;
+    distance = counts .distance;
+  };
+}
+
+-- ---- the definitions, number by number
+
+-- a refusal leaves zeros, whatever the tables
+figures-refused : (k : ℕ) (t u : Table) → k ≢ 0 → ofRefusal k ≡ figuresOf k t u
+unfolding figuresOf ifAccepted
+figures-refused zero t u d = absurd (d refl)
+figures-refused (suc k) t u d = refl
+
+figures-answered : (t u : Table) → answered (tips t)
+    (claim_sums.answer 0 (S t) (S u) (S2 t u) (S3 t u))
+    (quartet_table.answer 0
+    (quartets t u A) (quartets t u B) (quartets t u C) (quartets t u D) (quartets t u E)
+    (quartets t u B + quartets t u C + quartets t u D))
+    (split_counts.answer 0 (splits t) (splits u) (commonSplits t u) (robinsonFoulds t u))
+    ≡ figuresOf 0 t u
+unfolding figuresOf ifAccepted claim_sums.answer quartet_table.answer split_counts.answer
+figures-answered t u = refl
+
+-- ---- as the code finds them
+
+module _ (t u : Table) (sums : ClaimSums) (e : sums ≡ claimAnswer t u 15625) where
+  own-number : sums .refusal ≡ refusal (pairOrder t u 15625)
+  unfolding claimAnswer claim_sums.answer
+  own-number = ap (λ (x : ClaimSums). x .refusal) e
+
+  pub pair-refused : sums .refusal ≢ 0 → ofRefusal (sums .refusal) ≡ pairFigures t u
+  unfolding pairFigures
+  pair-refused d = figures-refused (sums .refusal) t u d ∙ ap (λ (k : ℕ). figuresOf k t u) own-number
+
+  module _ (z : sums .refusal ≡ 0) where
+    number : refusal (pairOrder t u 15625) ≡ 0
+    number = sym own-number ∙ z
+
+    -- an accepted table has a first word
+    pub first-word : 1 ≤ length t
+    first-word = omega (arith, pair-check t u 15625 .0 number .first .words)
+
+    pub pair-accepted : (cases : QuartetTable) (counts : SplitCounts) → cases ≡ quartetAnswer t u 15625
+        → counts ≡ splitAnswer t u 15625 → answered (word t 0) sums cases counts ≡ pairFigures t u
+    unfolding pairFigures claimAnswer quartetAnswer splitAnswer tips
+    pair-accepted cases counts ec es = rw (e, ec, es, number) (figures-answered t u)
+
+-- ---- a whole file
+
+-- the parts of the words that are lent: `&words[..k]` and `&words[k..]`
+pub parts-compared : (words : List ℕ) (k : ℕ) → k ≡ firstLength words
+    → pairFigures (take k words) (rest k words) ≡ wordFigures words
+unfolding wordFigures
+parts-compared words k e = ap₂ pairFigures (first-part words k e) (second-part words k e)
+
+module _ (bytes : List ℕ) where
+  file-refused : (k : ℕ) → k ≢ 0 → refusal (fileOrder bytes) ≡ k → ofRefusal k ≡ comparison bytes
+  unfolding comparison
+  file-refused k d e =
+      let t = firstTable (fileWords bytes) in
+      let u = secondTable (fileWords bytes) in
+      figures-refused k t u d ∙ ap (λ (j : ℕ). figuresOf j t u) (sym e)
+
+  pub file-too-long : 1016 < length bytes → ofRefusal 14 ≡ comparison bytes
+  file-too-long l = file-refused 14 (λ z. omega (arith, z)) (too-long bytes l)
+
+  module _ (l : length bytes ≤ 1016) where
+    pub file-odd : length bytes % 2 ≢ 0 → ofRefusal 15 ≡ comparison bytes
+    file-odd d = file-refused 15 (λ z. omega (arith, z)) (odd-length bytes l d)
+
+    pub file-compared : length bytes % 2 ≡ 0 → wordFigures (fileWords bytes) ≡ comparison bytes
+    unfolding comparison wordFigures pairFigures wordsOrder
+    file-compared e =
+        let t = firstTable (fileWords bytes) in
+        let u = secondTable (fileWords bytes) in
+        ap (λ (j : ℕ). figuresOf j t u) (sym (even-length bytes l e))

@@ -1,0 +1,134 @@
+// One comparison file, compared: its bytes cut into two tables, and the three counts of the pair.
+use super::figures::Claims;
+use super::figures::Figures;
+use super::figures::Quartets;
+use super::figures::Splits;
+use super::words::decode;
+use super::words::first_length;
+use quartets::ClaimSums;
+use quartets::QuartetTable;
+use quartets::SplitCounts;
+use quartets::claim_sums;
+use quartets::quartet_table;
+use quartets::split_counts;
+ghost use mathlib.Core.Path.{_≡_};
+ghost use Rattle.tree_pairs.specs.SplitAnswer.{splitAnswer};
+ghost use Rattle.claims.specs.SumsOf.{claimAnswer};
+ghost use Rattle.quartets.specs.QuartetAnswer.{quartetAnswer};
+ghost use Rattle.pair_file.specs.PairFile.{comparison};
+ghost use Rattle.pair_file.specs.PairFigures.{ofRefusal, pairFigures, wordFigures};
+
+// The claim sums, with work of their own.
+fn claims_of(first: &[u16], second: &[u16]) -> ClaimSums
+    ensures { λ r. ⌜ r ≡ claimAnswer (now (first .entry)) (now (second .entry)) 15625 ⌝ }
+{
+    let mut work = [0u16; 15625];
+    claim_sums(first, second, &mut work)
+}
+
+// The quartet table, with work of its own.
+fn quartets_of(first: &[u16], second: &[u16]) -> QuartetTable
+    ensures { λ r. ⌜ r ≡ quartetAnswer (now (first .entry)) (now (second .entry)) 15625 ⌝ }
+{
+    let mut work = [0u16; 15625];
+    quartet_table(first, second, &mut work)
+}
+
+// The split counts, with work of their own.
+fn splits_of(first: &[u16], second: &[u16]) -> SplitCounts
+    ensures { λ r. ⌜ r ≡ splitAnswer (now (first .entry)) (now (second .entry)) 15625 ⌝ }
+{
+    let mut work = [0u16; 15625];
+    split_counts(first, second, &mut work)
+}
+
+// The number of a refusal, and zeros.
+fn refused(number: u16) -> Figures
+    ensures { λ r. ⌜ r ≡ ofRefusal number ⌝ }
+{
+    Figures {
+        refusal: number,
+        tips: 0,
+        claims: Claims {
+            first: 0,
+            second: 0,
+            same: 0,
+            different: 0,
+        },
+        quartets: Quartets {
+            a: 0,
+            b: 0,
+            c: 0,
+            d: 0,
+            e: 0,
+        },
+        distance: 0,
+        splits: Splits {
+            first: 0,
+            second: 0,
+            common: 0,
+            distance: 0,
+        },
+    }
+}
+
+// The figures of two tables, by the pair's order.
+fn compare_tables(first: &[u16], second: &[u16]) -> Figures
+    ensures { λ r. ⌜ r ≡ pairFigures (now (first .entry)) (now (second .entry)) ⌝ }
+{
+    let sums = claims_of(first, second);
+    let number = sums.refusal;
+    if number != 0 {
+        return refused(number);
+    }
+    let cases = quartets_of(first, second);
+    let counts = splits_of(first, second);
+    Figures {
+        refusal: 0,
+        tips: first[0],
+        claims: Claims {
+            first: sums.first,
+            second: sums.second,
+            same: sums.same,
+            different: sums.different,
+        },
+        quartets: Quartets {
+            a: cases.a,
+            b: cases.b,
+            c: cases.c,
+            d: cases.d,
+            e: cases.e,
+        },
+        distance: cases.distance,
+        splits: Splits {
+            first: counts.first,
+            second: counts.second,
+            common: counts.common,
+            distance: counts.distance,
+        },
+    }
+}
+
+// The figures of a file's words: the first table by its own length, then the rest.
+fn compare_words(words: &[u16]) -> Figures
+    ensures { λ r. ⌜ r ≡ wordFigures (now (words .entry)) ⌝ }
+{
+    let k = first_length(words);
+    compare_tables(&words[..k], &words[k..])
+}
+
+// One comparison file, compared. 14: more than 1016 bytes; 15: an odd number of bytes; then the pair's order. A
+// refusal gives zeros.
+pub fn compare(bytes: &[u8]) -> Figures
+    ensures { λ r. ⌜ r ≡ comparison (now (bytes .entry)) ⌝ }
+{
+    if 1016 < bytes.len() {
+        return refused(14);
+    }
+    if bytes.len() % 2 != 0 {
+        return refused(15);
+    }
+    let mut words = [0u16; 508];
+    let count = decode(bytes, &mut words);
+    compare_words(&words[..count])
+}
