@@ -1,0 +1,697 @@
+#!/usr/bin/env python3
+"""Tests of the program compare and of bin/compare, with expected bytes worked out from document 01 alone.
+
+    python3 tests/compare_tests.py                            the program is target/bin/compare
+    LESKWYN_COMPARE=FILE python3 tests/compare_tests.py       the program is FILE
+
+Nothing is built here: `rt check compare` does that. Nothing here knows how the program works: every file is cut and
+checked rule by rule, every set of four is looked up edge by edge, claims are listed one by one, and splits are sets of
+labels. Above 16 tips the sets of four are counted by quartet_cases.py, by threes. bin/compare is tried in a copy of its
+folder, with an rt that proves nothing and puts the program in its place.
+"""
+import itertools
+import os
+import pathlib
+import random
+import shutil
+import subprocess
+import sys
+import tempfile
+import time
+import unittest
+from math import comb
+
+sys.dont_write_bytecode = True
+from quartet_cases import cases_by_threes, related_pair, unrelated_pair, with_labels_exchanged
+from tree_cases import OUTSIDE, P, Q, R, THREE, TWO, W, X, balanced, caterpillar, damaged, star, table
+
+ROOT = pathlib.Path(__file__).resolve().parent.parent
+PROGRAM = pathlib.Path(os.environ.get("LESKWYN_COMPARE") or ROOT / "target" / "bin" / "compare").absolute()
+MOST_BYTES = 1016
+ENUMERATED = 16  # the most tips for which every set of four and every claim is looked at
+SECONDS = 20  # the longest that one run may take
+
+# Document 01, 'Reference pairs': S S' S2 S3, A B C D E, distance, splits.
+REFERENCE_PAIRS = {
+    "K1": (P, Q, "10 6 6 0", "3 0 2 0 0", "2", "2 1 1 1"),
+    "K2": (P, R, "10 10 6 8", "3 2 0 0 0", "2", "2 2 1 2"),
+    "K3": (Q, R, "6 10 2 8", "1 2 0 2 0", "4", "1 2 0 3"),
+    "K4": (P, P, "10 10 10 0", "5 0 0 0 0", "0", "2 2 2 0"),
+    "K5": (W, W, "0 0 0 0", "0 0 0 0 5", "0", "0 0 0 0"),
+    "K6": (P, W, "10 0 0 0", "0 0 5 0 0", "5", "2 0 0 2"),
+    "K7": (W, P, "0 10 0 0", "0 0 0 5 0", "5", "0 2 0 2"),
+    "K8": (TWO, TWO, "0 0 0 0", "0 0 0 0 0", "0", "0 0 0 0"),
+    "K9": (THREE, THREE, "0 0 0 0", "0 0 0 0 0", "0", "0 0 0 0"),
+}
+
+# Documents 004 and 000, and trees of mixed shape.
+MIXED, EVEN = OUTSIDE[5], OUTSIDE[4]
+OUTSIDE_PAIRS = {
+    "document 004": (*OUTSIDE[0:2], "30 30 16 28", "8 7 0 0 0", "7", "3 3 1 4"),
+    "document 000": (*OUTSIDE[2:4], "140 140 70 140", "35 35 0 0 0", "35", "5 5 0 10"),
+    "1 and 5 exchanged": (EVEN, with_labels_exchanged(EVEN, 1, 5), "140 140 48 184", "24 46 0 0 0", "46", "5 5 1 8"),
+    "mixed degrees": (MIXED, EVEN, "102 140 58 88", "29 22 0 19 0", "41", "2 5 0 7"),
+}
+
+# Document 01, the listing of P and Q.
+P_AND_Q = b"leaves 5\nclaims 10 6 6 0\nquartets 3 0 2 0 0\ndistance 2\nsplits 2 1 1 1\n"
+
+
+def packed(*tables):
+    return b"".join(word.to_bytes(2, "little") for t in tables for word in t)
+
+
+def changed(t, at, word):
+    return t[:at] + [word] + t[at + 1:]
+
+
+# ---- the refusals of document 01, in its order
+
+def tree_refusal(t):
+    """The number of the tree check; 0 stands for accepted."""
+    if len(t) < 2:
+        return 1
+    n, m = t[:2]
+    if n not in range(2, 257):
+        return 2
+    if m not in range(n, 2 * n - 1):
+        return 3
+    if len(t) != 2 + 2 * m:
+        return 4
+    parents, labels = t[2:2 + m], t[2 + m:]
+    if parents[:2] != [0, 0] or any(parents[i] not in range(1, i) for i in range(2, m)):
+        return 5
+    if labels[0] != 0 or any(label != X and label >= n for label in labels):
+        return 6
+    if any(labels.count(label) != 1 for label in range(n)):
+        return 6
+    children = [parents[1:].count(i) for i in range(m)]
+    if any(children[i] < 2 if labels[i] == X else children[i] > 0 for i in range(1, m)):
+        return 7
+    return 0
+
+
+def cut(content):
+    """The words of the first tree, and those of the second."""
+    words = [content[at] + 256 * content[at + 1] for at in range(0, len(content), 2)]
+    end = 2 + 2 * words[1] if len(words) >= 2 else len(words)
+    return words[:end], words[end:]
+
+
+def refusal(content):
+    if len(content) > MOST_BYTES:
+        return 14
+    if len(content) % 2 == 1:
+        return 15
+    first, second = cut(content)
+    if tree_refusal(first):
+        return tree_refusal(first)
+    if tree_refusal(second):
+        return 100 + tree_refusal(second)
+    return 0 if first[0] == second[0] else 8
+
+
+# ---- the figures of document 01; a set of labels is the bits of a number
+
+def beyond(t):
+    """For each node, the labels on its side of the edge to its parent; for node 0, all."""
+    m = t[1]
+    found = [0] * m
+    for tip in range(m):
+        if t[2 + m + tip] != X:
+            node = tip
+            while node:
+                found[node] |= 1 << t[2 + m + tip]
+                node = t[2 + node]
+            found[0] |= 1 << t[2 + m + tip]
+    return found
+
+
+def claims(t):
+    """T1 behind a directed edge, and each unordered pair of other subtrees at the node that it points to.
+
+    Each term of the sums asks for two labels of T1: of large trees, claims with one label there are left out."""
+    found, least = beyond(t), 1 if t[0] <= ENUMERATED else 2
+    for node in range(t[1]):
+        subtrees = [found[child] for child in range(1, t[1]) if t[2 + child] == node]
+        if node:
+            subtrees.append(found[0] & ~found[node])
+        for i, behind in enumerate(subtrees):
+            if behind.bit_count() >= least:
+                for one, other in itertools.combinations(subtrees[:i] + subtrees[i + 1:], 2):
+                    yield behind, one, other
+
+
+def claim_sum(t):
+    return sum(comb(a.bit_count(), 2) * b.bit_count() * c.bit_count() for a, b, c in claims(t))
+
+
+def pair_sums(t, u):
+    """S2 by equation (1) and S3 by dcount of document 001: `ad` is the number of labels in T1 and T1', and so on."""
+    same = different = 0
+    others = list(claims(u))
+    for a, b, c in claims(t):
+        for d, e, f in others:
+            ad, ae, af = (a & d).bit_count(), (a & e).bit_count(), (a & f).bit_count()
+            bd, be, bf = (b & d).bit_count(), (b & e).bit_count(), (b & f).bit_count()
+            cd, ce, cf = (c & d).bit_count(), (c & e).bit_count(), (c & f).bit_count()
+            same += ad * (ad - 1) // 2 * (be * cf + bf * ce)
+            different += ad * af * be * cd + ad * ae * bf * cd + ad * ae * bd * cf + ad * af * bd * ce
+    return same, different
+
+
+def partner(edges, four):
+    """The label that an edge leaves with the smallest of four, the other two being beyond it or the other way round;
+    None for a star."""
+    smallest = four & -four
+    for edge in edges:
+        side = edge & four
+        if side.bit_count() == 2:
+            return (side if side & smallest else four & ~side) & ~smallest
+    return None
+
+
+def cases(t, u):
+    """A B C D E, by every set of four."""
+    counts = [0] * 5
+    first, second = beyond(t), beyond(u)
+    for labels in itertools.combinations(range(t[0]), 4):
+        four = sum(1 << label for label in labels)
+        one, other = partner(first, four), partner(second, four)
+        if one and other:
+            counts[0 if one == other else 1] += 1
+        else:
+            counts[2 if one else 3 if other else 4] += 1
+    return counts
+
+
+def splits(t):
+    """The pairs of tip sets that an edge parts, with two labels or more in each."""
+    found = beyond(t)
+    parted = ({side, found[0] & ~side} for side in found[1:])
+    return {frozenset(sides) for sides in parted if min(side.bit_count() for side in sides) >= 2}
+
+
+def listing(content):
+    """The bytes that the program prints."""
+    number = refusal(content)
+    if number:
+        return b"refused %d\n" % number
+    t, u = cut(content)
+    five = cases(t, u) if t[0] <= ENUMERATED else cases_by_threes(t, u)
+    one, other = splits(t), splits(u)
+    lines = {"leaves": [t[0]], "claims": [claim_sum(t), claim_sum(u), *pair_sums(t, u)], "quartets": five,
+             "distance": [sum(five[1:4])], "splits": [len(one), len(other), len(one & other), len(one ^ other)]}
+    return "".join(" ".join([word, *map(str, numbers)]) + "\n" for word, numbers in lines.items()).encode()
+
+
+# ---- the program
+
+def setUpModule():
+    if not os.access(PROGRAM, os.X_OK) or PROGRAM.is_dir():
+        sys.exit(f"compare_tests: there is no program {PROGRAM}; `rt check compare` builds target/bin/compare")
+
+
+class ProgramTest(unittest.TestCase):
+    def assert_prints(self, expected, content, note=None):
+        done = subprocess.run([PROGRAM], input=content, capture_output=True, timeout=SECONDS)
+        self.assertEqual((done.stdout, done.stderr, done.returncode), (expected, b"", 0), note or content.hex())
+
+    def assert_listed(self, content, note=None):
+        self.assert_prints(listing(content), content, note)
+
+    def assert_refused(self, number, content, note=None):
+        """The number is document 01's, and the rules as they stand here give it too."""
+        self.assertEqual(refusal(content), number, note or content.hex())
+        self.assert_prints(b"refused %d\n" % number, content, note)
+
+
+class Figures(ProgramTest):
+    def assert_figures(self, pairs):
+        for mark, (t, u, *figures) in pairs.items():
+            words = ["claims", "quartets", "distance", "splits"]
+            lines = [f"leaves {t[0]}"] + [f"{word} {numbers}" for word, numbers in zip(words, figures)]
+            expected = ("\n".join(lines) + "\n").encode()
+            self.assertEqual(listing(packed(t, u)), expected, mark)
+            self.assert_prints(expected, packed(t, u), mark)
+
+    def test_p_and_q_as_document_01_prints_them(self):
+        self.assert_prints(P_AND_Q, packed(P, Q))
+
+    def test_reference_pairs(self):
+        self.assert_figures(REFERENCE_PAIRS)
+
+    def test_outside_pairs(self):
+        self.assert_figures(OUTSIDE_PAIRS)
+
+    def test_all_pairs_of_the_tables_with_equal_tips(self):
+        tables = [P, Q, R, W, TWO, THREE] + OUTSIDE
+        for t, u in itertools.product(tables, repeat=2):
+            if t[0] == u[0]:
+                self.assert_listed(packed(t, u))
+
+    def test_random_pairs(self):
+        rng = random.Random(71)
+        for k in range(300):
+            n = 2 + k % 12
+            self.assert_listed(packed(*(related_pair(rng, n) if k % 3 else unrelated_pair(rng, n))))
+
+
+class Largest(ProgramTest):
+    """Pairs of exactly 1016 bytes: m + m' = 252."""
+
+    def assert_largest(self, t, u):
+        content = packed(t, u)
+        self.assertEqual((t[1] + u[1], len(content), refusal(content)), (252, MOST_BYTES, 0))
+        self.assert_listed(content, f"{t[0]} tips")
+        return content
+
+    def test_15625_cells(self):
+        worm, even = caterpillar(64), balanced(64)
+        self.assertEqual((worm[1] - 1) * (even[1] - 1), 15625)
+        self.assert_largest(worm, even)
+        self.assert_largest(even, with_labels_exchanged(worm, 3, 60))
+
+    def test_most_tips(self):
+        fan = star(125)
+        self.assert_largest(fan, with_labels_exchanged(fan, 1, 124))
+        expected = f"leaves 125\nclaims 0 0 0 0\nquartets 0 0 0 0 {comb(125, 4)}\ndistance 0\nsplits 0 0 0 0\n"
+        self.assert_prints(expected.encode(), packed(fan, fan))
+
+    def test_a_large_and_a_small_table(self):
+        worm, pair = caterpillar(84), table(84, 86, [0, 0, 1, 2, 2] + [1] * 81, [0, X, X, 7, 50] + [
+            label for label in range(1, 84) if label not in (7, 50)])
+        self.assert_largest(worm, pair)
+        self.assert_largest(pair, worm)
+
+    def test_a_byte_and_a_word_more(self):
+        content = packed(caterpillar(64), balanced(64))
+        self.assert_refused(14, content + b"\0")
+        self.assert_refused(14, content + b"\0\0")
+        self.assert_refused(15, content[:-1])
+        self.assert_refused(104, content[:-2])
+
+    def test_a_megabyte(self):
+        self.assert_refused(14, bytes(1 << 20), "zeros")
+        self.assert_refused(14, packed(P, Q) * (1 << 14), "P and Q again and again")
+        self.assert_refused(14, bytes((1 << 20) + 1), "an odd number of zeros")
+
+
+class Refusals(ProgramTest):
+    """Document 01's edges, and each number of the comparing program."""
+
+    def test_empty_input(self):
+        self.assert_refused(1, b"")
+
+    def test_number_of_tips(self):
+        for n in (0, 1, 257, X):
+            self.assert_refused(2, packed(changed(P, 0, n), Q))
+            self.assert_refused(102, packed(Q, changed(P, 0, n)))
+        self.assert_refused(2, packed([1, 1, 0, 0], TWO))
+        self.assert_refused(102, packed(TWO, [1, 1, 0, 0]))
+
+    def test_2_and_256_tips_pass_that_step(self):
+        self.assert_listed(packed(TWO, TWO))
+        self.assert_refused(3, packed([2, 1, 0, 0]))
+        self.assert_refused(103, packed(TWO, [2, 3, 0, 0, 1, 0, X, 1]))
+        # no table of 256 tips fits in 1016 bytes: its number is that of its nodes or of its length
+        self.assert_refused(3, packed([256, 255, 0, 0]))
+        self.assert_refused(3, packed([256, 511, 0, 0]))
+        self.assert_refused(4, packed([256, 256, 0, 0]))
+        self.assert_refused(4, packed(star(256)[:MOST_BYTES // 2]))
+        self.assert_refused(104, packed(TWO, caterpillar(256)[:MOST_BYTES // 2 - 6]))
+        self.assert_refused(14, packed(star(256)))
+
+    def test_number_of_nodes(self):
+        for t in (P, Q, R, W, TWO, THREE):
+            n = t[0]
+            for m in (0, n - 1, 2 * n - 1, X):
+                self.assert_refused(3, packed(changed(t, 1, m), P))
+                self.assert_refused(103, packed(P, changed(t, 1, m)))
+        # m = n and m = 2n - 2 pass that step
+        self.assert_refused(4, packed([5, 5, 0, 0]))
+        self.assert_refused(104, packed(P, [5, 8, 0, 0]))
+
+    def test_a_word_too_many(self):
+        # the words after the first table are the second tree's
+        self.assert_refused(101, packed(P + [0]))
+        self.assert_refused(102, packed(P + [0], Q))
+        self.assert_refused(104, packed(Q, P + [0]))
+        self.assert_refused(104, packed(P, Q, [7, 7]))
+
+    def test_a_word_too_few(self):
+        self.assert_refused(1, packed([5]))
+        self.assert_refused(4, packed(P[:-1]))
+        self.assert_refused(4, packed(P[:2]))
+        self.assert_refused(101, packed(P))
+        self.assert_refused(101, packed(P, [5]))
+        self.assert_refused(104, packed(P, Q[:2]))
+        self.assert_refused(104, packed(P, Q[:-1]))
+
+    def test_every_length_of_p_and_q(self):
+        content = packed(P, Q)
+        for length in range(len(content)):
+            self.assert_listed(content[:length])
+
+    def test_parents(self):
+        for t in (changed(P, 2, 1), changed(P, 3, 1), changed(P, 4, 0), changed(P, 4, 2), changed(P, 9, 7),
+                  changed(P, 9, X)):
+            self.assert_refused(5, packed(t, Q))
+            self.assert_refused(105, packed(Q, t))
+
+    def test_labels(self):
+        for t in (changed(P, 10, 1), changed(P, 10, X), changed(P, 17, 5), changed(P, 17, X - 1), changed(P, 17, 3),
+                  changed(P, 17, 0), changed(P, 17, X)):
+            self.assert_refused(6, packed(t, Q))
+            self.assert_refused(106, packed(Q, t))
+
+    def test_children(self):
+        one = table(5, 8, [0, 0, 1, 1, 3, 4, 4, 4], [0, X, 1, X, X, 2, 3, 4])
+        none = table(5, 7, [0, 0, 1, 1, 1, 1, 1], [0, X, 1, 2, 3, 4, X])
+        tip_with_one = changed(W, 7, 4)
+        for t in (one, none, tip_with_one, changed(P, 6, 2), changed(P, 9, 6), changed(changed(P, 11, 1), 12, X)):
+            self.assert_refused(7, packed(t, Q))
+            self.assert_refused(107, packed(Q, t))
+
+    def test_different_numbers_of_tips(self):
+        for t, u in itertools.permutations([P, TWO, THREE, OUTSIDE[0], OUTSIDE[2]], 2):
+            self.assert_refused(8, packed(t, u))
+
+    def test_the_first_tree_decides_before_the_second(self):
+        bad = [changed(P, 0, 1), changed(P, 2, 1), changed(P, 10, 1), changed(P, 6, 2)]
+        for (t, u), number in zip(itertools.product(bad, repeat=2), [2] * 4 + [5] * 4 + [6] * 4 + [7] * 4):
+            self.assert_refused(number, packed(t, u))
+        self.assert_refused(103, packed(THREE, changed(P, 1, 4)))
+
+    def test_odd_numbers_of_bytes(self):
+        content = packed(P, Q)
+        for odd in (b"\0", b"\5", content[:-1], content + b"\0", content[:35], bytes(1015)):
+            self.assert_refused(15, odd)
+
+    def test_too_many_bytes_come_before_an_odd_number(self):
+        for length in (1017, 1018, 1019, 2048):
+            self.assert_refused(14, bytes(length))
+        self.assert_refused(2, bytes(1016))
+
+    def test_bytes_are_read_low_byte_first(self):
+        self.assert_refused(2, b"".join(word.to_bytes(2, "big") for word in P + Q))
+
+    def test_damaged_tables(self):
+        numbers = set()
+        for t, u in itertools.product([P, Q, W, THREE, MIXED], repeat=2):
+            for broken in damaged(t):
+                numbers |= {refusal(packed(broken, u)), refusal(packed(u, broken))}
+                self.assert_listed(packed(broken, u))
+                self.assert_listed(packed(u, broken))
+        # damage of the first tree that shortens or lengthens it moves the cut, and the number with it
+        self.assertEqual(numbers, {2, 3, 5, 6, 7, *range(101, 108)})
+
+    def test_random_damage(self):
+        rng, numbers = random.Random(73), set()
+        for k in range(500):
+            content = bytearray(packed(*related_pair(rng, 2 + k % 9)))
+            for _ in range(rng.choice([0, 1, 1, 1, 2, 3])):
+                at = 2 * rng.randrange(len(content) // 2)
+                content[at:at + 2] = rng.choice([0, 1, 2, 3, 4, 5, 6, 7, 8, 9, 256, X]).to_bytes(2, "little")
+            if k % 5 == 0:
+                content = content[:rng.randrange(len(content) + 1)]
+            if k % 7 == 0:
+                content += rng.randbytes(rng.choice([1, 2, 4, 1000]))
+            numbers.add(refusal(content))
+            self.assert_listed(bytes(content))
+        self.assertLessEqual({0, *range(2, 8), *range(101, 107), 14, 15}, numbers)
+
+
+class Pipes(ProgramTest):
+    """Standard input that comes in pieces."""
+
+    def assert_in_pieces(self, expected, pieces, pause):
+        program = subprocess.Popen([PROGRAM], stdin=subprocess.PIPE, stdout=subprocess.PIPE, bufsize=0)
+        with program:
+            try:
+                for piece in pieces:
+                    program.stdin.write(piece)
+                    time.sleep(pause)
+            except BrokenPipeError:
+                pass  # it may stop reading once there are too many bytes
+            printed, _ = program.communicate(timeout=SECONDS)
+        self.assertEqual((printed, program.returncode), (expected, 0))
+
+    def pieces(self, content, lengths):
+        at = 0
+        for length in itertools.cycle(lengths):
+            if at >= len(content):
+                return
+            yield content[at:at + length]
+            at += length
+
+    def test_byte_by_byte(self):
+        self.assert_in_pieces(P_AND_Q, self.pieces(packed(P, Q), [1]), 0.002)
+        self.assert_in_pieces(b"refused 15\n", self.pieces(packed(P, Q)[:-1], [1]), 0.002)
+
+    def test_odd_pieces(self):
+        self.assert_in_pieces(P_AND_Q, self.pieces(packed(P, Q), [1, 3, 7, 5]), 0.02)
+        self.assert_in_pieces(P_AND_Q, self.pieces(packed(P, Q), [35, 33]), 0.2)
+
+    def test_the_largest_file_in_pieces(self):
+        content = packed(caterpillar(64), balanced(64))
+        self.assert_in_pieces(listing(content), self.pieces(content, [1, 2, 3, 5, 8, 13, 21, 34]), 0.002)
+        self.assert_in_pieces(listing(content), self.pieces(content, [511, 505]), 0.1)
+        self.assert_in_pieces(b"refused 14\n", self.pieces(content + b"\0", [1016, 1]), 0.1)
+        self.assert_in_pieces(b"refused 14\n", self.pieces(content + bytes(99), [100]), 0.01)
+
+    def test_a_late_first_byte_and_a_late_end(self):
+        self.assert_in_pieces(P_AND_Q, [b"", packed(P, Q), b""], 0.2)
+        self.assert_in_pieces(b"refused 1\n", [b""], 0.2)
+
+    def test_a_file_and_no_device(self):
+        with tempfile.TemporaryFile() as file:
+            file.write(packed(P, Q))
+            file.seek(0)
+            self.assertEqual(subprocess.run([PROGRAM], stdin=file, stdout=subprocess.PIPE).stdout, P_AND_Q)
+        done = subprocess.run([PROGRAM], stdin=subprocess.DEVNULL, stdout=subprocess.PIPE)
+        self.assertEqual(done.stdout, b"refused 1\n")
+
+
+# ---- bin/compare
+
+STAND_IN_RT = """#!/bin/sh
+echo "$PWD: $*" >>"$CALLS"
+echo what rt says
+[ ! -e "$CALLS.fail" ] || { echo compare NOT PROVED; exit 1; }
+[ ! -e "$CALLS.nothing" ] || exit 0
+mkdir -p target/bin && ln -sf "$BUILT" target/bin/compare
+"""
+COMMANDS = ["bash", "cat", "dirname", "env", "find", "flock", "ln", "mkdir", "mv", "readlink", "sh", "tail"]
+
+
+class Wrapper(unittest.TestCase):
+    def setUp(self):
+        folder = tempfile.TemporaryDirectory()
+        self.addCleanup(folder.cleanup)
+        self.folder = pathlib.Path(folder.name).resolve()
+        self.house, self.calls, self.path = self.folder / "the house", self.folder / "calls", self.folder / "path"
+        for part in ("bin", "examples"):
+            shutil.copytree(ROOT / part, self.house / part)
+        (self.house / "crates" / "compare" / "src").mkdir(parents=True)
+        self.source = self.house / "crates" / "compare" / "src" / "main.rt"
+        for file in (self.source, self.house / "crates.txt"):
+            file.write_text("")
+        self.path.mkdir()
+        for command in COMMANDS:
+            if shutil.which(command):
+                (self.path / command).symlink_to(shutil.which(command))
+        (self.path / "rt").write_text(STAND_IN_RT)
+        (self.path / "rt").chmod(0o755)
+
+    def compare(self, *words, cwd=None, command=None, **given):
+        """A run; `given` is its standard input, else it has an empty one."""
+        where = {"PATH": str(self.path), "CALLS": str(self.calls), "BUILT": str(PROGRAM)}
+        given = given or {"input": b""}
+        return subprocess.run([command or self.house / "bin" / "compare", *words], cwd=cwd or self.folder, env=where,
+                              stdout=subprocess.PIPE, stderr=subprocess.PIPE, timeout=SECONDS, **given)
+
+    def built(self):
+        """How often rt was called."""
+        calls = self.calls.read_text().splitlines() if self.calls.exists() else []
+        self.assertEqual(set(calls) - {f"{self.house}: check compare"}, set())
+        return len(calls)
+
+    def file(self, name, content):
+        (self.folder / name).write_bytes(content)
+        return name
+
+    def assert_done(self, done, status, printed):
+        self.assertEqual((done.returncode, done.stdout), (status, printed), done.stderr)
+
+    def assert_trouble(self, done, *words):
+        """Status 2, nothing on standard output, a message."""
+        self.assert_done(done, 2, b"")
+        for word in words:
+            self.assertIn(word, done.stderr.decode())
+
+    def test_first_use(self):
+        done = self.compare()
+        self.assert_done(done, 0, P_AND_Q)
+        lines = done.stderr.decode().splitlines()
+        self.assertEqual((len(lines), self.built()), (2, 1), lines)
+        self.assertIn("example", lines[0])
+        self.assertIn("proving and building", lines[1])
+        self.assertIn("minutes", lines[1])
+        self.assertEqual((self.house / "target" / "compare.log").read_text(), "what rt says\n")
+
+    def test_second_use_builds_nothing_and_needs_no_rt(self):
+        self.compare()
+        (self.path / "rt").unlink()
+        done = self.compare("-", input=packed(P, Q))
+        self.assert_done(done, 0, P_AND_Q)
+        self.assertEqual((done.stderr, self.built()), (b"", 1))
+
+    def test_a_newer_source_is_built(self):
+        self.compare()
+        for newer in (self.source, self.house / "crates.txt"):
+            before, later = self.built(), time.time() + 3600
+            os.utime(newer, (later, later))
+            self.assert_done(self.compare(), 0, P_AND_Q)
+            self.assertEqual(self.built(), before + 1)
+            os.utime(newer, (0, 0))
+        self.source.unlink()
+        self.assert_done(self.compare(), 0, P_AND_Q)
+        self.assertEqual(self.built(), 4)
+
+    def test_a_failed_build_is_tried_again(self):
+        fail = self.folder / "calls.fail"
+        fail.write_text("")
+        for _ in range(2):
+            self.assert_trouble(self.compare(), "compare NOT PROVED", "rt check compare failed", "compare.log")
+        fail.unlink()
+        self.assert_done(self.compare(), 0, P_AND_Q)
+        self.assertEqual(self.built(), 3)
+
+    def test_a_program_that_no_longer_proves_is_not_run(self):
+        self.compare()
+        later = time.time() + 3600
+        os.utime(self.source, (later, later))
+        (self.folder / "calls.fail").write_text("")
+        self.assert_trouble(self.compare(), "rt check compare failed")
+
+    def test_a_build_that_leaves_nothing(self):
+        (self.folder / "calls.nothing").write_text("")
+        self.assert_trouble(self.compare(), "left no")
+
+    def test_no_rt(self):
+        (self.path / "rt").unlink()
+        self.assert_trouble(self.compare(), "no rt on the path")
+
+    def test_first_uses_at_once(self):
+        where = {"PATH": str(self.path), "CALLS": str(self.calls), "BUILT": str(PROGRAM)}
+        uses = [subprocess.Popen([self.house / "bin" / "compare"], env=where, stdout=subprocess.PIPE,
+                                 stderr=subprocess.DEVNULL) for _ in range(3)]
+        self.assertEqual([use.communicate(timeout=SECONDS)[0] for use in uses], [P_AND_Q] * 3)
+        if (self.path / "flock").exists():
+            self.assertEqual(self.built(), 1)
+
+    def test_a_file(self):
+        self.assert_done(self.compare(self.file("pair.bin", packed(P, R))), 0, listing(packed(P, R)))
+
+    def test_names_with_blanks_and_signs(self):
+        for name in ("two words.bin", " ", "a*b", "$HOME", "'", "\u00e9t\u00e9", "line\nbreak"):
+            self.assert_done(self.compare(self.file(name, packed(Q, R))), 0, listing(packed(Q, R)))
+        self.assert_done(self.compare("./" + self.file("-", packed(Q, R))), 0, listing(packed(Q, R)))
+
+    def test_standard_input(self):
+        self.assert_done(self.compare("-", input=packed(W, P)), 0, listing(packed(W, P)))
+        self.assert_done(self.compare("-"), 1, b"refused 1\n")
+
+    def test_standard_input_is_left_alone_without_the_sign(self):
+        done = self.compare(input=packed(W, P))
+        self.assert_done(done, 0, P_AND_Q)
+        self.assertIn(b"this is the example", done.stderr)
+        self.assert_done(self.compare(self.file("pair.bin", packed(P, R)), input=b"x"), 0, listing(packed(P, R)))
+
+    def test_standard_input_that_is_closed_or_a_folder(self):
+        self.assert_trouble(self.compare("-", preexec_fn=lambda: os.close(0)), "standard input: it is closed")
+        self.assert_done(self.compare(preexec_fn=lambda: os.close(0)), 0, P_AND_Q)
+        folder = os.open(self.folder, os.O_RDONLY)
+        self.addCleanup(os.close, folder)
+        self.assert_trouble(self.compare("-", stdin=folder), "folder")
+
+    def test_refusals_have_status_1(self):
+        for content in (b"", b"\0", packed(P), packed(P, THREE), bytes(2000)):
+            self.assert_done(self.compare(self.file("pair.bin", content)), 1, listing(content))
+
+    def test_a_missing_file(self):
+        for name in ("absent.bin", "", "no/such/folder"):
+            self.assert_trouble(self.compare(name), "no such file: " + name)
+        self.assertEqual(self.built(), 0)
+
+    def test_a_folder(self):
+        self.assert_trouble(self.compare("."), "folder")
+        self.assertEqual(self.built(), 0)
+
+    @unittest.skipIf(os.geteuid() == 0, "root can read every file")
+    def test_an_unreadable_file(self):
+        os.chmod(self.folder / self.file("pair.bin", packed(P, Q)), 0)
+        self.assert_trouble(self.compare("pair.bin"), "cannot read pair.bin")
+
+    def test_two_arguments(self):
+        pair = self.file("pair.bin", packed(P, Q))
+        self.assert_trouble(self.compare(pair, pair), "usage: compare [FILE]")
+
+    def test_an_unknown_option(self):
+        self.assert_trouble(self.compare("--version"), "no option --version")
+
+    def test_help(self):
+        for option in ("-h", "--help"):
+            done = self.compare(option)
+            self.assertEqual((done.returncode, done.stderr, self.built()), (0, b"", 0))
+            for words in ("usage: compare [FILE]", "exit status: 0 compared; 1 refused; 2 wrong usage"):
+                self.assertIn(words, done.stdout.decode())
+
+    def test_another_folder_and_a_link(self):
+        elsewhere = self.folder / "elsewhere"
+        elsewhere.mkdir()
+        self.file("elsewhere/pair.bin", packed(R, Q))
+        self.assert_done(self.compare("pair.bin", cwd=elsewhere), 0, listing(packed(R, Q)))
+        self.assert_done(self.compare("../elsewhere/pair.bin", cwd=self.house), 0, listing(packed(R, Q)))
+        self.assert_done(self.compare(cwd="/"), 0, P_AND_Q)
+        (elsewhere / "linked").symlink_to(self.house / "bin" / "compare")
+        self.assert_done(self.compare(cwd=elsewhere, command="./linked"), 0, P_AND_Q)
+
+    def test_a_program_that_breaks(self):
+        self.compare()
+        program = self.house / "target" / "bin" / "compare"
+        program.unlink()
+        for body in ("exit 3", "echo leaf 5", "exit 0"):
+            program.write_text("#!/bin/sh\n" + body + "\n")
+            program.chmod(0o755)
+            self.assert_trouble(self.compare(), "the program")
+
+
+class Readme(unittest.TestCase):
+    """What README.md shows is what is printed."""
+
+    README = (ROOT / "README.md").read_text(encoding="utf-8")
+
+    def test_the_example_is_p_and_q(self):
+        self.assertEqual((ROOT / "examples" / "p-q.bin").read_bytes(), packed(P, Q))
+        self.assertIn(P_AND_Q.decode(), self.README)
+
+    def test_from_newick_to_a_listing(self):
+        trees = [ROOT / "examples" / name for name in ("feathers.nwk", "wings.nwk")]
+        made = subprocess.run([sys.executable, ROOT / "tools" / "newick", *trees], capture_output=True)
+        self.assertEqual(made.returncode, 0, made.stderr)
+        printed = subprocess.run([PROGRAM], input=made.stdout, stdout=subprocess.PIPE).stdout
+        self.assertEqual(printed, listing(made.stdout))
+        for shown in (*(tree.read_text() for tree in trees), made.stderr.decode(), printed.decode()):
+            self.assertIn(shown, self.README)
+
+    def test_every_refusal_number_is_explained(self):
+        section = self.README.partition("## Refusals\n")[2].partition("\n## ")[0]
+        rows = [line.split("|")[1].strip() for line in section.splitlines() if line.startswith("|")]
+        for number in (*map(str, range(1, 16)), "101 to 107"):
+            self.assertEqual(rows.count(number), 1, number)
+
+
+if __name__ == "__main__":
+    unittest.main()
