@@ -1,0 +1,251 @@
+//! The exported functions against figures that were counted some other way: every number, every figure, every lent
+//! cell before and after, and the cells on either side of those that are lent.
+
+use leskwyn::raw::{self, CentreAnswer, ClaimSumsAnswer, QuartetTableAnswer, SplitCountsAnswer, TopologyAnswer};
+use leskwyn::{ClaimSums, QuartetTable, Refusal, SplitCounts};
+
+use crate::cubic;
+use crate::enumerate::{self, Topology, Tree};
+use crate::random::Random;
+
+/// Pairs of claims that are summed one by one; for more, S2 and S3 are read from the cases.
+const MOST_CLAIM_PAIRS: usize = 500_000;
+
+/// What two accepted tables give.
+#[derive(Clone, Debug, PartialEq, Eq)]
+pub struct Expected {
+    pub crossings: Vec<u16>,
+    pub claims: [u64; 4],
+    pub quartets: [u64; 5],
+    pub splits: [u64; 4],
+}
+
+impl Expected {
+    /// By the enumerator. Up to 64 tips.
+    pub fn enumerated(first: &[u16], second: &[u16]) -> Expected {
+        let (ours, theirs) = (Tree::of(first), Tree::of(second));
+        Expected::with_cases(&ours, &theirs, enumerate::cases(&ours, &theirs))
+    }
+
+    /// The five cases by the O(n^3) method, the rest by the enumerator.
+    pub fn by_triples(first: &[u16], second: &[u16]) -> Expected {
+        Expected::with_cases(&Tree::of(first), &Tree::of(second), cubic::cases(first, second))
+    }
+
+    fn with_cases(first: &Tree, second: &Tree, quartets: [u64; 5]) -> Expected {
+        let [same, different] =
+            enumerate::paired_claim_sums(first, second, MOST_CLAIM_PAIRS).unwrap_or([2 * quartets[0], 4 * quartets[1]]);
+        Expected {
+            crossings: enumerate::crossings(first, second),
+            claims: [first.claim_sum(), second.claim_sum(), same, different],
+            quartets,
+            splits: enumerate::split_counts(first, second),
+        }
+    }
+
+    fn distance(&self) -> u64 {
+        self.quartets[1] + self.quartets[2] + self.quartets[3]
+    }
+}
+
+/// The refusal's number, or 0.
+fn number<T>(answer: &Result<T, Refusal>) -> u16 {
+    answer.as_ref().err().map_or(0, |refusal| refusal.number())
+}
+
+/// Lends the middle of some random words, and tells what they are afterwards. The words around it must stay.
+fn lend<T>(cells: usize, random: &mut Random, call: impl Fn(&mut [u16]) -> T) -> (T, Vec<u16>, Vec<u16>) {
+    const MARGIN: usize = 16;
+    let before = random.words(cells + 2 * MARGIN);
+    let mut after = before.clone();
+    let answer = call(&mut after[MARGIN..MARGIN + cells]);
+    let lent = MARGIN..MARGIN + cells;
+    assert_eq!(before[..lent.start], after[..lent.start], "cells before the lent ones");
+    assert_eq!(before[lent.end..], after[lent.end..], "cells after the lent ones");
+    (answer, before[lent.clone()].to_vec(), after[lent].to_vec())
+}
+
+/// A table is only read.
+fn unchanged<T>(table: &[u16], call: impl FnOnce(&[u16]) -> T) -> T {
+    let copy = table.to_vec();
+    let answer = call(table);
+    assert_eq!(copy, table, "words of a table");
+    answer
+}
+
+/// The check, the walk, and centres and topologies of labels good and bad, of any words.
+pub fn tree_agrees(table: &[u16], random: &mut Random) {
+    let expected = enumerate::tree_refusal(table);
+    unchanged(table, |table| {
+        // SAFETY: the pointer and the length are those of one slice.
+        assert_eq!(unsafe { raw::leskwyn_check(table.as_ptr(), table.len()) }, expected, "check of {table:?}");
+        assert_eq!(number(&leskwyn::check(table)), expected);
+    });
+    let tree = (expected == 0).then(|| Tree::of(table));
+    walk_agrees(table, expected, tree.as_ref(), random);
+    let n = table.first().copied().unwrap_or(0).min(300);
+    for _ in 0..4 {
+        let mut labels = [0; 4].map(|_: u16| random.below(usize::from(n) + 1) as u16);
+        if random.chance(5) {
+            labels[random.below(4)] = random.word();
+        }
+        centre_agrees(table, tree.as_ref(), [labels[0], labels[1], labels[2]]);
+        topology_agrees(table, tree.as_ref(), labels);
+    }
+}
+
+fn walk_agrees(table: &[u16], expected: u16, tree: Option<&Tree>, random: &mut Random) {
+    let n = table.first().map_or(0, |&n| usize::from(n).min(300));
+    for cells in [n, n.saturating_sub(1), n + random.below(9), 0] {
+        let (answer, before, after) = lend(cells, random, |walk| {
+            // SAFETY: each pointer and length are those of one slice, and the walk overlaps nothing.
+            unsafe { raw::leskwyn_walk(table.as_ptr(), table.len(), walk.as_mut_ptr(), walk.len()) }
+        });
+        let refusal = if expected == 0 && cells < n { 12 } else { expected };
+        assert_eq!(answer, refusal, "walk of {table:?} into {cells} cells");
+        let labels = tree.filter(|_| refusal == 0).map(Tree::walk).unwrap_or_default();
+        assert_eq!(after[..labels.len()], labels);
+        assert_eq!(after[labels.len()..], before[labels.len()..], "later cells of the walk");
+        let (wrapped, _, filled) = lend(cells, random, |walk| leskwyn::walk(table, walk));
+        assert_eq!((number(&wrapped), &filled[..labels.len()]), (refusal, &labels[..]));
+    }
+}
+
+/// The centre of three labels, good or bad.
+pub fn centre_agrees(table: &[u16], tree: Option<&Tree>, [a, b, c]: [u16; 3]) {
+    let refusal = enumerate::label_refusal(table, &[a, b, c]);
+    let node = tree.filter(|_| refusal == 0).map_or(0, |tree| tree.centre(a, b, c));
+    // SAFETY: the pointer and the length are those of one slice.
+    let answer = unsafe { raw::leskwyn_centre(table.as_ptr(), table.len(), a, b, c) };
+    assert_eq!(answer, CentreAnswer { refusal, node }, "centre of {a} {b} {c} in {table:?}");
+    let wrapped = leskwyn::centre(table, a, b, c);
+    assert_eq!((number(&wrapped), wrapped.unwrap_or(0)), (refusal, node));
+}
+
+/// The topology of four labels, good or bad.
+pub fn topology_agrees(table: &[u16], tree: Option<&Tree>, four: [u16; 4]) {
+    let refusal = enumerate::label_refusal(table, &four);
+    let topology = tree.filter(|_| refusal == 0).map_or(Topology::Star, |tree| tree.topology(four));
+    let (butterfly, partner) = match topology {
+        Topology::Butterfly(partner) => (1, partner),
+        Topology::Star => (0, 0),
+    };
+    let [a, b, c, d] = four;
+    // SAFETY: the pointer and the length are those of one slice.
+    let answer = unsafe { raw::leskwyn_topology(table.as_ptr(), table.len(), a, b, c, d) };
+    assert_eq!(answer, TopologyAnswer { refusal, butterfly, partner }, "topology of {four:?} in {table:?}");
+    match (leskwyn::topology(table, a, b, c, d), topology) {
+        (Err(refused), _) => assert_eq!(refused.number(), refusal),
+        (Ok(leskwyn::Topology::Butterfly(one)), Topology::Butterfly(other)) => assert_eq!(one, other),
+        (Ok(leskwyn::Topology::Star), Topology::Star) => assert_eq!(refusal, 0),
+        (Ok(one), other) => panic!("{one:?} in place of {other:?}"),
+    }
+}
+
+/// The answers of the four functions of a pair.
+#[derive(Debug, PartialEq, Eq)]
+struct Answers {
+    crossings: u16,
+    claims: ClaimSumsAnswer,
+    quartets: QuartetTableAnswer,
+    splits: SplitCountsAnswer,
+}
+
+impl Answers {
+    fn of(refusal: u16, expected: Option<&Expected>) -> Answers {
+        let [first, second, same, different] = expected.map_or([0; 4], |figures| figures.claims);
+        let [a, b, c, d, e] = expected.map_or([0; 5], |figures| figures.quartets);
+        let distance = expected.map_or(0, Expected::distance);
+        let splits = expected.map_or([0; 4], |figures| figures.splits);
+        Answers {
+            crossings: refusal,
+            claims: ClaimSumsAnswer { refusal, first, second, same, different },
+            quartets: QuartetTableAnswer { refusal, a, b, c, d, e, distance },
+            splits: SplitCountsAnswer {
+                refusal,
+                first: splits[0],
+                second: splits[1],
+                common: splits[2],
+                distance: splits[3],
+            },
+        }
+    }
+}
+
+type PairFunction<T> = unsafe extern "C" fn(*const u16, usize, *const u16, usize, *mut u16, usize) -> T;
+
+/// One function of a pair, with so many cells: its answer, and its cells afterwards.
+fn ask<T>(
+    function: PairFunction<T>,
+    first: &[u16],
+    second: &[u16],
+    cells: usize,
+    crossings: &[u16],
+    random: &mut Random,
+) -> T {
+    let (answer, before, after) = lend(cells, random, |work| {
+        // SAFETY: each pointer and length are those of one slice, and the work overlaps nothing.
+        unsafe { function(first.as_ptr(), first.len(), second.as_ptr(), second.len(), work.as_mut_ptr(), work.len()) }
+    });
+    assert_eq!(after[..crossings.len()], *crossings, "crossings of {first:?} and {second:?}");
+    assert_eq!(after[crossings.len()..], before[crossings.len()..], "later cells of {first:?} and {second:?}");
+    answer
+}
+
+/// The four functions with so many cells. Without figures the pair is one that is refused.
+fn cells_agree(first: &[u16], second: &[u16], cells: usize, expected: Option<&Expected>, random: &mut Random) {
+    let refusal = enumerate::pair_refusal(first, second, cells);
+    let expected = expected.filter(|_| refusal == 0);
+    assert_eq!(refusal == 0, expected.is_some(), "figures for {first:?} and {second:?}");
+    let crossings = expected.map_or(&[][..], |figures| &figures.crossings);
+    let answers = Answers {
+        crossings: ask(raw::leskwyn_crossings, first, second, cells, crossings, random),
+        claims: ask(raw::leskwyn_claim_sums, first, second, cells, crossings, random),
+        quartets: ask(raw::leskwyn_quartet_table, first, second, cells, crossings, random),
+        splits: ask(raw::leskwyn_split_counts, first, second, cells, crossings, random),
+    };
+    assert_eq!(answers, Answers::of(refusal, expected), "{first:?} and {second:?} with {cells} cells");
+}
+
+/// The wrappers say what the functions say.
+fn wrappers_agree(first: &[u16], second: &[u16], cells: usize, expected: Option<&Expected>, random: &mut Random) {
+    let refusal = enumerate::pair_refusal(first, second, cells);
+    let mut work = random.words(cells);
+    let claims = leskwyn::claim_sums(first, second, &mut work);
+    let quartets = leskwyn::quartet_table(first, second, &mut work);
+    let splits = leskwyn::split_counts(first, second, &mut work);
+    let crossings = leskwyn::crossings(first, second, &mut work);
+    assert_eq!([number(&claims), number(&quartets), number(&splits), number(&crossings)], [refusal; 4]);
+    let Some(figures) = expected.filter(|_| refusal == 0) else {
+        return;
+    };
+    let [first_sum, second_sum, same, different] = figures.claims;
+    assert_eq!(claims, Ok(ClaimSums { first: first_sum, second: second_sum, same, different }));
+    let [a, b, c, d, e] = figures.quartets;
+    assert_eq!(quartets, Ok(QuartetTable { a, b, c, d, e, distance: figures.distance() }));
+    let [first_splits, second_splits, common, distance] = figures.splits;
+    assert_eq!(splits, Ok(SplitCounts { first: first_splits, second: second_splits, common, distance }));
+    assert_eq!(work[..figures.crossings.len()], figures.crossings);
+    assert_eq!(leskwyn::work_cells(first, second), Ok(figures.crossings.len()));
+}
+
+/// Two accepted tables with the same tips: enough cells, some to spare, one too few, none.
+pub fn pair_agrees(first: &[u16], second: &[u16], expected: &Expected, random: &mut Random) {
+    let cells = expected.crossings.len();
+    let spare = cells + random.between(1, 40);
+    unchanged(first, |first| {
+        unchanged(second, |second| {
+            for lent in [cells, spare, cells - 1, 0] {
+                cells_agree(first, second, lent, Some(expected), random);
+            }
+            wrappers_agree(first, second, cells, Some(expected), random);
+        })
+    });
+}
+
+/// Two tables of which one is refused, or which do not fit each other.
+pub fn refusal_agrees(first: &[u16], second: &[u16], cells: usize, random: &mut Random) -> u16 {
+    cells_agree(first, second, cells, None, random);
+    wrappers_agree(first, second, cells, None, random);
+    enumerate::pair_refusal(first, second, cells)
+}

@@ -1,0 +1,304 @@
+//! Seeded trees of many shapes, and the tables of them.
+
+use crate::random::Random;
+use crate::reference::X;
+
+#[derive(Clone, Copy, Debug, PartialEq, Eq)]
+pub enum Shape {
+    Binary,
+    Caterpillar,
+    Balanced,
+    Star,
+    Mixed,
+    Contracted,
+    /// Every inner node has degree four, but for one where n is odd.
+    Fours,
+}
+
+impl Shape {
+    pub const ALL: [Shape; 7] = [
+        Shape::Binary,
+        Shape::Caterpillar,
+        Shape::Balanced,
+        Shape::Star,
+        Shape::Mixed,
+        Shape::Contracted,
+        Shape::Fours,
+    ];
+}
+
+/// The order in which a table numbers the nodes. A parent always comes before its children.
+#[derive(Clone, Copy, Debug, PartialEq, Eq)]
+pub enum Numbering {
+    DepthFirst,
+    BreadthFirst,
+    Any,
+}
+
+impl Numbering {
+    pub const ALL: [Numbering; 3] = [Numbering::DepthFirst, Numbering::BreadthFirst, Numbering::Any];
+}
+
+/// A tree without a root: the neighbours of each node, and the node of each label. A node without neighbours is no
+/// part of it.
+#[derive(Clone, Debug)]
+pub struct Graph {
+    near: Vec<Vec<usize>>,
+    tips: Vec<usize>,
+}
+
+impl Graph {
+    /// A tree of that shape with n tips, labelled at random.
+    pub fn of(shape: Shape, n: usize, random: &mut Random) -> Graph {
+        let mut graph = match shape {
+            Shape::Binary => Graph::grown(n, 0, random),
+            Shape::Caterpillar => Graph::caterpillar(n),
+            Shape::Balanced => Graph::balanced(n),
+            Shape::Star => Graph::star(n),
+            Shape::Mixed => Graph::grown(n, 50, random),
+            Shape::Contracted => Graph::contracted(n, random),
+            Shape::Fours => Graph::fours(n, random),
+        };
+        random.shuffle(&mut graph.tips);
+        graph
+    }
+
+    fn empty() -> Graph {
+        Graph { near: Vec::new(), tips: Vec::new() }
+    }
+
+    fn inner(&mut self) -> usize {
+        self.near.push(Vec::new());
+        self.near.len() - 1
+    }
+
+    fn tip(&mut self) -> usize {
+        let node = self.inner();
+        self.tips.push(node);
+        node
+    }
+
+    fn join(&mut self, a: usize, b: usize) {
+        self.near[a].push(b);
+        self.near[b].push(a);
+    }
+
+    fn part(&mut self, a: usize, b: usize) {
+        self.near[a].retain(|&node| node != b);
+        self.near[b].retain(|&node| node != a);
+    }
+
+    fn tip_at(&mut self, node: usize) {
+        let tip = self.tip();
+        self.join(tip, node);
+    }
+
+    /// A new inner node in the midst of an edge.
+    fn midst(&mut self, (a, b): (usize, usize)) -> usize {
+        let node = self.inner();
+        self.part(a, b);
+        self.join(a, node);
+        self.join(node, b);
+        node
+    }
+
+    fn edges(&self) -> Vec<(usize, usize)> {
+        let beside = |a: usize| self.near[a].iter().map(move |&b| (a, b));
+        (0..self.near.len()).flat_map(beside).filter(|(a, b)| a < b).collect()
+    }
+
+    fn inner_nodes(&self) -> Vec<usize> {
+        (0..self.near.len()).filter(|&node| self.near[node].len() >= 3).collect()
+    }
+
+    fn star(n: usize) -> Graph {
+        let mut graph = Graph::empty();
+        if n == 2 {
+            let (a, b) = (graph.tip(), graph.tip());
+            graph.join(a, b);
+            return graph;
+        }
+        let middle = graph.inner();
+        (0..n).for_each(|_| graph.tip_at(middle));
+        graph
+    }
+
+    fn caterpillar(n: usize) -> Graph {
+        if n <= 3 {
+            return Graph::star(n);
+        }
+        let mut graph = Graph::empty();
+        let spine: Vec<usize> = (0..n - 2).map(|_| graph.inner()).collect();
+        for ends in spine.windows(2) {
+            graph.join(ends[0], ends[1]);
+        }
+        let ends = [spine[0], spine[n - 3]];
+        spine.into_iter().chain(ends).for_each(|node| graph.tip_at(node));
+        graph
+    }
+
+    fn balanced(n: usize) -> Graph {
+        let mut graph = Graph::empty();
+        let (a, b) = (graph.halves(n / 2), graph.halves(n - n / 2));
+        graph.join(a, b);
+        graph
+    }
+
+    /// A balanced tree hanging from the node that is handed back.
+    fn halves(&mut self, tips: usize) -> usize {
+        if tips == 1 {
+            return self.tip();
+        }
+        let (a, b) = (self.halves(tips / 2), self.halves(tips - tips / 2));
+        let node = self.inner();
+        self.join(node, a);
+        self.join(node, b);
+        node
+    }
+
+    /// Tip after tip, each at an inner node in `percent` of a hundred cases, else in the midst of an edge.
+    fn grown(n: usize, percent: usize, random: &mut Random) -> Graph {
+        let mut graph = Graph::star(n.min(3));
+        for _ in 3..n {
+            let node = graph.place(percent, random);
+            graph.tip_at(node);
+        }
+        graph
+    }
+
+    /// Two tips after two tips, each time in the midst of an edge.
+    fn fours(n: usize, random: &mut Random) -> Graph {
+        let mut graph = Graph::star(n.min(4));
+        while graph.tips.len() < n {
+            let node = graph.place(0, random);
+            let missing = n - graph.tips.len();
+            (0..missing.min(2)).for_each(|_| graph.tip_at(node));
+        }
+        graph
+    }
+
+    fn place(&mut self, percent: usize, random: &mut Random) -> usize {
+        if random.chance(percent) {
+            return *random.pick(&self.inner_nodes());
+        }
+        let edge = *random.pick(&self.edges());
+        self.midst(edge)
+    }
+
+    fn contracted(n: usize, random: &mut Random) -> Graph {
+        let mut graph = Graph::grown(n, 0, random);
+        let percent = random.between(10, 90);
+        for _ in 0..n {
+            if random.chance(percent) {
+                graph.contract(random);
+            }
+        }
+        graph
+    }
+
+    /// Some inner edge, if there is one, becomes a node.
+    fn contract(&mut self, random: &mut Random) {
+        let is_inner = |node: usize| self.near[node].len() >= 3;
+        let inner: Vec<_> = self.edges().into_iter().filter(|&(a, b)| is_inner(a) && is_inner(b)).collect();
+        if inner.is_empty() {
+            return;
+        }
+        let (stays, goes) = *random.pick(&inner);
+        self.part(stays, goes);
+        for node in self.near[goes].clone() {
+            self.part(goes, node);
+            self.join(stays, node);
+        }
+    }
+
+    /// Some tip moves elsewhere.
+    fn move_tip(&mut self, random: &mut Random) {
+        if self.tips.len() <= 3 {
+            return;
+        }
+        let tip = *random.pick(&self.tips);
+        let node = self.near[tip][0];
+        self.part(tip, node);
+        if self.near[node].len() == 2 {
+            let (a, b) = (self.near[node][0], self.near[node][1]);
+            self.part(node, a);
+            self.part(node, b);
+            self.join(a, b);
+        }
+        // Only edges and nodes of what is left: the tip itself has no neighbour.
+        let place = self.place(30, random);
+        self.join(tip, place);
+    }
+
+    /// A tree that differs in a few places: tips moved, labels exchanged, edges contracted.
+    pub fn near_partner(&self, random: &mut Random) -> Graph {
+        let mut partner = self.clone();
+        for _ in 0..random.between(0, 3) {
+            match random.below(3) {
+                0 => partner.move_tip(random),
+                1 => {
+                    let (a, b) = (random.below(self.tips.len()), random.below(self.tips.len()));
+                    partner.tips.swap(a, b);
+                }
+                _ => partner.contract(random),
+            }
+        }
+        partner
+    }
+
+    /// The table, with the nodes in that order.
+    pub fn table(&self, numbering: Numbering, random: &mut Random) -> Vec<u16> {
+        let mut label_of = vec![X; self.near.len()];
+        for (label, &node) in self.tips.iter().enumerate() {
+            label_of[node] = label as u16;
+        }
+        let (mut parents, mut labels) = (Vec::new(), Vec::new());
+        // Nodes to be numbered: the node, the one it hangs from, and that one's number.
+        let mut waiting = vec![(self.tips[0], usize::MAX, 0)];
+        while !waiting.is_empty() {
+            let at = match numbering {
+                Numbering::DepthFirst => waiting.len() - 1,
+                Numbering::BreadthFirst => 0,
+                Numbering::Any => random.below(waiting.len()),
+            };
+            let (node, above, parent) = waiting.remove(at);
+            let number = parents.len();
+            parents.push(parent as u16);
+            labels.push(label_of[node]);
+            let below = self.near[node].iter().filter(|&&next| next != above);
+            waiting.extend(below.map(|&next| (next, node, number)));
+        }
+        let head = [self.tips.len() as u16, parents.len() as u16];
+        [&head[..], &parents, &labels].concat()
+    }
+}
+
+/// How a pair's second tree comes about.
+#[derive(Clone, Copy, Debug, PartialEq, Eq)]
+pub enum Partner {
+    Near,
+    Far,
+}
+
+/// The tables of two trees with n tips, in any numbering. A near partner differs in a few places or in none, a far
+/// one is a tree of its own.
+pub fn pair(shape: Shape, n: usize, partner: Partner, random: &mut Random) -> (Vec<u16>, Vec<u16>) {
+    let first = Graph::of(shape, n, random);
+    let second = match partner {
+        Partner::Near => first.near_partner(random),
+        Partner::Far => Graph::of(*random.pick(&Shape::ALL), n, random),
+    };
+    let (one, other) = (*random.pick(&Numbering::ALL), *random.pick(&Numbering::ALL));
+    let first = first.table(one, random);
+    let second = second.table(other, random);
+    if random.chance(50) {
+        return (second, first);
+    }
+    (first, second)
+}
+
+/// The table of a tree, in any numbering.
+pub fn table(shape: Shape, n: usize, random: &mut Random) -> Vec<u16> {
+    let numbering = *random.pick(&Numbering::ALL);
+    Graph::of(shape, n, random).table(numbering, random)
+}

@@ -1,0 +1,32 @@
+//! `cargo run --release` times this library beside three other methods, prints one table, and writes
+//! docs/BENCHMARKS.md and docs/scaling.svg.
+
+mod chart;
+mod report;
+mod timing;
+
+use std::fs;
+use std::path::Path;
+use std::process::ExitCode;
+
+use timing::{Measured, PAIRINGS};
+
+fn main() -> ExitCode {
+    let mut measured: Vec<Measured> = Vec::new();
+    for pairing in &PAIRINGS {
+        eprintln!("timing {}", pairing.name);
+        measured.extend(timing::measure(pairing));
+    }
+    print!("{}", report::table(&measured));
+    println!();
+    print!("{}", report::ratios(&measured));
+    let docs = Path::new(env!("CARGO_MANIFEST_DIR")).join("../docs");
+    let written = fs::create_dir_all(&docs)
+        .and_then(|()| fs::write(docs.join("BENCHMARKS.md"), report::page(&measured)))
+        .and_then(|()| fs::write(docs.join("scaling.svg"), chart::drawn(&measured)));
+    if let Err(error) = written {
+        eprintln!("docs: {error}");
+        return ExitCode::FAILURE;
+    }
+    ExitCode::SUCCESS
+}

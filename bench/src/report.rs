@@ -1,0 +1,106 @@
+//! The table of the timings, and the page that holds it.
+
+use std::fmt::Write;
+use std::fs;
+use std::thread;
+
+use crate::timing::{Measured, PAIRINGS};
+
+/// A time with three digits or so.
+fn micros(time: f64) -> String {
+    match time {
+        t if t < 10.0 => format!("{t:.2}"),
+        t if t < 100.0 => format!("{t:.1}"),
+        t => format!("{t:.0}"),
+    }
+}
+
+/// A ratio with two digits or so.
+fn ratio(of: f64, to: f64) -> String {
+    match of / to {
+        r if r < 10.0 => format!("{r:.2}"),
+        r => format!("{r:.0}"),
+    }
+}
+
+/// Every time, and each method's ratio to the library or the library's to it, as a table in Markdown.
+pub fn table(measured: &[Measured]) -> String {
+    let mut text = String::from(
+        "| trees | n | this library (µs) | straight Rust (µs) | O(n²d²) (µs) | O(n³) (µs) \
+         | library ÷ straight | O(n²d²) ÷ library | O(n³) ÷ library |\n\
+         |---|---:|---:|---:|---:|---:|---:|---:|---:|\n",
+    );
+    for Measured { name, tips, micros: times } in measured {
+        let [library, straight, expanded, cubic] = *times;
+        let columns = times.map(micros).join(" | ");
+        let ratios = [ratio(library, straight), ratio(expanded, library), ratio(cubic, library)].join(" | ");
+        writeln!(text, "| {name} | {tips} | {columns} | {ratios} |").expect("a string takes all");
+    }
+    text
+}
+
+/// What is asked of the library at 256 tips, and what it reaches, as a table in Markdown.
+pub fn ratios(measured: &[Measured]) -> String {
+    let mut text = String::from(
+        "| trees, n = 256 | library ÷ straight (≤ 1.5) | O(n²d²) ÷ library (> 1) | O(n³) ÷ library (≥ 15) \
+         | library, 256 ÷ 128 (≤ 5) |\n|---|---:|---:|---:|---:|\n",
+    );
+    let of = |name: &str, tips: usize| {
+        measured.iter().find(|at| at.name == name && at.tips == tips).map(|at| at.micros).expect("measured")
+    };
+    let marked = |value: f64, is_reached: bool| format!("{value:.2}{}", if is_reached { "" } else { " (missed)" });
+    for pairing in &PAIRINGS {
+        let ([library, straight, expanded, cubic], half) = (of(pairing.name, 256), of(pairing.name, 128)[0]);
+        let columns = [
+            marked(library / straight, library <= 1.5 * straight),
+            marked(expanded / library, expanded > library),
+            marked(cubic / library, cubic >= 15.0 * library),
+            marked(library / half, library <= 5.0 * half),
+        ];
+        writeln!(text, "| {} | {} |", pairing.name, columns.join(" | ")).expect("a string takes all");
+    }
+    text
+}
+
+/// The processor as the system names it.
+fn processor() -> String {
+    let told = fs::read_to_string("/proc/cpuinfo").unwrap_or_default();
+    let model = told.lines().find_map(|line| line.strip_prefix("model name")?.split_once(':'));
+    let model = model.map_or("a processor without a name", |(_, name)| name.trim());
+    let cores = thread::available_parallelism().map_or(1, |count| count.get());
+    format!("{model}, {cores} cores, {} {}", std::env::consts::ARCH, std::env::consts::OS)
+}
+
+/// docs/BENCHMARKS.md.
+pub fn page(measured: &[Measured]) -> String {
+    let (processor, table, ratios) = (processor(), table(measured), ratios(measured));
+    format!(
+        "# Benchmarks
+
+Written by this command, together with `scaling.svg`, after `rt staticlib capi`:
+
+    cd bench && cargo run --release --offline
+
+Machine: {processor}.
+
+Each line is one pair of trees with n tips, labelled and numbered at random from a fixed seed. All four methods agree on
+all five cases of the pair before they are timed. A time is the median of several batches of calls, taken in turns
+within one run, in microseconds; what else the machine does falls on all of them, so the ratios say more than the times.
+
+- *this library*: `leskwyn_quartet_table`, with the check of both tables and the crossings in the lent work.
+- *straight Rust*: the same algorithm in plain Rust with 64-bit sums (`bench/src/straight.rs`), compiled by `rustc` with
+  optimisation.
+- *O(n²d²)*: document 001, section 2.3, with expanded trees and extended claims (`bench/src/expanded.rs`). Pairs of edges
+  with no tip behind both are passed over.
+- *O(n³)*: document 001, section 2.2, by the centres of all three tips (`bench/src/cubic.rs`).
+
+## Times
+
+{table}
+## What is asked at n = 256
+
+{ratios}
+![Time against the number of tips](scaling.svg)
+"
+    )
+}

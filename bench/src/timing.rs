@@ -1,0 +1,128 @@
+//! Four methods timed on the same pairs of trees, in turns, so that what else the machine does falls on all of them.
+
+use std::hint::black_box;
+use std::time::{Duration, Instant};
+
+use bench::generate::{Graph, Numbering, Shape};
+use bench::random::Random;
+use bench::{cubic, expanded, straight};
+
+/// The tips of the trees that are timed.
+pub const TIPS: [usize; 4] = [16, 64, 128, 256];
+
+/// Two shapes under a name.
+pub struct Pairing {
+    pub name: &'static str,
+    first: Shape,
+    second: Shape,
+}
+
+const fn pairing(name: &'static str, first: Shape, second: Shape) -> Pairing {
+    Pairing { name, first, second }
+}
+
+pub const PAIRINGS: [Pairing; 12] = [
+    pairing("caterpillars", Shape::Caterpillar, Shape::Caterpillar),
+    pairing("balanced", Shape::Balanced, Shape::Balanced),
+    pairing("stars", Shape::Star, Shape::Star),
+    pairing("mixed degree", Shape::Mixed, Shape::Mixed),
+    pairing("random binary", Shape::Binary, Shape::Binary),
+    pairing("degree four", Shape::Fours, Shape::Fours),
+    pairing("caterpillar, star", Shape::Caterpillar, Shape::Star),
+    pairing("balanced, caterpillar", Shape::Balanced, Shape::Caterpillar),
+    pairing("balanced, star", Shape::Balanced, Shape::Star),
+    pairing("star, mixed degree", Shape::Star, Shape::Mixed),
+    pairing("mixed degree, binary", Shape::Mixed, Shape::Binary),
+    pairing("degree four, binary", Shape::Fours, Shape::Binary),
+];
+
+/// The methods, in the order of the columns.
+pub const METHODS: [&str; 4] = ["this library", "straight Rust", "O(n²d²)", "O(n³)"];
+
+/// The medians of one pairing, in microseconds, one for each method.
+pub struct Measured {
+    pub name: &'static str,
+    pub tips: usize,
+    pub micros: [f64; 4],
+}
+
+/// A batch of calls takes at least this long, so that the clock is fine enough.
+const BATCH: Duration = Duration::from_millis(2);
+
+/// Batches of each method, of which the median is taken; fewer where a single call is slow.
+const ROUNDS: usize = 25;
+const SLOW_ROUNDS: usize = 5;
+const SLOW: Duration = Duration::from_millis(20);
+
+/// One way of getting the five cases.
+type Method<'a> = Box<dyn FnMut() -> [u64; 5] + 'a>;
+
+fn methods<'a>(first: &'a [u16], second: &'a [u16]) -> [Method<'a>; 4] {
+    let cells = leskwyn::work_cells(first, second).expect("accepted tables");
+    let (mut lent, mut work) = (vec![0; cells], vec![0; cells]);
+    let cases = |table: leskwyn::QuartetTable| [table.a, table.b, table.c, table.d, table.e];
+    [
+        Box::new(move || cases(leskwyn::quartet_table(first, second, &mut lent).expect("accepted"))),
+        Box::new(move || cases(straight::quartet_table(first, second, &mut work).expect("accepted"))),
+        Box::new(move || expanded::cases(first, second)),
+        Box::new(move || cubic::cases(first, second)),
+    ]
+}
+
+/// How long so many calls take, one on the average.
+fn batch(method: &mut Method, calls: u32) -> Duration {
+    let start = Instant::now();
+    for _ in 0..calls {
+        black_box(method());
+    }
+    start.elapsed() / calls
+}
+
+fn median(mut times: Vec<Duration>) -> f64 {
+    times.sort();
+    times[times.len() / 2].as_secs_f64() * 1e6
+}
+
+/// One pair of trees, its methods, and their batches so far.
+struct Course<'a> {
+    methods: [Method<'a>; 4],
+    single: [Duration; 4],
+    calls: [u32; 4],
+    times: [Vec<Duration>; 4],
+}
+
+impl<'a> Course<'a> {
+    /// All methods agree on the pair before they are timed.
+    fn of(name: &str, first: &'a [u16], second: &'a [u16]) -> Course<'a> {
+        let mut methods = methods(first, second);
+        let answers = methods.each_mut().map(|method| method());
+        assert!(answers.iter().all(|answer| *answer == answers[0]), "{name}: {answers:?}");
+        let single = methods.each_mut().map(|method| batch(method, 1));
+        let calls = single.map(|time| (BATCH.as_nanos() / time.as_nanos().max(1)) as u32 + 1);
+        Course { methods, single, calls, times: Default::default() }
+    }
+
+    fn round(&mut self, round: usize) {
+        for (i, method) in self.methods.iter_mut().enumerate() {
+            if round < SLOW_ROUNDS || self.single[i] < SLOW {
+                self.times[i].push(batch(method, self.calls[i]));
+            }
+        }
+    }
+}
+
+fn tables(pairing: &Pairing, tips: usize) -> [Vec<u16>; 2] {
+    let mut random = Random::seeded(tips as u64);
+    [pairing.first, pairing.second].map(|shape| Graph::of(shape, tips, &mut random).table(Numbering::Any, &mut random))
+}
+
+/// All sizes of a pairing, timed in turn, round after round.
+pub fn measure(pairing: &Pairing) -> Vec<Measured> {
+    let tables = TIPS.map(|tips| tables(pairing, tips));
+    let mut courses = tables.each_ref().map(|[first, second]| Course::of(pairing.name, first, second));
+    for round in 0..ROUNDS {
+        courses.iter_mut().for_each(|course| course.round(round));
+    }
+    let medians = courses.map(|course| course.times.map(median));
+    TIPS.into_iter().zip(medians).map(|(tips, micros)| Measured { name: pairing.name, tips, micros }).collect()
+}

@@ -1,0 +1,115 @@
+//! The parsing and printing behind leskwyn-compare against the proved comparing program, on every file that both take:
+//! up to 1016 bytes, valid and damaged.
+
+use std::io::Write;
+use std::path::{Path, PathBuf};
+use std::process::{Command, Stdio};
+
+use bench::damage::{damaged, noise};
+use bench::generate::{pair, table, Partner, Shape};
+use bench::random::Random;
+use bench::reference::TABLES;
+use leskwyn::file::{compare, listing};
+
+/// The most bytes that the proved program takes.
+const MOST: usize = 1016;
+
+fn proved_program() -> PathBuf {
+    let program = Path::new(env!("CARGO_MANIFEST_DIR")).join("../target/bin/compare");
+    assert!(
+        program.is_file(),
+        "{} is missing: build the proved comparing program first (`rt check compare`)",
+        program.display()
+    );
+    program
+}
+
+fn proved_listing(program: &Path, bytes: &[u8]) -> String {
+    let mut child = Command::new(program)
+        .stdin(Stdio::piped())
+        .stdout(Stdio::piped())
+        .stderr(Stdio::null())
+        .spawn()
+        .expect("the proved program starts");
+    child.stdin.take().expect("its input is a pipe").write_all(bytes).expect("it reads its input");
+    let output = child.wait_with_output().expect("the proved program ends");
+    String::from_utf8(output.stdout).expect("its listing is text")
+}
+
+fn bytes_of(tables: &[&[u16]]) -> Vec<u8> {
+    tables.concat().iter().flat_map(|word| word.to_le_bytes()).collect()
+}
+
+/// Whether the file was compared, and not refused.
+fn file_agrees(program: &Path, bytes: &[u8]) -> bool {
+    assert!(bytes.len() <= MOST);
+    let answer = compare(bytes);
+    assert_eq!(listing(&answer), proved_listing(program, bytes), "{bytes:?}");
+    answer.is_ok()
+}
+
+#[test]
+fn generated_pairs() {
+    let program = proved_program();
+    let mut random = Random::seeded(600);
+    for at in 0..500 {
+        let shape = Shape::ALL[at % Shape::ALL.len()];
+        let partner = if at % 2 == 0 { Partner::Near } else { Partner::Far };
+        // 64 tips are the most whose two binary tables have 1016 bytes.
+        let (first, second) = pair(shape, 2 + at % 63, partner, &mut random);
+        assert!(file_agrees(&program, &bytes_of(&[&first, &second])));
+    }
+}
+
+#[test]
+fn damaged_pairs() {
+    let program = proved_program();
+    let mut random = Random::seeded(610);
+    let mut refused = 0;
+    for at in 0..500 {
+        let shape = *random.pick(&Shape::ALL);
+        let (mut first, mut second) = pair(shape, 2 + at % 24, Partner::Far, &mut random);
+        let number = 1 + (at % 7) as u16;
+        match at % 3 {
+            0 => first = damaged(&first, number, &mut random),
+            1 => second = damaged(&second, number, &mut random),
+            _ => second = table(shape, 2 + random.below(24), &mut random),
+        }
+        let mut bytes = bytes_of(&[&first, &second]);
+        if random.chance(10) {
+            bytes.truncate(random.below(bytes.len() + 1));
+        }
+        bytes.truncate(MOST);
+        refused += usize::from(!file_agrees(&program, &bytes));
+    }
+    assert!(refused > 300, "{refused} of the files were refused");
+}
+
+#[test]
+fn files_with_little_plan() {
+    let program = proved_program();
+    let mut random = Random::seeded(620);
+    for _ in 0..300 {
+        let (first, second) = (noise(&mut random), noise(&mut random));
+        let mut bytes = bytes_of(&[&first, &second]);
+        if random.chance(10) {
+            bytes.pop();
+        }
+        file_agrees(&program, &bytes);
+    }
+}
+
+/// Every beginning of two reference tables, even and odd, and every two of the tables.
+#[test]
+fn beginnings_and_pairs_of_the_reference_tables() {
+    let program = proved_program();
+    for first in TABLES {
+        for second in TABLES {
+            file_agrees(&program, &bytes_of(&[first, second]));
+        }
+    }
+    let bytes = bytes_of(&[TABLES[0], TABLES[1]]);
+    for length in 0..=bytes.len() {
+        file_agrees(&program, &bytes[..length]);
+    }
+}

@@ -1,0 +1,65 @@
+//! Document 01's reference pairs, further pairs worked out beforehand, and its edges of acceptance.
+
+use bench::agree::{centre_agrees, pair_agrees, topology_agrees, tree_agrees, Expected};
+use bench::enumerate::Tree;
+use bench::random::Random;
+use bench::reference::{P, PAIRS, Q, TABLES, THREE, TWO, X};
+use bench::{cubic, expanded, straight};
+
+#[test]
+fn the_pairs_have_their_figures() {
+    let mut random = Random::seeded(1);
+    for pair in &PAIRS {
+        let expected = Expected::enumerated(pair.first, pair.second);
+        let figures = (expected.claims, expected.quartets, expected.splits);
+        assert_eq!(figures, (pair.claims, pair.quartets, pair.splits), "{} by the enumerator", pair.name);
+        assert_eq!(pair.quartets[1..4].iter().sum::<u64>(), pair.distance);
+        pair_agrees(pair.first, pair.second, &expected, &mut random);
+    }
+}
+
+#[test]
+fn the_other_methods_have_their_figures() {
+    for pair in &PAIRS {
+        assert_eq!(cubic::cases(pair.first, pair.second), pair.quartets, "{} by triples", pair.name);
+        assert_eq!(expanded::cases(pair.first, pair.second), pair.quartets, "{} by expansion", pair.name);
+        let mut work = vec![0; 1000];
+        let table = straight::quartet_table(pair.first, pair.second, &mut work).expect("accepted");
+        assert_eq!([table.a, table.b, table.c, table.d, table.e], pair.quartets, "{} straight", pair.name);
+    }
+}
+
+#[test]
+fn every_three_and_four_labels_of_the_tables() {
+    for table in TABLES {
+        let tree = Tree::of(table);
+        let labels = || (0..=table[0]).chain([X]);
+        for (a, b, c) in labels().flat_map(|a| labels().flat_map(move |b| labels().map(move |c| (a, b, c)))) {
+            centre_agrees(table, Some(&tree), [a, b, c]);
+            for d in labels() {
+                topology_agrees(table, Some(&tree), [a, b, c, d]);
+            }
+        }
+    }
+}
+
+#[test]
+fn the_edges_of_acceptance() {
+    let number = |table: &[u16]| leskwyn::check(table).err().map_or(0, |refusal| refusal.number());
+    let with = |at: usize, word: u16| {
+        let mut table = P.to_vec();
+        table[at] = word;
+        table
+    };
+    assert_eq!([1, 257].map(|n| number(&with(0, n))), [2, 2]);
+    assert_eq!([4, 9].map(|m| number(&with(1, m))), [3, 3]);
+    assert_eq!(number(&[P, &[0]].concat()), 4);
+    assert_eq!(number(TWO), 0);
+    assert_eq!(number(THREE), 0);
+    let refused = |cells| leskwyn::quartet_table(P, Q, &mut vec![0; cells]).err().map(|refusal| refusal.number());
+    assert_eq!([41, 42].map(refused), [Some(9), None]);
+    let mut random = Random::seeded(2);
+    for table in TABLES {
+        tree_agrees(table, &mut random);
+    }
+}

@@ -1,0 +1,239 @@
+//! Safe calls into Leskwyn, a library that counts two population trees against each other, quartet by quartet, and is
+//! proved to count right. Build it first: `rt staticlib capi` in the root of the repository.
+//!
+//! A tree is a table of 16-bit words: n, the tips (2 to 256); m, the nodes (n to 2n - 2); m parent words; m label
+//! words, [`INNER`] for an inner node. Node 0 is the tip labelled 0, and its only child is node 1; both have the
+//! parent word 0. Every other node's parent is at least 1 and less than the node. Each label from 0 to n - 1 stands
+//! once. A tip other than node 0 has no child, an inner node two or more.
+//!
+//! Any words in slices of any length may be passed. The answer is the whole answer or a [`Refusal`]; a refused call
+//! changes no lent cell. No call allocates, keeps a slice, or touches anything global, so all may be made from several
+//! threads at once. [`claim_sums`] and [`quartet_table`] take up to 200 kB of stack.
+//!
+//! ```
+//! use leskwyn::{quartet_table, work_cells, INNER as X};
+//!
+//! let p = [5, 8, 0, 0, 1, 1, 3, 3, 5, 5, 0, X, 1, X, 2, X, 3, 4];
+//! let q = [5, 7, 0, 0, 1, 1, 3, 3, 3, 0, X, 1, X, 2, 3, 4];
+//! let mut work = vec![0; work_cells(&p, &q)?];
+//! let table = quartet_table(&p, &q, &mut work)?;
+//! assert_eq!((table.a, table.b, table.c, table.d, table.e), (3, 0, 2, 0, 0));
+//! assert_eq!(table.distance, 2);
+//! # Ok::<(), leskwyn::Refusal>(())
+//! ```
+
+pub mod file;
+pub mod raw;
+mod refusal;
+
+pub use refusal::Refusal;
+
+/// The label word of an inner node.
+pub const INNER: u16 = 65535;
+
+/// Cells that are enough for the work of every pair: (510 - 1)(510 - 1), for two binary trees of 256 tips.
+pub const WORK_CELLS: usize = 509 * 509;
+
+/// How four tips lie in a tree.
+#[derive(Clone, Copy, Debug, PartialEq, Eq, Hash)]
+pub enum Topology {
+    /// Some edge parts them two and two; the partner of the smallest label.
+    Butterfly(u16),
+    /// No edge parts them two and two.
+    Star,
+}
+
+/// The claim sums of two trees.
+#[derive(Clone, Copy, Debug, PartialEq, Eq, Hash)]
+pub struct ClaimSums {
+    /// S, over the claims of the first tree.
+    pub first: u64,
+    /// S', over the claims of the second.
+    pub second: u64,
+    /// S2, over the pairs of claims: directed butterflies that both trees have.
+    pub same: u64,
+    /// S3, over the pairs of claims: directed butterflies that differ.
+    pub different: u64,
+}
+
+/// How many sets of four tips fall into each of five cases.
+#[derive(Clone, Copy, Debug, PartialEq, Eq, Hash)]
+pub struct QuartetTable {
+    /// The same butterfly in both trees.
+    pub a: u64,
+    /// Different butterflies.
+    pub b: u64,
+    /// A butterfly in the first tree only.
+    pub c: u64,
+    /// A butterfly in the second tree only.
+    pub d: u64,
+    /// A star in both.
+    pub e: u64,
+    /// The quartet distance, B + C + D.
+    pub distance: u64,
+}
+
+/// The splits of two trees: edges with at least two tips on each side.
+#[derive(Clone, Copy, Debug, PartialEq, Eq, Hash)]
+pub struct SplitCounts {
+    /// The first tree's.
+    pub first: u64,
+    /// The second's.
+    pub second: u64,
+    /// Those whose two tip sets occur in both.
+    pub common: u64,
+    /// The Robinson-Foulds distance, first + second - 2 common.
+    pub distance: u64,
+}
+
+/// Checks a tree table. Refuses by 1 to 7.
+///
+/// ```
+/// use leskwyn::{check, INNER};
+/// assert!(check(&[3, 4, 0, 0, 1, 1, 0, INNER, 1, 2]).is_ok());
+/// assert_eq!(check(&[3, 4, 0, 0, 1, 1, 0, INNER, 1, 1]).unwrap_err().number(), 6);
+/// ```
+pub fn check(table: &[u16]) -> Result<(), Refusal> {
+    // SAFETY: the pointer and the length are those of one live slice.
+    Refusal::from_number(unsafe { raw::leskwyn_check(table.as_ptr(), table.len()) })
+}
+
+/// Writes the labels depth first from node 0, children in rising node number, into the first n cells; later cells
+/// stay. Refuses by 1 to 7, then 12.
+///
+/// ```
+/// let mut cells = [9; 4];
+/// leskwyn::walk(&[3, 4, 0, 0, 1, 1, 0, leskwyn::INNER, 2, 1], &mut cells)?;
+/// assert_eq!(cells, [0, 2, 1, 9]);
+/// # Ok::<(), leskwyn::Refusal>(())
+/// ```
+pub fn walk(table: &[u16], cells: &mut [u16]) -> Result<(), Refusal> {
+    // SAFETY: each pointer and length are those of one live slice, and `cells` is borrowed alone.
+    Refusal::from_number(unsafe { raw::leskwyn_walk(table.as_ptr(), table.len(), cells.as_mut_ptr(), cells.len()) })
+}
+
+/// The centre of three tips: the node where the paths between them join. Refuses by 1 to 7, then 10, then 11.
+///
+/// ```
+/// assert_eq!(leskwyn::centre(&[3, 4, 0, 0, 1, 1, 0, leskwyn::INNER, 1, 2], 2, 0, 1), Ok(1));
+/// ```
+pub fn centre(table: &[u16], a: u16, b: u16, c: u16) -> Result<u16, Refusal> {
+    // SAFETY: the pointer and the length are those of one live slice.
+    let answer = unsafe { raw::leskwyn_centre(table.as_ptr(), table.len(), a, b, c) };
+    Refusal::from_number(answer.refusal)?;
+    Ok(answer.node)
+}
+
+/// The topology of four tips, whatever their order. Refuses by 1 to 7, then 10, then 11.
+///
+/// ```
+/// use leskwyn::{topology, Topology, INNER as X};
+/// let q = [5, 7, 0, 0, 1, 1, 3, 3, 3, 0, X, 1, X, 2, 3, 4];
+/// assert_eq!(topology(&q, 3, 0, 2, 1), Ok(Topology::Butterfly(1)));
+/// assert_eq!(topology(&q, 0, 2, 3, 4), Ok(Topology::Star));
+/// ```
+pub fn topology(table: &[u16], a: u16, b: u16, c: u16, d: u16) -> Result<Topology, Refusal> {
+    // SAFETY: the pointer and the length are those of one live slice.
+    let answer = unsafe { raw::leskwyn_topology(table.as_ptr(), table.len(), a, b, c, d) };
+    Refusal::from_number(answer.refusal)?;
+    Ok(if answer.butterfly == 1 { Topology::Butterfly(answer.partner) } else { Topology::Star })
+}
+
+/// How many work cells a pair of tree tables takes, (m - 1)(m' - 1). Refuses by the pair's order, 9 apart.
+///
+/// ```
+/// let star = [3, 4, 0, 0, 1, 1, 0, leskwyn::INNER, 1, 2];
+/// assert_eq!(leskwyn::work_cells(&star, &star), Ok(9));
+/// ```
+pub fn work_cells(first: &[u16], second: &[u16]) -> Result<usize, Refusal> {
+    const NO_CELLS: u16 = 9;
+    match crossings(first, second, &mut []) {
+        Err(refusal) if refusal.number() != NO_CELLS => Err(refusal),
+        _ => Ok((usize::from(first[1]) - 1) * (usize::from(second[1]) - 1)),
+    }
+}
+
+/// The crossings of two trees: afterwards cell (i - 1)(m' - 1) + (j - 1) holds how many labels lie beyond both edge i
+/// of the first tree and edge j of the second; later cells stay. The two trees may be one slice. Refuses by 1 to 7 for
+/// the first tree, 101 to 107 for the second, then 8, then 9.
+///
+/// ```
+/// let star = [3, 4, 0, 0, 1, 1, 0, leskwyn::INNER, 1, 2];
+/// let mut work = [7; 10];
+/// leskwyn::crossings(&star, &star, &mut work)?;
+/// assert_eq!(work, [2, 1, 1, 1, 1, 0, 1, 0, 1, 7]);
+/// # Ok::<(), leskwyn::Refusal>(())
+/// ```
+pub fn crossings(first: &[u16], second: &[u16], work: &mut [u16]) -> Result<(), Refusal> {
+    // SAFETY: each pointer and length are those of one live slice, and `work` is borrowed alone.
+    Refusal::from_number(unsafe {
+        raw::leskwyn_crossings(
+            first.as_ptr(),
+            first.len(),
+            second.as_ptr(),
+            second.len(),
+            work.as_mut_ptr(),
+            work.len(),
+        )
+    })
+}
+
+/// The claim sums of two trees. Takes, refuses and leaves in the work what [`crossings`] does.
+pub fn claim_sums(first: &[u16], second: &[u16], work: &mut [u16]) -> Result<ClaimSums, Refusal> {
+    // SAFETY: each pointer and length are those of one live slice, and `work` is borrowed alone.
+    let answer = unsafe {
+        raw::leskwyn_claim_sums(
+            first.as_ptr(),
+            first.len(),
+            second.as_ptr(),
+            second.len(),
+            work.as_mut_ptr(),
+            work.len(),
+        )
+    };
+    Refusal::from_number(answer.refusal)?;
+    Ok(ClaimSums { first: answer.first, second: answer.second, same: answer.same, different: answer.different })
+}
+
+/// The quartet table of two trees. Takes, refuses and leaves in the work what [`crossings`] does.
+///
+/// ```
+/// use leskwyn::{quartet_table, INNER as X};
+/// let w = [5, 6, 0, 0, 1, 1, 1, 1, 0, X, 1, 2, 3, 4];
+/// let table = quartet_table(&w, &w, &mut [0; 25])?;
+/// assert_eq!((table.e, table.distance), (5, 0));
+/// assert_eq!(quartet_table(&w, &w, &mut [0; 24]).unwrap_err().number(), 9);
+/// # Ok::<(), leskwyn::Refusal>(())
+/// ```
+pub fn quartet_table(first: &[u16], second: &[u16], work: &mut [u16]) -> Result<QuartetTable, Refusal> {
+    // SAFETY: each pointer and length are those of one live slice, and `work` is borrowed alone.
+    let answer = unsafe {
+        raw::leskwyn_quartet_table(
+            first.as_ptr(),
+            first.len(),
+            second.as_ptr(),
+            second.len(),
+            work.as_mut_ptr(),
+            work.len(),
+        )
+    };
+    Refusal::from_number(answer.refusal)?;
+    Ok(QuartetTable { a: answer.a, b: answer.b, c: answer.c, d: answer.d, e: answer.e, distance: answer.distance })
+}
+
+/// The split counts of two trees. Takes, refuses and leaves in the work what [`crossings`] does.
+pub fn split_counts(first: &[u16], second: &[u16], work: &mut [u16]) -> Result<SplitCounts, Refusal> {
+    // SAFETY: each pointer and length are those of one live slice, and `work` is borrowed alone.
+    let answer = unsafe {
+        raw::leskwyn_split_counts(
+            first.as_ptr(),
+            first.len(),
+            second.as_ptr(),
+            second.len(),
+            work.as_mut_ptr(),
+            work.len(),
+        )
+    };
+    Refusal::from_number(answer.refusal)?;
+    Ok(SplitCounts { first: answer.first, second: answer.second, common: answer.common, distance: answer.distance })
+}

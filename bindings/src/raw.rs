@@ -1,0 +1,102 @@
+//! The functions of the static library as they are exported, and their answers as they are laid out in C. The header
+//! `include/leskwyn.h` says what each takes, refuses and promises; the functions of the crate's root wrap them.
+
+/// The refusal, or 0; the node.
+#[repr(C)]
+#[derive(Clone, Copy, Debug, PartialEq, Eq)]
+pub struct CentreAnswer {
+    pub refusal: u16,
+    pub node: u16,
+}
+
+/// The refusal, or 0; 1 for a butterfly and 0 for a star; the partner of the smallest label, 0 for a star.
+#[repr(C)]
+#[derive(Clone, Copy, Debug, PartialEq, Eq)]
+pub struct TopologyAnswer {
+    pub refusal: u16,
+    pub butterfly: u16,
+    pub partner: u16,
+}
+
+/// The refusal, or 0; S, S', S2 and S3.
+#[repr(C)]
+#[derive(Clone, Copy, Debug, PartialEq, Eq)]
+pub struct ClaimSumsAnswer {
+    pub refusal: u16,
+    pub first: u64,
+    pub second: u64,
+    pub same: u64,
+    pub different: u64,
+}
+
+/// The refusal, or 0; A to E and B + C + D.
+#[repr(C)]
+#[derive(Clone, Copy, Debug, PartialEq, Eq)]
+pub struct QuartetTableAnswer {
+    pub refusal: u16,
+    pub a: u64,
+    pub b: u64,
+    pub c: u64,
+    pub d: u64,
+    pub e: u64,
+    pub distance: u64,
+}
+
+/// The refusal, or 0; the splits of the first tree, of the second, of both; the Robinson-Foulds distance.
+#[repr(C)]
+#[derive(Clone, Copy, Debug, PartialEq, Eq)]
+pub struct SplitCountsAnswer {
+    pub refusal: u16,
+    pub first: u64,
+    pub second: u64,
+    pub common: u64,
+    pub distance: u64,
+}
+
+// Every function is safe to call with pointers to that many elements, aligned and live for the call, where the lent
+// cells overlap no table. The library holds no global and keeps no pointer.
+extern "C" {
+    pub fn leskwyn_check(table: *const u16, words: usize) -> u16;
+
+    pub fn leskwyn_walk(table: *const u16, words: usize, walk: *mut u16, cells: usize) -> u16;
+
+    pub fn leskwyn_centre(table: *const u16, words: usize, a: u16, b: u16, c: u16) -> CentreAnswer;
+
+    pub fn leskwyn_topology(table: *const u16, words: usize, a: u16, b: u16, c: u16, d: u16) -> TopologyAnswer;
+
+    pub fn leskwyn_crossings(
+        first: *const u16,
+        first_words: usize,
+        second: *const u16,
+        second_words: usize,
+        work: *mut u16,
+        cells: usize,
+    ) -> u16;
+
+    pub fn leskwyn_claim_sums(
+        first: *const u16,
+        first_words: usize,
+        second: *const u16,
+        second_words: usize,
+        work: *mut u16,
+        cells: usize,
+    ) -> ClaimSumsAnswer;
+
+    pub fn leskwyn_quartet_table(
+        first: *const u16,
+        first_words: usize,
+        second: *const u16,
+        second_words: usize,
+        work: *mut u16,
+        cells: usize,
+    ) -> QuartetTableAnswer;
+
+    pub fn leskwyn_split_counts(
+        first: *const u16,
+        first_words: usize,
+        second: *const u16,
+        second_words: usize,
+        work: *mut u16,
+        cells: usize,
+    ) -> SplitCountsAnswer;
+}

@@ -1,0 +1,60 @@
+//! Why a call is turned away.
+
+use std::error::Error;
+use std::fmt;
+use std::num::NonZeroU16;
+
+/// The number of the first rule that the input breaks. A refused call changes no lent cell.
+///
+/// ```
+/// let refusal = leskwyn::check(&[5]).unwrap_err();
+/// assert_eq!(refusal.number(), 1);
+/// assert_eq!(refusal.to_string(), "refused 1: fewer than two words");
+/// ```
+#[derive(Clone, Copy, Debug, PartialEq, Eq, Hash)]
+pub struct Refusal(NonZeroU16);
+
+impl Refusal {
+    /// `Ok` for the number 0, which stands for accepted.
+    pub(crate) fn from_number(number: u16) -> Result<(), Refusal> {
+        NonZeroU16::new(number).map_or(Ok(()), |number| Err(Refusal(number)))
+    }
+
+    /// The number: 1 to 7 of a table or of the first of two; 101 to 107 of the second; 8 to 12; or 15 of a file.
+    pub fn number(self) -> u16 {
+        self.0.get()
+    }
+
+    /// The broken rule in words.
+    pub fn reason(self) -> &'static str {
+        match self.number() {
+            1 | 101 => "fewer than two words",
+            2 | 102 => "n is not 2 to 256",
+            3 | 103 => "m is not n to 2n - 2",
+            4 | 104 => "the length is not 2 + 2m",
+            5 | 105 => "a parent word breaks its rule",
+            6 | 106 => "a label breaks its rule, or does not stand exactly once",
+            7 | 107 => "a tip other than node 0 has a child, or an inner node has fewer than two",
+            8 => "the two n differ",
+            9 => "the work has fewer than (m - 1)(m' - 1) cells",
+            10 => "a label asked about is n or more",
+            11 => "two labels asked about are equal",
+            12 => "the lent walk is shorter than n",
+            15 => "an odd number of bytes",
+            _ => "a rule is broken",
+        }
+    }
+
+    /// Whether the second of two tables is the one that is no tree.
+    pub fn is_of_second(self) -> bool {
+        self.number() > 100
+    }
+}
+
+impl fmt::Display for Refusal {
+    fn fmt(&self, f: &mut fmt::Formatter<'_>) -> fmt::Result {
+        write!(f, "refused {}: {}", self.number(), self.reason())
+    }
+}
+
+impl Error for Refusal {}

@@ -1,0 +1,129 @@
+/*
+ * Leskwyn: two population trees counted against each other, quartet by quartet.
+ *
+ * The functions of the static library that `rt staticlib capi` builds (target/staticlib/libcapi.a). Each is proved to
+ * meet its contract for every input: any words in a slice of any length give either the whole answer or one refusal
+ * number, and nothing beyond the lent cells is touched.
+ *
+ * Slices. A slice is a pointer to its first element, then the number of its elements (not of its bytes). The pointer
+ * is aligned for uint16_t and not null, even where the number is 0. Nothing is kept after a call returns: a slice has
+ * to live only as long as the call.
+ *
+ * Overlap. Tables are only read, so the two tables of a pair may be one slice, or share words. The lent cells (`walk`,
+ * `work`) must not overlap a table.
+ *
+ * Threads. No globals, no allocation, no input or output. Calls from several threads at once need no lock, as long as
+ * no two of them lend the same cells and nobody writes to a table that is being read. leskwyn_claim_sums and
+ * leskwyn_quartet_table take up to 200 kB of stack, the others up to 20 kB.
+ *
+ * A tree table. 16-bit words: n, the tips (2 to 256); m, the nodes (n to 2n - 2); then m parent words; then m label
+ * words; 2 + 2m words in all.
+ *   - Node 0 is the tip labelled 0. Its parent word is 0. It has exactly one child, node 1, whose parent word is 0.
+ *   - For i >= 2, node i's parent is at least 1 and less than i.
+ *   - A tip's label is 0 to n - 1, each standing once. LESKWYN_INNER marks an inner node.
+ *   - A tip other than node 0 has no child. An inner node has two children or more.
+ * Edge i (1 to m - 1) joins node i to its parent; the labels beyond it are those on node i's side, away from tip 0.
+ *
+ * Refusals. 0 stands for accepted. A refused call gives its number, 0 in every other field of its answer, and no
+ * change to a lent cell. Where several conditions hold, the first in this order decides.
+ *
+ *   of a table   1   fewer than two words
+ *                2   n is not 2 to 256
+ *                3   m is not n to 2n - 2
+ *                4   the length is not 2 + 2m
+ *                5   a parent word breaks its rule
+ *                6   node 0's label is not 0, a label is neither LESKWYN_INNER nor below n, or some label from 0 to
+ *                    n - 1 does not stand exactly once
+ *                7   a tip other than node 0 has a child, or an inner node has fewer than two
+ *   of labels   10   a label is n or more
+ *               11   two of the labels are equal
+ *   of a walk   12   the lent walk is shorter than n
+ *   of a pair    1 to 7 of the first table; then 101 to 107, the same of the second; then
+ *                8   the two n differ
+ *                9   the work has fewer than (m - 1)(m' - 1) cells, m' being the second table's m
+ */
+#ifndef LESKWYN_H
+#define LESKWYN_H
+
+#include <stddef.h>
+#include <stdint.h>
+
+#ifdef __cplusplus
+extern "C" {
+#endif
+
+/* The label word of an inner node. */
+#define LESKWYN_INNER 65535
+
+/* Cells that are enough for the work of every pair: (510 - 1)(510 - 1), for two binary trees of 256 tips. */
+#define LESKWYN_WORK_CELLS 259081
+
+/* The refusal, or 0; the node where the paths join. */
+typedef struct { uint16_t refusal, node; } leskwyn_centre_answer;
+
+/* The refusal, or 0; 1 for a butterfly and 0 for a star; the partner of the smallest label, 0 for a star. */
+typedef struct { uint16_t refusal, butterfly, partner; } leskwyn_topology_answer;
+
+/* The refusal, or 0; the claim sums S, S', S2 and S3. */
+typedef struct { uint16_t refusal; uint64_t first, second, same, different; } leskwyn_claim_sums_answer;
+
+/*
+ * The refusal, or 0; how many sets of four tips are: a, the same butterfly in both trees; b, different butterflies;
+ * c, a butterfly in the first tree only; d, in the second only; e, a star in both. The quartet distance is b + c + d.
+ */
+typedef struct { uint16_t refusal; uint64_t a, b, c, d, e, distance; } leskwyn_quartet_table_answer;
+
+/*
+ * The refusal, or 0; the splits of the first tree, of the second, and of both; the Robinson-Foulds distance,
+ * first + second - 2 common. A split is an edge with at least two tips on each side.
+ */
+typedef struct { uint16_t refusal; uint64_t first, second, common, distance; } leskwyn_split_counts_answer;
+
+/* Whether the words are a tree table. Answers 0, or 1 to 7. */
+uint16_t leskwyn_check(const uint16_t *table, size_t words);
+
+/*
+ * The labels depth first from node 0, children in rising node number, into the first n cells of `walk`; later cells
+ * stay. Answers 0, or 1 to 7, then 12.
+ */
+uint16_t leskwyn_walk(const uint16_t *table, size_t words, uint16_t *walk, size_t cells);
+
+/* The centre of three tips: the node where the paths between them join. Refuses by 1 to 7, then 10, then 11. */
+leskwyn_centre_answer leskwyn_centre(const uint16_t *table, size_t words, uint16_t a, uint16_t b, uint16_t c);
+
+/*
+ * The topology of four tips, whatever their order: the butterfly ab|cd if some edge has a, b on one side and c, d on
+ * the other, else a star. Refuses by 1 to 7, then 10, then 11.
+ */
+leskwyn_topology_answer leskwyn_topology(const uint16_t *table, size_t words,
+                                         uint16_t a, uint16_t b, uint16_t c, uint16_t d);
+
+/*
+ * The crossings of two trees: afterwards cell (i - 1)(m' - 1) + (j - 1) of the work holds how many labels lie beyond
+ * both edge i of the first tree and edge j of the second; later cells stay. What the cells held before plays no part.
+ * Answers 0, or the pair's refusal.
+ */
+uint16_t leskwyn_crossings(const uint16_t *first, size_t first_words,
+                           const uint16_t *second, size_t second_words,
+                           uint16_t *work, size_t cells);
+
+/* The claim sums of two trees. Leaves the crossings in the work, as leskwyn_crossings does. */
+leskwyn_claim_sums_answer leskwyn_claim_sums(const uint16_t *first, size_t first_words,
+                                             const uint16_t *second, size_t second_words,
+                                             uint16_t *work, size_t cells);
+
+/* The quartet table of two trees. Leaves the crossings in the work, as leskwyn_crossings does. */
+leskwyn_quartet_table_answer leskwyn_quartet_table(const uint16_t *first, size_t first_words,
+                                                   const uint16_t *second, size_t second_words,
+                                                   uint16_t *work, size_t cells);
+
+/* The split counts of two trees. Leaves the crossings in the work, as leskwyn_crossings does. */
+leskwyn_split_counts_answer leskwyn_split_counts(const uint16_t *first, size_t first_words,
+                                                 const uint16_t *second, size_t second_words,
+                                                 uint16_t *work, size_t cells);
+
+#ifdef __cplusplus
+}
+#endif
+
+#endif
