@@ -10,50 +10,50 @@ use Rattle.pair_file.specs.Lines.{line}
 
 -- ---- the words of the lines, in ASCII
 
-abbrev pub leaves : List ℕ
-leaves = 108 ∷ 101 ∷ 97 ∷ 118 ∷ 101 ∷ 115 ∷ []
+abbrev pub leavesWord : List ℕ
+leavesWord = 108 ∷ 101 ∷ 97 ∷ 118 ∷ 101 ∷ 115 ∷ []
 
-abbrev pub claims : List ℕ
-claims = 99 ∷ 108 ∷ 97 ∷ 105 ∷ 109 ∷ 115 ∷ []
+abbrev pub claimsWord : List ℕ
+claimsWord = 99 ∷ 108 ∷ 97 ∷ 105 ∷ 109 ∷ 115 ∷ []
 
-abbrev pub quartets : List ℕ
-quartets = 113 ∷ 117 ∷ 97 ∷ 114 ∷ 116 ∷ 101 ∷ 116 ∷ 115 ∷ []
+abbrev pub quartetsWord : List ℕ
+quartetsWord = 113 ∷ 117 ∷ 97 ∷ 114 ∷ 116 ∷ 101 ∷ 116 ∷ 115 ∷ []
 
-abbrev pub distance : List ℕ
-distance = 100 ∷ 105 ∷ 115 ∷ 116 ∷ 97 ∷ 110 ∷ 99 ∷ 101 ∷ []
+abbrev pub distanceWord : List ℕ
+distanceWord = 100 ∷ 105 ∷ 115 ∷ 116 ∷ 97 ∷ 110 ∷ 99 ∷ 101 ∷ []
 
-abbrev pub splits : List ℕ
-splits = 115 ∷ 112 ∷ 108 ∷ 105 ∷ 116 ∷ 115 ∷ []
+abbrev pub splitsWord : List ℕ
+splitsWord = 115 ∷ 112 ∷ 108 ∷ 105 ∷ 116 ∷ 115 ∷ []
 
-abbrev pub refused : List ℕ
-refused = 114 ∷ 101 ∷ 102 ∷ 117 ∷ 115 ∷ 101 ∷ 100 ∷ []
+abbrev pub refusedWord : List ℕ
+refusedWord = 114 ∷ 101 ∷ 102 ∷ 117 ∷ 115 ∷ 101 ∷ 100 ∷ []
 
 -- ---- the lines
 
 -- 'prints tips; S S′ S2 S3; ..'
 unfoldable pub firstLines : Figures → List ℕ
 firstLines f =
-    line leaves (f .tips ∷ [])
-    ++ line claims (f .claims .first ∷ f .claims .second ∷ f .claims .same ∷ f .claims .different ∷ [])
+    line leavesWord (f .tips ∷ [])
+    ++ line claimsWord (f .claims .first ∷ f .claims .second ∷ f .claims .same ∷ f .claims .different ∷ [])
 
 -- '.. A to E; distance; ..'
 unfoldable pub quartetLines : Figures → List ℕ
 quartetLines f =
-    line quartets
+    line quartetsWord
     (f .quartets .a ∷ f .quartets .b ∷ f .quartets .c ∷ f .quartets .d ∷ f .quartets .e ∷ [])
-    ++ line distance (f .distance ∷ [])
+    ++ line distanceWord (f .distance ∷ [])
 
 -- '.. splits of the first, of the second, common, Robinson-Foulds distance'
 unfoldable pub splitLine : Figures → List ℕ
 splitLine f =
-    line splits (f .splits .first ∷ f .splits .second ∷ f .splits .common ∷ f .splits .distance ∷ [])
+    line splitsWord (f .splits .first ∷ f .splits .second ∷ f .splits .common ∷ f .splits .distance ∷ [])
 
 unfoldable pub lines : Figures → List ℕ
 lines f = firstLines f ++ quartetLines f ++ splitLine f
 
 -- 'A refusal prints one line, as `refused 4`'
 unfoldable pub listed : Figures → List ℕ
-listed f = elim (eqb (f .refusal) 0) [ true ↦ lines f | false ↦ line refused (f .refusal ∷ []) ]
+listed f = elim (eqb (f .refusal) 0) [ true ↦ lines f | false ↦ line refusedWord (f .refusal ∷ []) ]
 
 -- ---- the lent buffer
 

@@ -16,33 +16,33 @@ use Rattle.io.specs.Counts.{Counts}
 use Rattle.pair_file.specs.declared.figures.Figures.{Figures}
 use Rattle.pair_file.specs.Lines.{line}
 use Rattle.pair_file.specs.Written.{Written, written, written-both}
-use Rattle.pair_file.specs.Listing.{leaves, claims, quartets, distance, splits, refused}
+use Rattle.pair_file.specs.Listing.{leavesWord, claimsWord, quartetsWord, distanceWord, splitsWord, refusedWord}
 use Rattle.pair_file.specs.Listing.{firstLines, quartetLines, splitLine, lines, listed}
 use Rattle.pair_file.specs.Listing.{afterListing, bytesListed}
 
 -- ---- the lines, one after the other
 
 module _ (f : Figures) (at : ℕ) (old : List ℕ) (middle : ℕ) (new : List ℕ) (end : ℕ) (last : List ℕ) where
-  pub first-lines-written : (tips : ℕ) → tips ≡ f .tips → Written at old (line leaves (tips ∷ [])) middle new
+  pub first-lines-written : (tips : ℕ) → tips ≡ f .tips → Written at old (line leavesWord (tips ∷ [])) middle new
       → Written middle new
-      (line claims (f .claims .first ∷ f .claims .second ∷ f .claims .same ∷ f .claims .different ∷ [])) end last
+      (line claimsWord (f .claims .first ∷ f .claims .second ∷ f .claims .same ∷ f .claims .different ∷ [])) end last
       → Written at old (firstLines f) end last
   unfolding firstLines
   first-lines-written tips e h g =
       written-both at old _ middle new _ end last
-      (subst (λ (x : ℕ). Written at old (line leaves (x ∷ [])) middle new) e h) g
+      (subst (λ (x : ℕ). Written at old (line leavesWord (x ∷ [])) middle new) e h) g
 
   pub quartet-lines-written :
       Written at old
-      (line quartets (f .quartets .a ∷ f .quartets .b ∷ f .quartets .c ∷ f .quartets .d ∷ f .quartets .e ∷ []))
+      (line quartetsWord (f .quartets .a ∷ f .quartets .b ∷ f .quartets .c ∷ f .quartets .d ∷ f .quartets .e ∷ []))
       middle new
-      → Written middle new (line distance (f .distance ∷ [])) end last → Written at old (quartetLines f) end last
+      → Written middle new (line distanceWord (f .distance ∷ [])) end last → Written at old (quartetLines f) end last
   unfolding quartetLines
   quartet-lines-written h g = written-both at old _ middle new _ end last h g
 
 pub split-line-written : (f : Figures) (at : ℕ) (old : List ℕ) (end : ℕ) (last : List ℕ) (a b c d : ℕ)
     → a ≡ f .splits .first → b ≡ f .splits .second → c ≡ f .splits .common → d ≡ f .splits .distance
-    → Written at old (line splits (a ∷ b ∷ c ∷ d ∷ [])) end last → Written at old (splitLine f) end last
+    → Written at old (line splitsWord (a ∷ b ∷ c ∷ d ∷ [])) end last → Written at old (splitLine f) end last
 unfolding splitLine
 split-line-written f at old end last a b c d ea eb ec ed h = rw (← ea, ← eb, ← ec, ← ed) h
 
@@ -59,7 +59,7 @@ unfolding listed
 listed-accepted f old end new e h = rw (eq-eqb (f .refusal) 0 e, listed) h
 
 pub listed-refused : (f : Figures) (old : List ℕ) (end : ℕ) (new : List ℕ) (k : ℕ) → k ≡ f .refusal → f .refusal ≢ 0
-    → Written 0 old (line refused (k ∷ [])) end new → Written 0 old (listed f) end new
+    → Written 0 old (line refusedWord (k ∷ [])) end new → Written 0 old (listed f) end new
 unfolding listed
 listed-refused f old end new k e d h = rw (ne-eqb (f .refusal) 0 d, listed) (rw (← e) h)
 
