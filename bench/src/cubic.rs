@@ -2,6 +2,7 @@
 //! tell the topologies of all sets of four that hold them. Each set of four is met four times.
 
 use crate::reference::X;
+use crate::sides::{shared_sizes, Tree};
 
 /// A tree with its edges in both directions. Side 2i is what lies on node i's side of edge i, side 2i + 1 the rest.
 struct Sided {
@@ -32,6 +33,10 @@ impl Sided {
         self.parents.len()
     }
 
+    fn tree(&self) -> Tree<'_> {
+        Tree { parents: &self.parents, node_of: &self.node_of }
+    }
+
     /// The side of the edge between two neighbours on which `to` lies.
     fn side(&self, from: usize, to: usize) -> u16 {
         let is_below = to != 0 && self.parents[to] == from;
@@ -49,35 +54,10 @@ struct Shared {
 
 impl Shared {
     fn of(first: &Sided, second: &Sided) -> Shared {
-        let n = first.node_of.len() as u16;
-        let (m, k) = (first.nodes(), second.nodes());
-        let mut below = vec![0u16; m * k];
-        for (&i, &j) in first.node_of.iter().zip(&second.node_of) {
-            below[i * k + j] = 1;
-        }
-        for i in 0..m {
-            for j in (1..k).rev() {
-                below[i * k + second.parents[j]] += below[i * k + j];
-            }
-        }
-        for i in (1..m).rev() {
-            for j in 0..k {
-                below[first.parents[i] * k + j] += below[i * k + j];
-            }
-        }
-        let ours: Vec<u16> = (0..m).flat_map(|i| [below[i * k], n - below[i * k]]).collect();
-        let theirs: Vec<u16> = (0..k).flat_map(|j| [below[j], n - below[j]]).collect();
-        let width = 2 * k;
-        let mut sizes = vec![0; 2 * m * width];
-        for i in 0..m {
-            for j in 0..k {
-                let (both, one, other) = (below[i * k + j], ours[2 * i], theirs[2 * j]);
-                sizes[2 * i * width + 2 * j] = both;
-                sizes[2 * i * width + 2 * j + 1] = one - both;
-                sizes[(2 * i + 1) * width + 2 * j] = other - both;
-                sizes[(2 * i + 1) * width + 2 * j + 1] = n + both - one - other;
-            }
-        }
+        let width = 2 * second.nodes();
+        let sizes = shared_sizes(&first.tree(), &second.tree());
+        let ours = sizes.iter().step_by(width).copied().collect();
+        let theirs = sizes[..width].to_vec();
         Shared { width, sizes, ours, theirs }
     }
 }

@@ -2,6 +2,7 @@
 //! summed over all pairs of extended claims.
 
 use crate::reference::X;
+use crate::sides::{shared_sizes, Tree};
 
 /// A binary tree. Edge i joins node i to its parent; it is new if the expansion brought it in. Side 2i is what lies on
 /// node i's side of edge i, side 2i + 1 the rest. Parents come before their children.
@@ -55,6 +56,10 @@ impl Expanded {
         self.parents.len()
     }
 
+    fn tree(&self) -> Tree<'_> {
+        Tree { parents: &self.parents, node_of: &self.node_of }
+    }
+
     /// For each original directed edge into an inner node: the side behind it, and the pairs of sides in front of the
     /// edges that it reaches by new edges alone, itself among them.
     fn claims(&self) -> Vec<(usize, Vec<[usize; 2]>)> {
@@ -88,36 +93,6 @@ impl Expanded {
     }
 }
 
-/// The sizes of the intersections of all sides of two trees, row by row.
-fn shared_sizes(first: &Expanded, second: &Expanded) -> Vec<u16> {
-    let n = first.node_of.len() as u16;
-    let (m, k) = (first.nodes(), second.nodes());
-    let mut below = vec![0u16; m * k];
-    for (&i, &j) in first.node_of.iter().zip(&second.node_of) {
-        below[i * k + j] = 1;
-    }
-    for i in 0..m {
-        for j in (1..k).rev() {
-            below[i * k + second.parents[j]] += below[i * k + j];
-        }
-    }
-    for i in (1..m).rev() {
-        let (above, row) = below.split_at_mut(i * k);
-        let above = &mut above[first.parents[i] * k..][..k];
-        above.iter_mut().zip(row).for_each(|(sum, &mut size)| *sum += size);
-    }
-    let mut sizes = Vec::with_capacity(4 * m * k);
-    for i in 0..m {
-        let one = below[i * k];
-        sizes.extend((0..k).flat_map(|j| [below[i * k + j], one - below[i * k + j]]));
-        sizes.extend((0..k).flat_map(|j| {
-            let (both, other) = (below[i * k + j], below[j]);
-            [other - both, n + both - one - other]
-        }));
-    }
-    sizes
-}
-
 fn pairs_of(k: u64) -> u64 {
     k * k.saturating_sub(1) / 2
 }
@@ -131,7 +106,7 @@ fn claim_sum(claims: &[(usize, Vec<[usize; 2]>)], size: impl Fn(usize) -> u64) -
 /// The five cases A to E of two accepted tables with the same tips.
 pub fn cases(first: &[u16], second: &[u16]) -> [u64; 5] {
     let (first, second) = (Expanded::of(first), Expanded::of(second));
-    let sizes = shared_sizes(&first, &second);
+    let sizes = shared_sizes(&first.tree(), &second.tree());
     let width = 2 * second.nodes();
     let (ours, theirs) = (first.claims(), second.claims());
     let (mut same, mut different) = (0, 0);

@@ -12,4 +12,5 @@ pub mod expanded;
 pub mod generate;
 pub mod random;
 pub mod reference;
+mod sides;
 pub mod straight;
