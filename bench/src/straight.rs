@@ -170,7 +170,11 @@ fn pair_sums(work: &[u16], width: usize, n: u16, ours: &Nodes, theirs: &Nodes) -
                 (&[r0, r1, r2], &[c0, c1, c2]) => nine(work, width, n, [r0, r1, r2], [c0, c1, c2]),
                 _ => {
                     block.fill(work, width, n, rows, columns);
-                    block.sums()
+                    match (rows.len(), columns.len()) {
+                        (3, len) => three(&block.cells, len, 1, len),
+                        (len, 3) => three(&block.cells, 1, 3, len),
+                        _ => block.sums(),
+                    }
                 }
             };
             sums.same += pair.same;
@@ -198,6 +202,46 @@ fn nine(work: &[u16], width: usize, n: u16, [r0, r1, r2]: [usize; 3], [c0, c1, c
     }
     let all = x.iter().sum::<u64>() + y.iter().sum::<u64>() + z.iter().sum::<u64>();
     Sums { same: weighed - 3 * products, different: all * products - weighed }
+}
+
+/// The sums of one line and of its squares; of two or three lines the products of the cells at the same place, and these
+/// times the sums of the cells.
+#[derive(Default)]
+struct Line {
+    sum: u64,
+    weighed: u64,
+}
+
+impl Line {
+    fn add(&mut self, product: u64, weight: u64) {
+        self.sum += product;
+        self.weighed += product * weight;
+    }
+}
+
+/// Two nodes with three edges at one of them: three lines of the block, which begin `gap` apart.
+fn three(cells: &[u16], gap: usize, step: usize, len: usize) -> Sums {
+    let [mut x, mut y, mut z, mut xy, mut xz, mut yz, mut all]: [Line; 7] = Default::default();
+    for place in (0..len).map(|index| index * step) {
+        let [a, b, c] = [place, place + gap, place + 2 * gap].map(|cell| u64::from(cells[cell]));
+        x.add(a, a);
+        y.add(b, b);
+        z.add(c, c);
+        xy.add(a * b, a + b);
+        xz.add(a * c, a + c);
+        yz.add(b * c, b + c);
+        all.add(a * b * c, a + b + c);
+    }
+    let (u, v, w) = (y.sum * z.sum - yz.sum, x.sum * z.sum - xz.sum, x.sum * y.sum - xy.sum);
+    let weighed = xy.weighed * z.sum + xz.weighed * y.sum + yz.weighed * x.sum;
+    let beside = xy.sum * z.sum + xz.sum * y.sum + yz.sum * x.sum;
+    let squares = x.weighed * u + y.weighed * v + z.weighed * w;
+    let sums = x.sum * u + y.sum * v + z.sum * w;
+    let hooks = xy.sum * (u + v) + xz.sum * (u + w) + yz.sum * (v + w);
+    Sums {
+        same: squares + 2 * (beside + all.weighed) - sums - weighed - 6 * all.sum,
+        different: hooks + 4 * all.weighed - weighed - 2 * all.sum * (x.sum + y.sum + z.sum),
+    }
 }
 
 /// The crossings of the edges of two nodes, and sums along its rows and columns.

@@ -9,6 +9,7 @@ use Rattle.sums.specs.Sum.{sum, sum-ext, sum-cong}
 use Rattle.trees.specs.Table.{word}
 use Rattle.node_pairs.specs.Cells.{pairS2, pairS3}
 use Rattle.node_pairs.specs.Aggregates.{transposed, rowSum, columnSum, down, along}
+use Rattle.node_pairs.specs.Transposed.{pairS2-transposed, pairS3-transposed}
 use Rattle.node_pairs.specs.CellForms.{pairS2-cells}
 use Rattle.node_pairs.specs.ClosedForms.{dotSquares, termSquares, pairS3-rows, pairS3-columns}
 use Rattle.sums.specs.Products.{product-le}
@@ -180,7 +181,7 @@ module _ (cells : List ℕ) (d d' : ℕ) (b : Block cells d d') where
         rest-same _ _ _ _ _ (row-at i a) (totals-are totals totals₀ lt et a m) (column-without-is d d' I i a l));
   }
 
-  -- ---- the rectangles, by rows and by columns
+  -- ---- by rows and by columns
 
   -- the rows as lines are the block ..
   rows-same : lineOf cells d' 1 ≡ I
@@ -189,6 +190,34 @@ module _ (cells : List ℕ) (d d' : ℕ) (b : Block cells d d') where
   -- .. and the columns are its transposed
   columns-same : lineOf cells 1 d' ≡ transposed I
   columns-same = fun-ext (λ j. fun-ext (λ f. column-at j f))
+
+  -- three rows ..
+  module _ (three : d ≡ 3) where
+    pub three-rows : FewLines cells d' 3 1 d'
+    three-rows = rw three at rows-few-lines
+
+    pub three-rows-S2 : pairS2 3 d' (lineOf cells d' 1) ≡ pairS2 d d' I
+    three-rows-S2 = ap₂ (λ (k : ℕ) (J : ℕ → ℕ → ℕ). pairS2 k d' J) (sym three) rows-same
+
+    pub three-rows-S3 : pairS3 3 d' (lineOf cells d' 1) ≡ pairS3 d d' I
+    three-rows-S3 = ap₂ (λ (k : ℕ) (J : ℕ → ℕ → ℕ). pairS3 k d' J) (sym three) rows-same
+
+  -- .. and three columns
+  module _ (three : d' ≡ 3) where
+    pub three-columns : FewLines cells 1 3 3 d
+    three-columns = rw three at columns-few-lines
+
+    pub three-columns-S2 : pairS2 3 d (lineOf cells 1 3) ≡ pairS2 d d' I
+    three-columns-S2 =
+        ap (λ (k : ℕ). pairS2 k d (lineOf cells 1 k)) (sym three)
+        ∙ ap (pairS2 d' d) columns-same
+        ∙ sym (pairS2-transposed d d' I)
+
+    pub three-columns-S3 : pairS3 3 d (lineOf cells 1 3) ≡ pairS3 d d' I
+    three-columns-S3 =
+        ap (λ (k : ℕ). pairS3 k d (lineOf cells 1 k)) (sym three)
+        ∙ ap (pairS3 d' d) columns-same
+        ∙ sym (pairS3-transposed d d' I)
 
   module _ (dots terms : ℕ) (dots-le : dots ≤ 281474976710656) (terms-le : terms ≤ 72057594037927936) where
     pub rectangles-rows : dots ≡ dotSquares d d' (lineOf cells d' 1) → terms ≡ termSquares d d' (lineOf cells d' 1)

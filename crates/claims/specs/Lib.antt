@@ -18,6 +18,7 @@ pub mod CellTerms
 pub mod CellSums
 pub mod BlockCells
 pub mod LineDots
+pub mod ThreeLines
 pub mod BlockTerms
 pub mod NineCells
 pub mod NinePair

@@ -5,6 +5,7 @@ use super::dots::all_dots;
 use super::lines::line_rests;
 use super::lines::line_sums;
 use super::terms::PairTerms;
+use super::three_lines::three_lines;
 ghost use mathlib.Core.Path.{_≡_};
 ghost use Prim.Native.Nat.{_≤_};
 ghost use lib.ListN.{length};
@@ -47,9 +48,8 @@ fn rectangle_sums(cells: &[u16], rows: usize, columns: usize, dots: &mut [u64]) 
     all_dots(cells, 1, columns, columns, rows, dots)
 }
 
-// What two nodes add, from the block of their cells: `rows` rows of `columns` cells each. The other slices are
-// lent for sums along its rows and columns.
-pub(crate) fn block_terms(
+// What two nodes add, by rows, columns and cells.
+fn large_block(
     cells: &[u16],
     rows: usize,
     columns: usize,
@@ -71,4 +71,30 @@ pub(crate) fn block_terms(
         s2: all.pairs,
         s3: all.plus + 2 * rectangles.dots - all.minus - 2 * rectangles.terms,
     }
+}
+
+// What two nodes add, from the block of their cells: `rows` rows of `columns` cells each. Three rows or three columns
+// are taken as lines. The other slices are lent for sums along the rows and columns of a larger block.
+pub(crate) fn block_terms(
+    cells: &[u16],
+    rows: usize,
+    columns: usize,
+    sums: &mut [u64],
+    totals: &mut [u64],
+    down: &mut [u64],
+    along: &mut [u64],
+    dots: &mut [u64],
+) -> PairTerms
+    requires { ⌜ Block (now cells) rows columns ⌝ }
+    requires { ⌜ Scratch (now sums) (now totals) (now down) (now along) (now dots) ⌝ }
+    ensures { λ r. ⌜ (r .s2 ≡ pairS2 rows columns (blockCell (now (cells .entry)) columns))
+        × (r .s3 ≡ pairS3 rows columns (blockCell (now (cells .entry)) columns)) ⌝ }
+{
+    if rows == 3 {
+        return three_lines(cells, columns, 1, columns);
+    }
+    if columns == 3 {
+        return three_lines(cells, 1, 3, rows);
+    }
+    large_block(cells, rows, columns, sums, totals, down, along, dots)
 }

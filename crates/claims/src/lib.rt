@@ -9,6 +9,7 @@ mod terms; // terms.rt: what two nodes add to the claim sums
 mod cell_terms; // cell_terms.rt: what one cell of a block gives
 mod cells; // cells.rt: what the cells of a block give, row by row
 mod dots; // dots.rt: the dot products of pairs of lines
+mod three_lines; // three_lines.rt: two nodes with three codes into one of them
 mod blocks; // blocks.rt: what two nodes add, from the block of their cells
 mod fills; // fills.rt: the block of the cells of two nodes
 mod nine; // nine.rt: two nodes with three codes into each

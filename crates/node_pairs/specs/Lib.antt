@@ -1,4 +1,5 @@
 pub mod Cells
+pub mod ApartSums
 pub mod CodeLists
 pub mod NodeSums
 pub mod NodePairs
@@ -10,3 +11,5 @@ pub mod Hooks
 pub mod ClosedForms
 pub mod ThreeByThree
 pub mod CellsAlike
+pub mod Transposed
+pub mod ThreeRows

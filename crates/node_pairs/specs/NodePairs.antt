@@ -1,14 +1,15 @@
 -- The claim sums S2 and S3 of two trees are sums over pairs of nodes.
 -- Assumes nothing.
-use mathlib.Core.Path.{_≡_, sym, _∙_}
+use mathlib.Core.Path.{_≡_, _∙_}
 use Prim.Native.Nat.{ℕ, suc, _*_, _≤_}
-use Rattle.sums.specs.Sum.{sum, sum-cong, sum-mul-left, sum-swap}
+use Rattle.sums.specs.Sum.{sum, sum-cong}
 use Rattle.shapes.specs.Ancestors.{Rooted}
 use Rattle.shapes.specs.Directions.{head}
 use Rattle.shapes.specs.Claims.{sumClaims, choose2, equation1, dcount}
 use Rattle.shapes.specs.OrderedClaims.{ordered-cong}
 use Rattle.shapes.specs.ClaimPairs.{sumPairs, same-ordered, different-ordered}
-use Rattle.node_pairs.specs.Cells.{apart, sumApart, pairS2, pairS3}
+use Rattle.node_pairs.specs.Cells.{sumApart, pairS2, pairS3}
+use Rattle.node_pairs.specs.ApartSums.{apart-sum}
 use Rattle.node_pairs.specs.CodeLists.{Lists, degreeOf, codeAt, lists-codes}
 use Rattle.node_pairs.specs.NodeSums.{by-nodes}
 
@@ -32,17 +33,6 @@ listed up r k = record {
   code = codeAt (2 * k) (head up);
   lists = λ v l. lists-codes (2 * k) (head up) v;
 }
-
--- a sum inside comes out
-apart-sum : (d n : ℕ) (F : ℕ → ℕ → ℕ → ℕ → ℕ)
-    → sumApart d (λ i j l. sum n (λ a. F a i j l)) ≡ sum n (λ a. sumApart d (F a))
-unfolding sumApart
-apart-sum d n F =
-    sum-cong d (λ i. sum-cong d (λ j.
-    sum-cong d (λ l. sym (sum-mul-left n (apart i j l) (λ a. F a i j l)))
-    ∙ sum-swap d n (λ l a. apart i j l * F a i j l))
-    ∙ sum-swap d n (λ j a. sum d (λ l. apart i j l * F a i j l)))
-    ∙ sum-swap d n (λ i a. sum d (λ j. sum d (λ l. apart i j l * F a i j l)))
 
 module _ (t u : Listed) where
   -- the sum of H over three different codes into v and three different codes into v'

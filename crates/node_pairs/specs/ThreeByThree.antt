@@ -3,10 +3,9 @@
 use mathlib.Core.Path.{_≡_, _∙_}
 use Prim.Native.Nat.{ℕ, _+_, _*_}
 use native.Mathlib.Omega.{arith}
-use Rattle.sums.specs.Sum.{sum}
-use Rattle.sums.specs.Bits.{bit}
 use Rattle.shapes.specs.Claims.{choose2}
 use Rattle.node_pairs.specs.Cells.{sumApart, pairS2, pairS3}
+use Rattle.node_pairs.specs.ApartSums.{orders}
 
 -- what a cell t gives, where the other two rows have p, q and r, s in the other two columns: for S2 ..
 abbrev pub termS2 : ℕ → ℕ → ℕ → ℕ → ℕ → ℕ
@@ -26,11 +25,6 @@ sumRow F x y z =
 -- all nine cells
 unfoldable pub sumNine : (ℕ → ℕ → ℕ → ℕ → ℕ → ℕ) → (ℕ → ℕ → ℕ) → ℕ
 sumNine F I = sumRow F (I 0) (I 1) (I 2) + sumRow F (I 1) (I 2) (I 0) + sumRow F (I 2) (I 0) (I 1)
-
--- three different indices below three
-orders : (F : ℕ → ℕ → ℕ → ℕ) → sumApart 3 F ≡ F 0 1 2 + F 0 2 1 + F 1 0 2 + F 1 2 0 + F 2 0 1 + F 2 1 0
-unfolding sumApart sum bit
-orders F = omega arith
 
 -- ---- S2
 

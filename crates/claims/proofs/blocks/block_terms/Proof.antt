@@ -1,55 +1,34 @@
--- The terms of the cells and the dot products come to the two sums, and nothing goes below 0 on the way.
+-- Three rows, or three columns, are lines; the other blocks are large.
 -- Assumes nothing.
-use mathlib.Core.Path.{_≡_}
-use Prim.Native.Nat.{_+_, _*_}
-use native.Mathlib.Omega.{arith}
-use Rattle.node_pairs.specs.Cells.{pairS3}
-use Rattle.claims.specs.Block.{blockCell}
-use Rattle.claims.specs.BlockTerms.{pairs-come-to, hooks-come-to}
+use mathlib.Core.Path.{_∙_}
+use Rattle.claims.specs.BlockTerms.{three-rows, three-rows-S2, three-rows-S3}
+use Rattle.claims.specs.BlockTerms.{three-columns, three-columns-S2, three-columns-S3}
 use borrow.Author.Needs.{needs}
 use Rattle.claims.proofs.blocks.block_terms.Statement.{statement}
 use Rattle.claims.proofs.blocks.block_terms.Tie as tie
 
-abbrev filled : tie.After-all-terms → tie.After-block-sums
-filled c = c .before .before .before .before .before .before .before .before .before .before .before .before .before
+three-lines-requires : tie.Need-three-lines-requires
+three-lines-requires c κs = three-rows _ _ _ (c .before .before .before .before .before .before .before .pre .0) (c .if1 .taken)
 
-abbrev rectangles : tie.After-all-terms → tie.After-rectangle-sums
-rectangles c = filled c .before .before .before .before .before .before .before
+returns : tie.Need-returns
+returns c =
+    let b = c .before .before .before .before .before .before .before .before .pre .0 in
+    let three = c .before .if1 .taken in
+    (c .three-lines .ensures .0 ∙ three-rows-S2 _ _ _ b three, c .three-lines .ensures .1 ∙ three-rows-S3 _ _ _ b three)
 
-abbrev start : tie.After-all-terms → tie.Start
-start c = rectangles c .before .before .before .before .before .before .before .before
+three-lines-requires-2 : tie.Need-three-lines-requires-2
+three-lines-requires-2 c κs = three-columns _ _ _ (c .before .before .before .before .before .before .before .before .pre .0) (c .if2 .taken)
 
--- what is added up for S3, and what is taken off
-hooks : (c : tie.After-all-terms)
-    → pairS3 (start c .args .rows) (start c .args .columns)
-    (blockCell (start c .args .cells .now) (start c .args .columns))
-    + c .all-terms .result .minus + 2 * rectangles c .rectangle-sums .result .terms
-    ≡ c .all-terms .result .plus + 2 * rectangles c .rectangle-sums .result .dots
-hooks c = hooks-come-to _ _ _ _ _ _ (c .all-terms .ensures) _ _ (rectangles c .rectangle-sums .ensures)
+returns-2 : tie.Need-returns-2
+returns-2 c =
+    let b = c .before .before .before .before .before .before .before .before .before .pre .0 in
+    let three = c .before .if2 .taken in (
+      c .three-lines2 .ensures .0 ∙ three-columns-S2 _ _ _ b three,
+      c .three-lines2 .ensures .1 ∙ three-columns-S3 _ _ _ b three,
+    )
 
-rectangle-sums-requires : tie.Need-rectangle-sums-requires
-rectangle-sums-requires c κs = search needs
-
-block-sums-requires : tie.Need-block-sums-requires
-block-sums-requires c κs = search needs
-
-all-terms-requires : tie.Need-all-terms-requires
-all-terms-requires c κs = search needs
-
-mul-t30 : tie.Need-mul-t30
-mul-t30 c = search needs
-
-add-t31 : tie.Need-add-t31
-add-t31 c = search needs
-
-sub-t32 : tie.Need-sub-t32
-sub-t32 c = search needs
-
-mul-t33 : tie.Need-mul-t33
-mul-t33 c = omega (arith, rectangles (c .before .before .before .before) .rectangle-sums .ensures .terms-le)
-
-sub-t34 : tie.Need-sub-t34
-sub-t34 c = omega (arith, hooks (c .before .before .before .before))
+large-block-requires : tie.Need-large-block-requires
+large-block-requires c κs = search needs
 
 same-length : tie.Need-same-length
 same-length c = search needs
@@ -66,26 +45,21 @@ same-length-4 c = search needs
 same-length-5 : tie.Need-same-length-5
 same-length-5 c = search needs
 
-returns : tie.Need-returns
-returns c =
-    let a = c .before .before .before .before in
-    (pairs-come-to _ _ _ _ _ _ (a .all-terms .ensures), omega (arith, hooks a))
+returns-3 : tie.Need-returns-3
+returns-3 c = c .before .before .before .before .before .before .before .before .before .before .large-block .ensures
 
 pub block-terms-spec : {M : Type 1} → statement M
 block-terms-spec =
     tie.close
     (tie.spec
-    rectangle-sums-requires
-    block-sums-requires
-    all-terms-requires
-    mul-t30
-    add-t31
-    sub-t32
-    mul-t33
-    sub-t34
+    three-lines-requires
+    returns
+    three-lines-requires-2
+    returns-2
+    large-block-requires
     same-length
     same-length-2
     same-length-3
     same-length-4
     same-length-5
-    returns)
+    returns-3)

@@ -1,0 +1,233 @@
+-- The invariant: `total` and `weighed` are the sums before cell `a`, and `k` is the place of cell `a` of the first line.
+-- Assumes nothing.
+use mathlib.Core.Path.{_≡_, refl, _∙_, ap}
+use Prim.Native.Nat.{ℕ, _+_, _*_, _-_, _≤_}
+use native.Mathlib.Omega.{arith}
+use Rattle.sums.specs.Sum.{sum}
+use Rattle.sums.specs.Products.{product-le}
+use Rattle.trees.specs.Table.{word}
+use Rattle.node_pairs.specs.ThreeRows.{products3, weighed3}
+use Rattle.claims.specs.Lines.{lineCell, sum-step}
+use Rattle.claims.specs.NineCells.{product, weighed, pair-le, diagonal-le, weighed-le}
+use borrow.Author.Needs.{needs}
+use Rattle.claims.proofs.three_lines.all_lines.Statement.{statement}
+use Rattle.claims.proofs.three_lines.all_lines.Tie as tie
+
+abbrev Inv-loop : tie.InvT-loop
+Inv-loop cells gap step len total₀ weighed₀ k₀ a₀ total weigh k a =
+    (a ≤ len)
+    × (k ≡ a * step)
+    × (total ≡ products3 a (lineCell cells 0 step) (lineCell cells gap step) (lineCell cells (2 * gap) step))
+    × (weigh ≡ weighed3 a (lineCell cells 0 step) (lineCell cells gap step) (lineCell cells (2 * gap) step))
+    × (total ≤ a * 16777216)
+    × (weigh ≤ a * 12884901888)
+
+abbrev μ-loop : tie.MeasureT-loop
+μ-loop cells gap step len total₀ weighed₀ k₀ a₀ total weigh k a = len - a
+
+abbrev start : tie.After-big3 Inv-loop μ-loop → tie.Start Inv-loop μ-loop
+start c = c .before .before .before .before .before .before .before .before .before
+
+-- the cells that were read
+abbrev x : tie.After-big3 Inv-loop μ-loop → ℕ
+x c = c .before .before .before .before .big .result
+
+abbrev y : tie.After-big3 Inv-loop μ-loop → ℕ
+y c = c .before .before .big2 .result
+
+abbrev z : tie.After-big3 Inv-loop μ-loop → ℕ
+z c = c .big3 .result
+
+place : (c : tie.After-big3 Inv-loop μ-loop)
+    → c .before .before .before .before .before .before .before .loop .k ≡ 0 + c .before .before .before .before .before .before .before .loop .a * start c .args .step
+place c = omega arith
+
+first : (c : tie.After-big3 Inv-loop μ-loop)
+    → x c ≡ lineCell (start c .args .cells .now) 0 (start c .args .step) (c .before .before .before .before .before .before .before .loop .a)
+first c =
+    c .before .before .before .before .big .ensures .0
+    ∙ ap (λ (k : ℕ). word (start c .args .cells .now) k) (place c)
+
+second : (c : tie.After-big3 Inv-loop μ-loop)
+    → y c ≡ lineCell (start c .args .cells .now) (start c .args .gap) (start c .args .step) (c .before .before .before .before .before .before .before .loop .a)
+second c =
+    c .before .before .big2 .ensures .0
+    ∙ ap (λ (k : ℕ). word (start c .args .cells .now) (start c .args .gap + k)) (c .before .before .before .before .before .before .before .loop .inv .1)
+
+third : (c : tie.After-big3 Inv-loop μ-loop)
+    → z c ≡ lineCell (start c .args .cells .now) (2 * start c .args .gap) (start c .args .step) (c .before .before .before .before .before .before .before .loop .a)
+third c =
+    c .big3 .ensures .0
+    ∙ ap (λ (k : ℕ). word (start c .args .cells .now) (2 * start c .args .gap + k)) (c .before .before .before .before .before .before .before .loop .inv .1)
+
+first-le : (c : tie.After-big3 Inv-loop μ-loop) → x c ≤ 256
+first-le c = omega (arith, first c, start c .pre .0 .low (c .before .before .before .before .before .before .before .loop .a) (c .before .before .before .before .before .before .loop-test .taken))
+
+second-le : (c : tie.After-big3 Inv-loop μ-loop) → y c ≤ 256
+second-le c = omega (arith, second c, start c .pre .1 .low (c .before .before .before .before .before .before .before .loop .a) (c .before .before .before .before .before .before .loop-test .taken))
+
+third-le : (c : tie.After-big3 Inv-loop μ-loop) → z c ≤ 256
+third-le c = omega (arith, third c, start c .pre .2 .low (c .before .before .before .before .before .before .before .loop .a) (c .before .before .before .before .before .before .loop-test .taken))
+
+-- their product, ..
+pair-low : (c : tie.After-big3 Inv-loop μ-loop) → x c * y c ≤ 65536
+pair-low c = pair-le (x c) (y c) (z c) (first-le c) (second-le c) (third-le c)
+
+product-low : (c : tie.After-big3 Inv-loop μ-loop) → product (x c) (y c) (z c) ≤ 16777216
+product-low c = diagonal-le (x c) (y c) (z c) (first-le c) (second-le c) (third-le c)
+
+-- .. and the product times the sum
+weighed-low : (c : tie.After-big3 Inv-loop μ-loop) → weighed (x c) (y c) (z c) ≤ 12884901888
+weighed-low c = weighed-le (x c) (y c) (z c) (first-le c) (second-le c) (third-le c)
+
+-- one cell more of each line
+step : (F : ℕ → ℕ → ℕ → ℕ) (n s : ℕ) (f g h : ℕ → ℕ) (x y z : ℕ) → s ≡ sum n (λ a. F (f a) (g a) (h a))
+    → x ≡ f n → y ≡ g n → z ≡ h n → s + F x y z ≡ sum (n + 1) (λ a. F (f a) (g a) (h a))
+step F n s f g h x y z e p q r = sum-step n (λ a. F (f a) (g a) (h a)) s (F x y z) e (rw (p, q, r) refl)
+
+loop-holds : tie.Need-loop-holds Inv-loop μ-loop
+unfolding sum
+loop-holds c = (omega arith, omega arith, refl, refl, omega arith, omega arith)
+
+mul-big : tie.Need-mul-big Inv-loop μ-loop
+mul-big c =
+    let l = c .before .loop in
+    omega (arith, c .before .before .before .pre .0 .inside (l .a) (c .loop-test .taken))
+
+shared-slice-read-big : tie.Need-shared-slice-read-big Inv-loop μ-loop
+shared-slice-read-big c =
+    let l = c .before .before .loop in
+    omega (arith, c .before .before .before .before .pre .0 .inside (l .a) (c .before .loop-test .taken))
+
+big-requires : tie.Need-big-requires Inv-loop μ-loop
+big-requires c κs = search needs
+
+add-big : tie.Need-add-big Inv-loop μ-loop
+add-big c =
+    let l = c .before .before .before .loop in
+    omega (arith, c .before .before .before .before .before .pre .1 .inside (l .a) (c .before .before .loop-test .taken))
+
+mul-big-2 : tie.Need-mul-big-2 Inv-loop μ-loop
+mul-big-2 c =
+    let l = c .before .before .before .loop in
+    omega (arith, c .before .before .before .before .before .pre .1 .inside (l .a) (c .before .before .loop-test .taken))
+
+shared-slice-read-big-2 : tie.Need-shared-slice-read-big-2 Inv-loop μ-loop
+shared-slice-read-big-2 c =
+    let l = c .before .before .before .before .loop in
+    omega (arith, c .before .before .before .before .before .before .pre .1 .inside (l .a) (c .before .before .before .loop-test .taken))
+
+big-requires-2 : tie.Need-big-requires-2 Inv-loop μ-loop
+big-requires-2 c κs = search needs
+
+mul-big-3 : tie.Need-mul-big-3 Inv-loop μ-loop
+mul-big-3 c = omega (arith, c .before .before .before .before .before .before .before .pre .2 .at-few)
+
+add-big-2 : tie.Need-add-big-2 Inv-loop μ-loop
+add-big-2 c =
+    let l = c .before .before .before .before .before .loop in
+    omega (arith, c .before .before .before .before .before .before .before .pre .2 .inside (l .a) (c .before .before .before .before .loop-test .taken))
+
+mul-big-4 : tie.Need-mul-big-4 Inv-loop μ-loop
+mul-big-4 c =
+    let l = c .before .before .before .before .before .loop in
+    omega (arith, c .before .before .before .before .before .before .before .pre .2 .inside (l .a) (c .before .before .before .before .loop-test .taken))
+
+shared-slice-read-big-3 : tie.Need-shared-slice-read-big-3 Inv-loop μ-loop
+shared-slice-read-big-3 c =
+    let l = c .before .before .before .before .before .before .loop in
+    omega (arith, c .before .before .before .before .before .before .before .before .pre .2 .inside (l .a) (c .before .before .before .before .before .loop-test .taken))
+
+big-requires-3 : tie.Need-big-requires-3 Inv-loop μ-loop
+big-requires-3 c κs = search needs
+
+mul-p : tie.Need-mul-p Inv-loop μ-loop
+mul-p c = omega (arith, pair-low c)
+
+mul-p-2 : tie.Need-mul-p-2 Inv-loop μ-loop
+mul-p-2 c = omega (arith, product-low c)
+
+add-total : tie.Need-add-total Inv-loop μ-loop
+add-total c = omega (arith, product-low c, start c .pre .0 .few)
+
+add-weighed : tie.Need-add-weighed Inv-loop μ-loop
+add-weighed c = omega (arith, first-le c, second-le c)
+
+add-weighed-2 : tie.Need-add-weighed-2 Inv-loop μ-loop
+add-weighed-2 c = omega (arith, first-le c, second-le c, third-le c)
+
+mul-weighed : tie.Need-mul-weighed Inv-loop μ-loop
+mul-weighed c = omega (arith, weighed-low c)
+
+add-weighed-3 : tie.Need-add-weighed-3 Inv-loop μ-loop
+add-weighed-3 c = omega (arith, weighed-low c, start c .pre .0 .few)
+
+add-k : tie.Need-add-k Inv-loop μ-loop
+add-k c =
+    let l = c .before .before .before .before .before .before .before .loop in
+    let p = start c in
+    omega (
+      arith,
+      product-le 256 256 (l .a) (p .args .step) (omega (arith, p .pre .0 .few)) (p .pre .0 .step-few),
+      p .pre .0 .step-few,
+    )
+
+add-a : tie.Need-add-a Inv-loop μ-loop
+add-a c = search needs
+
+loop-less : tie.Need-loop-less Inv-loop μ-loop
+loop-less c = search needs
+
+loop-again : tie.Need-loop-again Inv-loop μ-loop
+loop-again c =
+    let l = c .before .before .before .before .before .before .before .loop in (
+      omega arith,
+      omega arith,
+      step product (l .a) _ _ _ _ _ _ _ (l .inv .2) (first c) (second c) (third c),
+      step weighed (l .a) _ _ _ _ _ _ _ (l .inv .3) (first c) (second c) (third c),
+      omega (arith, product-low c),
+      omega (arith, weighed-low c),
+    )
+
+returns : tie.Need-returns Inv-loop μ-loop
+returns c =
+    let l = c .before .loop in
+    let p = c .before .before .before in
+    let e : l .a ≡ p .args .len = omega arith in (
+      rw e at (l .inv .2),
+      rw e at (l .inv .3),
+      omega (arith, p .pre .0 .few),
+      omega (arith, p .pre .0 .few),
+    )
+
+pub all-lines-spec : {M : Type 1} → statement M
+all-lines-spec =
+    tie.close
+    (tie.spec
+    Inv-loop
+    μ-loop
+    loop-holds
+    mul-big
+    shared-slice-read-big
+    big-requires
+    add-big
+    mul-big-2
+    shared-slice-read-big-2
+    big-requires-2
+    mul-big-3
+    add-big-2
+    mul-big-4
+    shared-slice-read-big-3
+    big-requires-3
+    mul-p
+    mul-p-2
+    add-total
+    add-weighed
+    add-weighed-2
+    mul-weighed
+    add-weighed-3
+    add-k
+    add-a
+    loop-less
+    loop-again
+    returns)

@@ -1,0 +1,158 @@
+-- Three lines of a block: their sums and products, and what these come to.
+-- Assumes nothing.
+use mathlib.Core.Path.{_≡_, refl, sym, _∙_, ap}
+use mathlib.Core.List.{List}
+use Prim.Native.Nat.{ℕ, _+_, _*_, _≤_, _<_}
+use native.Mathlib.Omega.{arith}
+use lib.ListN.{length}
+use Rattle.sums.specs.Sum.{sum}
+use Rattle.sums.specs.Products.{product-le}
+use Rattle.sums.specs.Exclusion.{pair-apart}
+use Rattle.node_pairs.specs.Cells.{pairS2, pairS3}
+use Rattle.node_pairs.specs.ThreeRows.{products, weighed, products3, weighed3, three-rows-S2, three-rows-S3}
+use Rattle.claims.specs.Lines.{Line, lineCell}
+use Rattle.claims.specs.LineDots.{FewLines, lineOf}
+
+-- a line in a slice, short and low
+pub record LowLine (cells : List ℕ) (at step len : ℕ) : Type 0 where
+  pub inside : (a : ℕ) → a < len → at + a * step < length cells
+  pub low : (a : ℕ) → a < len → lineCell cells at step a ≤ 256
+  pub few : len ≤ 256
+  pub step-few : step ≤ 256
+  pub at-few : at ≤ 512
+
+module _ (cells : List ℕ) (gap step len : ℕ) (h : FewLines cells gap 3 step len) where
+  low-line : (i at : ℕ) → i < 3 → at ≡ i * gap → LowLine cells at step len
+  low-line i at l e = rw e (record {
+    inside = λ a m. h .inside i a l m;
+    low = λ a m. h .low i a l m;
+    few = h .len-few;
+    step-few = h .step-few;
+    at-few = product-le 2 256 i gap (omega arith) (h .gap-few);
+  })
+
+  total-le : (i at : ℕ) → i < 3 → at ≡ i * gap → sum len (lineCell cells at step) ≤ 256
+  total-le i at l e = rw e (h .total i l)
+
+  line-is : (i at : ℕ) → at ≡ i * gap → lineCell cells at step ≡ lineOf cells gap step i
+  line-is i at e = ap (λ (k : ℕ). lineCell cells k step) e
+
+  -- the first line, ..
+  pub first-low : LowLine cells 0 step len
+  first-low = low-line 0 0 (omega arith) (omega arith)
+
+  pub first-le : sum len (lineCell cells 0 step) ≤ 256
+  first-le = total-le 0 0 (omega arith) (omega arith)
+
+  pub first-is : lineCell cells 0 step ≡ lineOf cells gap step 0
+  first-is = line-is 0 0 (omega arith)
+
+  -- .. the second ..
+  pub second-low : LowLine cells gap step len
+  second-low = low-line 1 gap (omega arith) (omega arith)
+
+  pub second-le : sum len (lineCell cells gap step) ≤ 256
+  second-le = total-le 1 gap (omega arith) (omega arith)
+
+  pub second-is : lineCell cells gap step ≡ lineOf cells gap step 1
+  second-is = line-is 1 gap (omega arith)
+
+  -- .. and the third
+  pub third-low : LowLine cells (2 * gap) step len
+  third-low = low-line 2 (2 * gap) (omega arith) refl
+
+  pub third-le : sum len (lineCell cells (2 * gap) step) ≤ 256
+  third-le = total-le 2 (2 * gap) (omega arith) refl
+
+  pub third-is : lineCell cells (2 * gap) step ≡ lineOf cells gap step 2
+  third-is = refl
+
+-- ---- the sums of three lines f, g and h
+
+pub record ThreeSums (len : ℕ) (f g h : ℕ → ℕ) (x y z xx yy zz xy xz yz wxy wxz wyz t q : ℕ) : Type 0 where
+  -- of each line, ..
+  pub x-is : x ≡ sum len f
+  pub y-is : y ≡ sum len g
+  pub z-is : z ≡ sum len h
+  -- .. of its squares, ..
+  pub xx-is : xx ≡ products len f f
+  pub yy-is : yy ≡ products len g g
+  pub zz-is : zz ≡ products len h h
+  -- .. of the products of two ..
+  pub xy-is : xy ≡ products len f g
+  pub xz-is : xz ≡ products len f h
+  pub yz-is : yz ≡ products len g h
+  pub wxy-is : wxy ≡ weighed len f g
+  pub wxz-is : wxz ≡ weighed len f h
+  pub wyz-is : wyz ≡ weighed len g h
+  -- .. and of all three
+  pub t-is : t ≡ products3 len f g h
+  pub q-is : q ≡ weighed3 len f g h
+
+-- the products at the same place are some of all products
+beside-le : (len : ℕ) (f g : ℕ → ℕ) → products len f g ≤ sum len f * sum len g
+beside-le len f g = omega (arith, pair-apart len f g)
+
+module _ (len : ℕ) (f g h : ℕ → ℕ) (x y z xx yy zz xy xz yz wxy wxz wyz t q : ℕ)
+    (s : ThreeSums len f g h x y z xx yy zz xy xz yz wxy wxz wyz t q) where
+  pub yz-le : yz ≤ y * z
+  yz-le = rw (s .y-is, s .z-is, s .yz-is) (beside-le len g h)
+
+  pub xz-le : xz ≤ x * z
+  xz-le = rw (s .x-is, s .z-is, s .xz-is) (beside-le len f h)
+
+  pub xy-le : xy ≤ x * y
+  xy-le = rw (s .x-is, s .y-is, s .xy-is) (beside-le len f g)
+
+  -- u, v and w are the products at different places of two lines
+  module _ (I : ℕ → ℕ → ℕ) (hf : f ≡ I 0) (hg : g ≡ I 1) (hh : h ≡ I 2) (u v w : ℕ)
+      (hu : u + yz ≡ y * z) (hv : v + xz ≡ x * z) (hw : w + xy ≡ x * y) where
+    pub lines-S2 : (squares sums beside weigh : ℕ) → squares ≡ xx * u + yy * v + zz * w
+        → sums ≡ x * u + y * v + z * w → beside ≡ xy * z + xz * y + yz * x
+        → weigh ≡ wxy * z + wxz * y + wyz * x
+        → pairS2 3 len I + sums + weigh + 6 * t ≡ squares + 2 * (beside + q)
+    lines-S2 squares sums beside weigh e1 e2 e3 e4 = rw (e1, e2, e3, e4) (closed ∙ omega arith)
+      where
+        closed : pairS2 3 len I + (x * u + y * v + z * w) + (wxy * z + wxz * y + wyz * x) + 6 * t
+            ≡ xx * u + yy * v + zz * w + 2 * (xy * z + xz * y + yz * x) + 2 * q
+        closed = rw (
+          s .x-is,
+          s .y-is,
+          s .z-is,
+          s .xx-is,
+          s .yy-is,
+          s .zz-is,
+          s .xy-is,
+          s .xz-is,
+          s .yz-is,
+          s .wxy-is,
+          s .wxz-is,
+          s .wyz-is,
+          s .t-is,
+          s .q-is,
+        ) (rw (hf, hg, hh) (three-rows-S2 len I u v w
+            (rw (s .y-is, s .z-is, s .yz-is, hg, hh) at hu) (rw (s .x-is, s .z-is, s .xz-is, hf, hh) at hv)
+            (rw (s .x-is, s .y-is, s .xy-is, hf, hg) at hw)))
+
+    pub lines-S3 : (hooks weigh : ℕ) → hooks ≡ xy * (u + v) + xz * (u + w) + yz * (v + w)
+        → weigh ≡ wxy * z + wxz * y + wyz * x
+        → pairS3 3 len I + weigh + 2 * (t * (x + y + z)) ≡ hooks + 4 * q
+    lines-S3 hooks weigh e1 e2 = rw (e1, e2) closed
+      where
+        closed : pairS3 3 len I + (wxy * z + wxz * y + wyz * x) + 2 * (t * (x + y + z))
+            ≡ xy * (u + v) + xz * (u + w) + yz * (v + w) + 4 * q
+        closed = rw (
+          s .x-is,
+          s .y-is,
+          s .z-is,
+          s .xy-is,
+          s .xz-is,
+          s .yz-is,
+          s .wxy-is,
+          s .wxz-is,
+          s .wyz-is,
+          s .t-is,
+          s .q-is,
+        ) (rw (hf, hg, hh) (three-rows-S3 len I u v w
+            (rw (s .y-is, s .z-is, s .yz-is, hg, hh) at hu) (rw (s .x-is, s .z-is, s .xz-is, hf, hh) at hv)
+            (rw (s .x-is, s .y-is, s .xy-is, hf, hg) at hw)))

@@ -1,0 +1,158 @@
+// Two nodes with three codes into one of them: what they add to the claim sums, from three lines of a block.
+use super::terms::PairTerms;
+use super::words::big;
+ghost use mathlib.Core.Path.{_≡_};
+ghost use Prim.Native.Nat.{_+_, _*_, _≤_};
+ghost use Rattle.sums.specs.Sum.{sum};
+ghost use Rattle.node_pairs.specs.Cells.{pairS2, pairS3};
+ghost use Rattle.node_pairs.specs.ThreeRows.{products, weighed, products3, weighed3};
+ghost use Rattle.claims.specs.LineDots.{FewLines, lineOf};
+ghost use Rattle.claims.specs.Lines.{lineCell};
+ghost use Rattle.claims.specs.ThreeLines.{LowLine};
+
+// The sum of a line, and of its squares.
+struct LineSums {
+    sum: u64,
+    squares: u64,
+}
+
+// Lines side by side: the products of cells at the same place, and these times the sums of the cells.
+struct Products {
+    sum: u64,
+    weighed: u64,
+}
+
+// The line that begins at `at`.
+fn one_line(cells: &[u16], at: usize, step: usize, len: usize) -> LineSums
+    requires { ⌜ LowLine (now cells) at step len ⌝ }
+    ensures { λ r. ⌜
+        (r .sum ≡ sum len (lineCell (now (cells .entry)) at step))
+        × (r .squares ≡ products len (lineCell (now (cells .entry)) at step) (lineCell (now (cells .entry)) at step))
+        × (r .squares ≤ 16777216)
+        ⌝ }
+{
+    let mut total: u64 = 0;
+    let mut squares: u64 = 0;
+    let mut k = at;
+    let mut a = 0;
+    while a < len {
+        let x = big(cells[k]);
+        total += x;
+        squares += x * x;
+        k += step;
+        a += 1;
+    }
+    LineSums {
+        sum: total,
+        squares: squares,
+    }
+}
+
+// The lines that begin at `at` and at `to`.
+fn two_lines(cells: &[u16], at: usize, to: usize, step: usize, len: usize) -> Products
+    requires { ⌜ LowLine (now cells) at step len × LowLine (now cells) to step len ⌝ }
+    ensures { λ r. ⌜
+        (r .sum ≡ products len (lineCell (now (cells .entry)) at step) (lineCell (now (cells .entry)) to step))
+        × (r .weighed ≡ weighed len (lineCell (now (cells .entry)) at step) (lineCell (now (cells .entry)) to step))
+        × (r .sum ≤ 16777216) × (r .weighed ≤ 8589934592)
+        ⌝ }
+{
+    let mut total: u64 = 0;
+    let mut weighed: u64 = 0;
+    let mut k = at;
+    let mut l = to;
+    let mut a = 0;
+    while a < len {
+        let x = big(cells[k]);
+        let y = big(cells[l]);
+        let p = x * y;
+        total += p;
+        weighed += p * (x + y);
+        k += step;
+        l += step;
+        a += 1;
+    }
+    Products {
+        sum: total,
+        weighed: weighed,
+    }
+}
+
+// The lines that begin at 0, at `gap` and at twice `gap`.
+fn all_lines(cells: &[u16], gap: usize, step: usize, len: usize) -> Products
+    requires { ⌜ LowLine (now cells) 0 step len × LowLine (now cells) gap step len
+        × LowLine (now cells) (2 * gap) step len ⌝ }
+    ensures { λ r. ⌜
+        (r .sum ≡ products3 len (lineCell (now (cells .entry)) 0 step) (lineCell (now (cells .entry)) gap step)
+        (lineCell (now (cells .entry)) (2 * gap) step))
+        × (r .weighed ≡ weighed3 len (lineCell (now (cells .entry)) 0 step)
+        (lineCell (now (cells .entry)) gap step) (lineCell (now (cells .entry)) (2 * gap) step))
+        × (r .sum ≤ 4294967296) × (r .weighed ≤ 3298534883328)
+        ⌝ }
+{
+    let mut total: u64 = 0;
+    let mut weighed: u64 = 0;
+    let mut k = 0;
+    let mut a = 0;
+    while a < len {
+        let x = big(cells[k]);
+        let y = big(cells[gap + k]);
+        let z = big(cells[2 * gap + k]);
+        let p = x * y * z;
+        total += p;
+        weighed += p * (x + y + z);
+        k += step;
+        a += 1;
+    }
+    Products {
+        sum: total,
+        weighed: weighed,
+    }
+}
+
+// The products of cells at different places of two lines: x and y are the sums of the lines, `beside` the products at
+// the same place.
+fn apart(x: u64, y: u64, beside: u64) -> u64
+    requires { ⌜ (x ≤ 256) × (y ≤ 256) × (beside ≤ x * y) ⌝ }
+    ensures { λ r. ⌜ (r + beside ≡ x * y) × (r ≤ 65536) ⌝ }
+{
+    x * y - beside
+}
+
+// Three products added up.
+fn three_products(a: u64, b: u64, c: u64, x: u64, y: u64, z: u64) -> u64
+    requires { ⌜ (a ≤ 8589934592) × (b ≤ 8589934592) × (c ≤ 8589934592) ⌝ }
+    requires { ⌜ (x ≤ 131072) × (y ≤ 131072) × (z ≤ 131072) ⌝ }
+    ensures { λ r. ⌜ (r ≡ a * x + b * y + c * z) × (r ≤ 3377699720527872) ⌝ }
+{
+    a * x + b * y + c * z
+}
+
+// What two nodes add, from three lines that begin `gap` apart.
+pub(crate) fn three_lines(cells: &[u16], gap: usize, step: usize, len: usize) -> PairTerms
+    requires { ⌜ FewLines (now cells) gap 3 step len ⌝ }
+    ensures { λ r. ⌜
+        (r .s2 ≡ pairS2 3 len (lineOf (now (cells .entry)) gap step))
+        × (r .s3 ≡ pairS3 3 len (lineOf (now (cells .entry)) gap step))
+        ⌝ }
+{
+    let x = one_line(cells, 0, step, len);
+    let y = one_line(cells, gap, step, len);
+    let z = one_line(cells, 2 * gap, step, len);
+    let xy = two_lines(cells, 0, gap, step, len);
+    let xz = two_lines(cells, 0, 2 * gap, step, len);
+    let yz = two_lines(cells, gap, 2 * gap, step, len);
+    let all = all_lines(cells, gap, step, len);
+    let u = apart(y.sum, z.sum, yz.sum);
+    let v = apart(x.sum, z.sum, xz.sum);
+    let w = apart(x.sum, y.sum, xy.sum);
+    let squares = three_products(x.squares, y.squares, z.squares, u, v, w);
+    let sums = three_products(x.sum, y.sum, z.sum, u, v, w);
+    let beside = three_products(xy.sum, xz.sum, yz.sum, z.sum, y.sum, x.sum);
+    let weighed = three_products(xy.weighed, xz.weighed, yz.weighed, z.sum, y.sum, x.sum);
+    let hooks = three_products(xy.sum, xz.sum, yz.sum, u + v, u + w, v + w);
+    PairTerms {
+        s2: squares + 2 * (beside + all.weighed) - sums - weighed - 6 * all.sum,
+        s3: hooks + 4 * all.weighed - weighed - 2 * (all.sum * (x.sum + y.sum + z.sum)),
+    }
+}
