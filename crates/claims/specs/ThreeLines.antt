@@ -9,7 +9,8 @@ use Rattle.sums.specs.Sum.{sum}
 use Rattle.sums.specs.Products.{product-le}
 use Rattle.sums.specs.Exclusion.{pair-apart}
 use Rattle.node_pairs.specs.Cells.{pairS2, pairS3}
-use Rattle.node_pairs.specs.ThreeRows.{products, weighed, products3, weighed3, three-rows-S2, three-rows-S3}
+use Rattle.node_pairs.specs.ThreeRows.{products, weighed, products3, weighed3, products-turned, weighed-turned}
+use Rattle.node_pairs.specs.ThreeRows.{three-rows-S2, three-rows-S3}
 use Rattle.claims.specs.Lines.{Line, lineCell}
 use Rattle.claims.specs.LineDots.{FewLines, lineOf}
 
@@ -20,6 +21,16 @@ pub record LowLine (cells : List ℕ) (at step len : ℕ) : Type 0 where
   pub few : len ≤ 256
   pub step-few : step ≤ 256
   pub at-few : at ≤ 512
+
+-- the sums of the line f, where g is another line
+pub record TwoSums (len : ℕ) (f g : ℕ → ℕ) (x xx xy wxy : ℕ) : Type 0 where
+  pub sum-is : x ≡ sum len f
+  pub squares-is : xx ≡ products len f f
+  pub beside-is : xy ≡ products len f g
+  pub weighed-is : wxy ≡ weighed len f g
+  pub squares-le : xx ≤ 16777216
+  pub beside-le : xy ≤ 16777216
+  pub weighed-le : wxy ≤ 8589934592
 
 module _ (cells : List ℕ) (gap step len : ℕ) (h : FewLines cells gap 3 step len) where
   low-line : (i at : ℕ) → i < 3 → at ≡ i * gap → LowLine cells at step len
@@ -69,23 +80,10 @@ module _ (cells : List ℕ) (gap step len : ℕ) (h : FewLines cells gap 3 step 
 
 -- ---- the sums of three lines f, g and h
 
-pub record ThreeSums (len : ℕ) (f g h : ℕ → ℕ) (x y z xx yy zz xy xz yz wxy wxz wyz t q : ℕ) : Type 0 where
-  -- of each line, ..
-  pub x-is : x ≡ sum len f
-  pub y-is : y ≡ sum len g
-  pub z-is : z ≡ sum len h
-  -- .. of its squares, ..
-  pub xx-is : xx ≡ products len f f
-  pub yy-is : yy ≡ products len g g
-  pub zz-is : zz ≡ products len h h
-  -- .. of the products of two ..
-  pub xy-is : xy ≡ products len f g
-  pub xz-is : xz ≡ products len f h
-  pub yz-is : yz ≡ products len g h
-  pub wxy-is : wxy ≡ weighed len f g
-  pub wxz-is : wxz ≡ weighed len f h
-  pub wyz-is : wyz ≡ weighed len g h
-  -- .. and of all three
+pub record ThreeSums (len : ℕ) (f g h : ℕ → ℕ) (x y z xx yy zz xy yz zx wxy wyz wzx t q : ℕ) : Type 0 where
+  pub first : TwoSums len f g x xx xy wxy
+  pub second : TwoSums len g h y yy yz wyz
+  pub third : TwoSums len h f z zz zx wzx
   pub t-is : t ≡ products3 len f g h
   pub q-is : q ≡ weighed3 len f g h
 
@@ -93,66 +91,56 @@ pub record ThreeSums (len : ℕ) (f g h : ℕ → ℕ) (x y z xx yy zz xy xz yz 
 beside-le : (len : ℕ) (f g : ℕ → ℕ) → products len f g ≤ sum len f * sum len g
 beside-le len f g = omega (arith, pair-apart len f g)
 
-module _ (len : ℕ) (f g h : ℕ → ℕ) (x y z xx yy zz xy xz yz wxy wxz wyz t q : ℕ)
-    (s : ThreeSums len f g h x y z xx yy zz xy xz yz wxy wxz wyz t q) where
-  pub yz-le : yz ≤ y * z
-  yz-le = rw (s .y-is, s .z-is, s .yz-is) (beside-le len g h)
+module _ (len : ℕ) (f g h : ℕ → ℕ) (x y z xx yy zz xy yz zx wxy wyz wzx t q : ℕ)
+    (s : ThreeSums len f g h x y z xx yy zz xy yz zx wxy wyz wzx t q) where
+  -- the third line with the first, as the first with the third
+  zx-is : zx ≡ products len f h
+  zx-is = s .third .beside-is ∙ products-turned len h f
 
-  pub xz-le : xz ≤ x * z
-  xz-le = rw (s .x-is, s .z-is, s .xz-is) (beside-le len f h)
+  wzx-is : wzx ≡ weighed len f h
+  wzx-is = s .third .weighed-is ∙ weighed-turned len h f
+
+  pub yz-le : yz ≤ y * z
+  yz-le = rw (s .second .sum-is, s .third .sum-is, s .second .beside-is) (beside-le len g h)
+
+  pub zx-le : zx ≤ x * z
+  zx-le = rw (s .first .sum-is, s .third .sum-is, zx-is) (beside-le len f h)
 
   pub xy-le : xy ≤ x * y
-  xy-le = rw (s .x-is, s .y-is, s .xy-is) (beside-le len f g)
+  xy-le = rw (s .first .sum-is, s .second .sum-is, s .first .beside-is) (beside-le len f g)
 
   -- u, v and w are the products at different places of two lines
   module _ (I : ℕ → ℕ → ℕ) (hf : f ≡ I 0) (hg : g ≡ I 1) (hh : h ≡ I 2) (u v w : ℕ)
-      (hu : u + yz ≡ y * z) (hv : v + xz ≡ x * z) (hw : w + xy ≡ x * y) where
+      (hu : u + yz ≡ y * z) (hv : v + zx ≡ x * z) (hw : w + xy ≡ x * y) where
+    u-is : u + products len (I 1) (I 2) ≡ sum len (I 1) * sum len (I 2)
+    u-is = rw (s .second .sum-is, s .third .sum-is, s .second .beside-is, hg, hh) at hu
+
+    v-is : v + products len (I 0) (I 2) ≡ sum len (I 0) * sum len (I 2)
+    v-is = rw (s .first .sum-is, s .third .sum-is, zx-is, hf, hh) at hv
+
+    w-is : w + products len (I 0) (I 1) ≡ sum len (I 0) * sum len (I 1)
+    w-is = rw (s .first .sum-is, s .second .sum-is, s .first .beside-is, hf, hg) at hw
+
     pub lines-S2 : (squares sums beside weigh : ℕ) → squares ≡ xx * u + yy * v + zz * w
-        → sums ≡ x * u + y * v + z * w → beside ≡ xy * z + xz * y + yz * x
-        → weigh ≡ wxy * z + wxz * y + wyz * x
+        → sums ≡ x * u + y * v + z * w → beside ≡ xy * z + zx * y + yz * x
+        → weigh ≡ wxy * z + wzx * y + wyz * x
         → pairS2 3 len I + sums + weigh + 6 * t ≡ squares + 2 * (beside + q)
     lines-S2 squares sums beside weigh e1 e2 e3 e4 = rw (e1, e2, e3, e4) (closed ∙ omega arith)
       where
-        closed : pairS2 3 len I + (x * u + y * v + z * w) + (wxy * z + wxz * y + wyz * x) + 6 * t
-            ≡ xx * u + yy * v + zz * w + 2 * (xy * z + xz * y + yz * x) + 2 * q
-        closed = rw (
-          s .x-is,
-          s .y-is,
-          s .z-is,
-          s .xx-is,
-          s .yy-is,
-          s .zz-is,
-          s .xy-is,
-          s .xz-is,
-          s .yz-is,
-          s .wxy-is,
-          s .wxz-is,
-          s .wyz-is,
-          s .t-is,
-          s .q-is,
-        ) (rw (hf, hg, hh) (three-rows-S2 len I u v w
-            (rw (s .y-is, s .z-is, s .yz-is, hg, hh) at hu) (rw (s .x-is, s .z-is, s .xz-is, hf, hh) at hv)
-            (rw (s .x-is, s .y-is, s .xy-is, hf, hg) at hw)))
+        closed : pairS2 3 len I + (x * u + y * v + z * w) + (wxy * z + wzx * y + wyz * x) + 6 * t
+            ≡ xx * u + yy * v + zz * w + 2 * (xy * z + zx * y + yz * x) + 2 * q
+        closed = rw (s .first .sum-is, s .second .sum-is, s .third .sum-is, s .first .squares-is,
+          s .second .squares-is, s .third .squares-is, s .first .beside-is, zx-is, s .second .beside-is,
+          s .first .weighed-is, wzx-is, s .second .weighed-is, s .t-is, s .q-is)
+          (rw (hf, hg, hh) (three-rows-S2 len I u v w u-is v-is w-is))
 
-    pub lines-S3 : (hooks weigh : ℕ) → hooks ≡ xy * (u + v) + xz * (u + w) + yz * (v + w)
-        → weigh ≡ wxy * z + wxz * y + wyz * x
+    pub lines-S3 : (hooks weigh : ℕ) → hooks ≡ xy * (u + v) + zx * (u + w) + yz * (v + w)
+        → weigh ≡ wxy * z + wzx * y + wyz * x
         → pairS3 3 len I + weigh + 2 * (t * (x + y + z)) ≡ hooks + 4 * q
     lines-S3 hooks weigh e1 e2 = rw (e1, e2) closed
       where
-        closed : pairS3 3 len I + (wxy * z + wxz * y + wyz * x) + 2 * (t * (x + y + z))
-            ≡ xy * (u + v) + xz * (u + w) + yz * (v + w) + 4 * q
-        closed = rw (
-          s .x-is,
-          s .y-is,
-          s .z-is,
-          s .xy-is,
-          s .xz-is,
-          s .yz-is,
-          s .wxy-is,
-          s .wxz-is,
-          s .wyz-is,
-          s .t-is,
-          s .q-is,
-        ) (rw (hf, hg, hh) (three-rows-S3 len I u v w
-            (rw (s .y-is, s .z-is, s .yz-is, hg, hh) at hu) (rw (s .x-is, s .z-is, s .xz-is, hf, hh) at hv)
-            (rw (s .x-is, s .y-is, s .xy-is, hf, hg) at hw)))
+        closed : pairS3 3 len I + (wxy * z + wzx * y + wyz * x) + 2 * (t * (x + y + z))
+            ≡ xy * (u + v) + zx * (u + w) + yz * (v + w) + 4 * q
+        closed = rw (s .first .sum-is, s .second .sum-is, s .third .sum-is, s .first .beside-is, zx-is,
+          s .second .beside-is, s .first .weighed-is, wzx-is, s .second .weighed-is, s .t-is, s .q-is)
+          (rw (hf, hg, hh) (three-rows-S3 len I u v w u-is v-is w-is))

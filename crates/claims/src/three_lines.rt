@@ -3,61 +3,36 @@ use super::terms::PairTerms;
 use super::words::big;
 ghost use mathlib.Core.Path.{_≡_};
 ghost use Prim.Native.Nat.{_+_, _*_, _≤_};
-ghost use Rattle.sums.specs.Sum.{sum};
 ghost use Rattle.node_pairs.specs.Cells.{pairS2, pairS3};
-ghost use Rattle.node_pairs.specs.ThreeRows.{products, weighed, products3, weighed3};
+ghost use Rattle.node_pairs.specs.ThreeRows.{products3, weighed3};
 ghost use Rattle.claims.specs.LineDots.{FewLines, lineOf};
 ghost use Rattle.claims.specs.Lines.{lineCell};
-ghost use Rattle.claims.specs.ThreeLines.{LowLine};
+ghost use Rattle.claims.specs.ThreeLines.{LowLine, TwoSums};
 
-// The sum of a line, and of its squares.
+// A line and another: the sum of the first and of its squares, the products of cells at the same place, and these times
+// the sums of the cells.
 struct LineSums {
     sum: u64,
     squares: u64,
+    beside: u64,
+    weighed: u64,
 }
 
-// Lines side by side: the products of cells at the same place, and these times the sums of the cells.
+// Three lines: the products of cells at the same place, and these times the sums of the cells.
 struct Products {
     sum: u64,
     weighed: u64,
 }
 
-// The line that begins at `at`.
-fn one_line(cells: &[u16], at: usize, step: usize, len: usize) -> LineSums
-    requires { ⌜ LowLine (now cells) at step len ⌝ }
-    ensures { λ r. ⌜
-        (r .sum ≡ sum len (lineCell (now (cells .entry)) at step))
-        × (r .squares ≡ products len (lineCell (now (cells .entry)) at step) (lineCell (now (cells .entry)) at step))
-        × (r .squares ≤ 16777216)
-        ⌝ }
+// The line that begins at `at`, and the one that begins at `to`.
+fn two_lines(cells: &[u16], at: usize, to: usize, step: usize, len: usize) -> LineSums
+    requires { ⌜ LowLine (now cells) at step len × LowLine (now cells) to step len ⌝ }
+    ensures { λ r. ⌜ TwoSums len (lineCell (now (cells .entry)) at step) (lineCell (now (cells .entry)) to step)
+        (r .sum) (r .squares) (r .beside) (r .weighed) ⌝ }
 {
     let mut total: u64 = 0;
     let mut squares: u64 = 0;
-    let mut k = at;
-    let mut a = 0;
-    while a < len {
-        let x = big(cells[k]);
-        total += x;
-        squares += x * x;
-        k += step;
-        a += 1;
-    }
-    LineSums {
-        sum: total,
-        squares: squares,
-    }
-}
-
-// The lines that begin at `at` and at `to`.
-fn two_lines(cells: &[u16], at: usize, to: usize, step: usize, len: usize) -> Products
-    requires { ⌜ LowLine (now cells) at step len × LowLine (now cells) to step len ⌝ }
-    ensures { λ r. ⌜
-        (r .sum ≡ products len (lineCell (now (cells .entry)) at step) (lineCell (now (cells .entry)) to step))
-        × (r .weighed ≡ weighed len (lineCell (now (cells .entry)) at step) (lineCell (now (cells .entry)) to step))
-        × (r .sum ≤ 16777216) × (r .weighed ≤ 8589934592)
-        ⌝ }
-{
-    let mut total: u64 = 0;
+    let mut beside: u64 = 0;
     let mut weighed: u64 = 0;
     let mut k = at;
     let mut l = to;
@@ -66,14 +41,18 @@ fn two_lines(cells: &[u16], at: usize, to: usize, step: usize, len: usize) -> Pr
         let x = big(cells[k]);
         let y = big(cells[l]);
         let p = x * y;
-        total += p;
+        total += x;
+        squares += x * x;
+        beside += p;
         weighed += p * (x + y);
         k += step;
         l += step;
         a += 1;
     }
-    Products {
+    LineSums {
         sum: total,
+        squares: squares,
+        beside: beside,
         weighed: weighed,
     }
 }
@@ -136,21 +115,18 @@ pub(crate) fn three_lines(cells: &[u16], gap: usize, step: usize, len: usize) ->
         × (r .s3 ≡ pairS3 3 len (lineOf (now (cells .entry)) gap step))
         ⌝ }
 {
-    let x = one_line(cells, 0, step, len);
-    let y = one_line(cells, gap, step, len);
-    let z = one_line(cells, 2 * gap, step, len);
-    let xy = two_lines(cells, 0, gap, step, len);
-    let xz = two_lines(cells, 0, 2 * gap, step, len);
-    let yz = two_lines(cells, gap, 2 * gap, step, len);
+    let x = two_lines(cells, 0, gap, step, len);
+    let y = two_lines(cells, gap, 2 * gap, step, len);
+    let z = two_lines(cells, 2 * gap, 0, step, len);
     let all = all_lines(cells, gap, step, len);
-    let u = apart(y.sum, z.sum, yz.sum);
-    let v = apart(x.sum, z.sum, xz.sum);
-    let w = apart(x.sum, y.sum, xy.sum);
+    let u = apart(y.sum, z.sum, y.beside);
+    let v = apart(x.sum, z.sum, z.beside);
+    let w = apart(x.sum, y.sum, x.beside);
     let squares = three_products(x.squares, y.squares, z.squares, u, v, w);
     let sums = three_products(x.sum, y.sum, z.sum, u, v, w);
-    let beside = three_products(xy.sum, xz.sum, yz.sum, z.sum, y.sum, x.sum);
-    let weighed = three_products(xy.weighed, xz.weighed, yz.weighed, z.sum, y.sum, x.sum);
-    let hooks = three_products(xy.sum, xz.sum, yz.sum, u + v, u + w, v + w);
+    let beside = three_products(x.beside, z.beside, y.beside, z.sum, y.sum, x.sum);
+    let weighed = three_products(x.weighed, z.weighed, y.weighed, z.sum, y.sum, x.sum);
+    let hooks = three_products(x.beside, z.beside, y.beside, u + v, u + w, v + w);
     PairTerms {
         s2: squares + 2 * (beside + all.weighed) - sums - weighed - 6 * all.sum,
         s3: hooks + 4 * all.weighed - weighed - 2 * (all.sum * (x.sum + y.sum + z.sum)),

@@ -29,6 +29,16 @@ module _ (d : ℕ) where
   abbrev pub weighed3 : (ℕ → ℕ) → (ℕ → ℕ) → (ℕ → ℕ) → ℕ
   weighed3 x y z = sum d (λ a. x a * y a * z a * (x a + y a + z a))
 
+  -- the order of two rows plays no part
+  pub products-turned : (x y : ℕ → ℕ) → products x y ≡ products y x
+  products-turned x y = sum-cong d (λ a. mul-comm (x a) (y a))
+
+  pub weighed-turned : (x y : ℕ → ℕ) → weighed x y ≡ weighed y x
+  weighed-turned x y = sum-cong d (λ a. regroup (x a) (y a))
+    where
+      regroup : (x y : ℕ) → x * y * (x + y) ≡ y * x * (y + x)
+      regroup x y = omega arith
+
   -- the squares of x times y, ..
   abbrev squareTimes : (ℕ → ℕ) → (ℕ → ℕ) → ℕ
   squareTimes x y = sum d (λ a. x a * x a * y a)
@@ -129,10 +139,6 @@ module _ (d : ℕ) where
   -- what S2 and S3 both have too much
   abbrev pub allWeighed : (ℕ → ℕ) → (ℕ → ℕ) → (ℕ → ℕ) → ℕ
   allWeighed x y z = weighed x y * sum d z + weighed x z * sum d y + weighed y z * sum d x
-
-  -- the order of the rows plays no part
-  products-turned : (x y : ℕ → ℕ) → products x y ≡ products y x
-  products-turned x y = sum-cong d (λ a. mul-comm (x a) (y a))
 
   -- u, v and w are the sums of the products of two cells in different columns: of the second and third row, of the
   -- first and third, of the first and second

@@ -8,78 +8,65 @@ use Rattle.node_pairs.specs.Cells.{pairS2, pairS3}
 use Rattle.claims.specs.Lines.{lineCell}
 use Rattle.claims.specs.LineDots.{FewLines, lineOf}
 use Rattle.claims.specs.ThreeLines.{ThreeSums, first-low, second-low, third-low, first-le, second-le, third-le}
-use Rattle.claims.specs.ThreeLines.{first-is, second-is, third-is, xy-le, xz-le, yz-le, lines-S2, lines-S3}
+use Rattle.claims.specs.ThreeLines.{first-is, second-is, third-is, xy-le, yz-le, zx-le, lines-S2, lines-S3}
 use Rattle.claims.proofs.three_lines.three_lines.Statement.{statement}
 use Rattle.claims.proofs.three_lines.three_lines.Tie as tie
 
 -- ---- the sums that were found
 
 abbrev start : tie.After-all-lines → tie.Start
-start c = c .before .before .before .before .before .before .before .before
+start c = c .before .before .before .before .before
 
 module _ (c : tie.After-all-lines) where
-  abbrev cells-few : FewLines (start c .args .cells .now) (start c .args .gap) 3 (start c .args .step) (start c .args .len)
-  cells-few = start c .pre
+  abbrev few : FewLines (start c .args .cells .now) (start c .args .gap) 3 (start c .args .step) (start c .args .len)
+  few = start c .pre
 
   abbrev x : ℕ
-  x = c .before .before .before .before .before .before .one-line .result .sum
+  x = c .before .before .before .two-lines .result .sum
 
   abbrev y : ℕ
-  y = c .before .before .before .before .before .one-line2 .result .sum
+  y = c .before .before .two-lines2 .result .sum
 
   abbrev z : ℕ
-  z = c .before .before .before .before .one-line3 .result .sum
-
-  abbrev xy : ℕ
-  xy = c .before .before .before .two-lines .result .sum
-
-  abbrev xz : ℕ
-  xz = c .before .before .two-lines2 .result .sum
-
-  abbrev yz : ℕ
-  yz = c .before .two-lines3 .result .sum
+  z = c .before .two-lines3 .result .sum
 
   sums : ThreeSums (start c .args .len) (lineCell (start c .args .cells .now) 0 (start c .args .step))
       (lineCell (start c .args .cells .now) (start c .args .gap) (start c .args .step))
       (lineCell (start c .args .cells .now) (2 * start c .args .gap) (start c .args .step))
-      x y z
-      (c .before .before .before .before .before .before .one-line .result .squares)
-      (c .before .before .before .before .before .one-line2 .result .squares)
-      (c .before .before .before .before .one-line3 .result .squares)
-      xy xz yz
+      x
+      y
+      z
+      (c .before .before .before .two-lines .result .squares)
+      (c .before .before .two-lines2 .result .squares)
+      (c .before .two-lines3 .result .squares)
+      (c .before .before .before .two-lines .result .beside)
+      (c .before .before .two-lines2 .result .beside)
+      (c .before .two-lines3 .result .beside)
       (c .before .before .before .two-lines .result .weighed)
       (c .before .before .two-lines2 .result .weighed)
       (c .before .two-lines3 .result .weighed)
-      (c .all-lines .result .sum) (c .all-lines .result .weighed)
+      (c .all-lines .result .sum)
+      (c .all-lines .result .weighed)
   sums = record {
-    x-is = c .before .before .before .before .before .before .one-line .ensures .0;
-    y-is = c .before .before .before .before .before .one-line2 .ensures .0;
-    z-is = c .before .before .before .before .one-line3 .ensures .0;
-    xx-is = c .before .before .before .before .before .before .one-line .ensures .1;
-    yy-is = c .before .before .before .before .before .one-line2 .ensures .1;
-    zz-is = c .before .before .before .before .one-line3 .ensures .1;
-    xy-is = c .before .before .before .two-lines .ensures .0;
-    xz-is = c .before .before .two-lines2 .ensures .0;
-    yz-is = c .before .two-lines3 .ensures .0;
-    wxy-is = c .before .before .before .two-lines .ensures .1;
-    wxz-is = c .before .before .two-lines2 .ensures .1;
-    wyz-is = c .before .two-lines3 .ensures .1;
+    first = c .before .before .before .two-lines .ensures;
+    second = c .before .before .two-lines2 .ensures;
+    third = c .before .two-lines3 .ensures;
     t-is = c .all-lines .ensures .0;
     q-is = c .all-lines .ensures .1;
   }
 
   x-le : x ≤ 256
-  x-le = omega (arith, sums .x-is, first-le _ _ _ _ cells-few)
+  x-le = omega (arith, sums .first .sum-is, first-le _ _ _ _ few)
 
   y-le : y ≤ 256
-  y-le = omega (arith, sums .y-is, second-le _ _ _ _ cells-few)
+  y-le = omega (arith, sums .second .sum-is, second-le _ _ _ _ few)
 
   z-le : z ≤ 256
-  z-le = omega (arith, sums .z-is, third-le _ _ _ _ cells-few)
+  z-le = omega (arith, sums .third .sum-is, third-le _ _ _ _ few)
 
-  -- the cells of three places times all cells
-  total-le : c .all-lines .result .sum * (x + y + z) ≤ 3298534883328
-  total-le = product-le 4294967296 768 _ _ (c .all-lines .ensures .2) (omega (arith, x-le, y-le, z-le))
+  -- the products of three cells, times all cells
+  all-le : c .all-lines .result .sum * (x + y + z) ≤ 3298534883328
+  all-le = product-le 4294967296 768 _ _ (c .all-lines .ensures .2) (omega (arith, x-le, y-le, z-le))
 
 -- ---- what they come to
 
@@ -93,10 +80,12 @@ module _ (c : tie.After-three-products5) where
       + c .before .three-products4 .result + 6 * all .all-lines .result .sum
       ≡ c .before .before .before .before .three-products .result
       + 2 * (c .before .before .three-products3 .result + all .all-lines .result .weighed)
-  pairs = lines-S2 _ _ _ _ _ _ _ _ _ _ _ _ _ _ _ _ _ _ (sums all) _ (first-is _ _ _ _ (cells-few all))
-      (second-is _ _ _ _ (cells-few all)) (third-is _ _ _ _ (cells-few all)) _ _ _
-      (c .before .before .before .before .before .before .before .apart .ensures .0) (c .before .before .before .before .before .before .apart2 .ensures .0)
-      (c .before .before .before .before .before .apart3 .ensures .0) _ _ _ _
+  pairs = lines-S2 _ _ _ _ _ _ _ _ _ _ _ _ _ _ _ _ _ _ (sums all) _ (first-is _ _ _ _ (few all))
+      (second-is _ _ _ _ (few all)) (third-is _ _ _ _ (few all)) _ _ _
+      (c .before .before .before .before .before .before .before .apart .ensures .0)
+      (c .before .before .before .before .before .before .apart2 .ensures .0)
+      (c .before .before .before .before .before .apart3 .ensures .0)
+      _ _ _ _
       (c .before .before .before .before .three-products .ensures .0)
       (c .before .before .before .three-products2 .ensures .0)
       (c .before .before .three-products3 .ensures .0)
@@ -107,73 +96,79 @@ module _ (c : tie.After-three-products5) where
       + c .before .three-products4 .result
       + 2 * (all .all-lines .result .sum * (x all + y all + z all))
       ≡ c .three-products5 .result + 4 * all .all-lines .result .weighed
-  hooks = lines-S3 _ _ _ _ _ _ _ _ _ _ _ _ _ _ _ _ _ _ (sums all) _ (first-is _ _ _ _ (cells-few all))
-      (second-is _ _ _ _ (cells-few all)) (third-is _ _ _ _ (cells-few all)) _ _ _
-      (c .before .before .before .before .before .before .before .apart .ensures .0) (c .before .before .before .before .before .before .apart2 .ensures .0)
-      (c .before .before .before .before .before .apart3 .ensures .0) _ _
+  hooks = lines-S3 _ _ _ _ _ _ _ _ _ _ _ _ _ _ _ _ _ _ (sums all) _ (first-is _ _ _ _ (few all))
+      (second-is _ _ _ _ (few all)) (third-is _ _ _ _ (few all)) _ _ _
+      (c .before .before .before .before .before .before .before .apart .ensures .0)
+      (c .before .before .before .before .before .before .apart2 .ensures .0)
+      (c .before .before .before .before .before .apart3 .ensures .0)
+      _ _
       (c .three-products5 .ensures .0)
       (c .before .three-products4 .ensures .0)
 
 -- ---- the calls
 
-one-line-requires : tie.Need-one-line-requires
-one-line-requires c κs = first-low _ _ _ _ (c .before .pre)
-
-one-line-requires-2 : tie.Need-one-line-requires-2
-one-line-requires-2 c κs = second-low _ _ _ _ (c .before .before .pre)
-
-mul-one-line : tie.Need-mul-one-line
-mul-one-line c = omega (arith, c .before .before .before .pre .gap-few)
-
-one-line-requires-3 : tie.Need-one-line-requires-3
-one-line-requires-3 c κs = third-low _ _ _ _ (c .before .before .before .pre)
-
 two-lines-requires : tie.Need-two-lines-requires
-two-lines-requires c κs = (first-low _ _ _ _ (c .before .before .before .before .pre), second-low _ _ _ _ (c .before .before .before .before .pre))
+two-lines-requires c κs =
+    let p = c .before .pre in
+    (first-low _ _ _ _ p, second-low _ _ _ _ p)
 
 mul-two-lines : tie.Need-mul-two-lines
-mul-two-lines c = omega (arith, c .before .before .before .before .before .pre .gap-few)
+mul-two-lines c = omega (arith, c .before .before .pre .gap-few)
 
 two-lines-requires-2 : tie.Need-two-lines-requires-2
-two-lines-requires-2 c κs = (first-low _ _ _ _ (c .before .before .before .before .before .pre), third-low _ _ _ _ (c .before .before .before .before .before .pre))
+two-lines-requires-2 c κs =
+    let p = c .before .before .pre in
+    (second-low _ _ _ _ p, third-low _ _ _ _ p)
 
 mul-two-lines-2 : tie.Need-mul-two-lines-2
-mul-two-lines-2 c = omega (arith, c .before .before .before .before .before .before .pre .gap-few)
+mul-two-lines-2 c = omega (arith, c .before .before .before .pre .gap-few)
 
 two-lines-requires-3 : tie.Need-two-lines-requires-3
-two-lines-requires-3 c κs = (second-low _ _ _ _ (c .before .before .before .before .before .before .pre), third-low _ _ _ _ (c .before .before .before .before .before .before .pre))
+two-lines-requires-3 c κs =
+    let p = c .before .before .before .pre in
+    (third-low _ _ _ _ p, first-low _ _ _ _ p)
 
 all-lines-requires : tie.Need-all-lines-requires
-all-lines-requires c κs = (first-low _ _ _ _ (c .before .before .before .before .before .before .before .pre), second-low _ _ _ _ (c .before .before .before .before .before .before .before .pre), third-low _ _ _ _ (c .before .before .before .before .before .before .before .pre))
+all-lines-requires c κs =
+    let p = c .before .before .before .before .pre in
+    (first-low _ _ _ _ p, second-low _ _ _ _ p, third-low _ _ _ _ p)
 
 apart-requires : tie.Need-apart-requires
 apart-requires c κs = (y-le c, z-le c, yz-le _ _ _ _ _ _ _ _ _ _ _ _ _ _ _ _ _ _ (sums c))
 
 apart-requires-2 : tie.Need-apart-requires-2
-apart-requires-2 c κs = let a = c .before in (x-le a, z-le a, xz-le _ _ _ _ _ _ _ _ _ _ _ _ _ _ _ _ _ _ (sums a))
+apart-requires-2 c κs =
+    let a = c .before in
+    (x-le a, z-le a, zx-le _ _ _ _ _ _ _ _ _ _ _ _ _ _ _ _ _ _ (sums a))
 
 apart-requires-3 : tie.Need-apart-requires-3
-apart-requires-3 c κs = let a = c .before .before in (x-le a, y-le a, xy-le _ _ _ _ _ _ _ _ _ _ _ _ _ _ _ _ _ _ (sums a))
+apart-requires-3 c κs =
+    let a = c .before .before in
+    (x-le a, y-le a, xy-le _ _ _ _ _ _ _ _ _ _ _ _ _ _ _ _ _ _ (sums a))
 
 three-products-requires : tie.Need-three-products-requires
 three-products-requires c κs =
     let a = c .before .before .before in
-    ((omega (arith, a .before .before .before .before .before .before .one-line .ensures .2), omega (arith, a .before .before .before .before .before .one-line2 .ensures .2), omega (arith, a .before .before .before .before .one-line3 .ensures .2)), (omega (arith, c .before .before .apart .ensures .1), omega (arith, c .before .apart2 .ensures .1), omega (arith, c .apart3 .ensures .1)))
+    ((omega (arith, sums a .first .squares-le), omega (arith, sums a .second .squares-le), omega (arith, sums a .third .squares-le)),
+    (omega (arith, c .before .before .apart .ensures .1), omega (arith, c .before .apart2 .ensures .1), omega (arith, c .apart3 .ensures .1)))
 
 three-products-requires-2 : tie.Need-three-products-requires-2
 three-products-requires-2 c κs =
     let a = c .before .before .before .before in
-    ((omega (arith, x-le a), omega (arith, y-le a), omega (arith, z-le a)), (omega (arith, c .before .before .before .apart .ensures .1), omega (arith, c .before .before .apart2 .ensures .1), omega (arith, c .before .apart3 .ensures .1)))
+    ((omega (arith, x-le a), omega (arith, y-le a), omega (arith, z-le a)),
+    (omega (arith, c .before .before .before .apart .ensures .1), omega (arith, c .before .before .apart2 .ensures .1), omega (arith, c .before .apart3 .ensures .1)))
 
 three-products-requires-3 : tie.Need-three-products-requires-3
 three-products-requires-3 c κs =
     let a = c .before .before .before .before .before in
-    ((omega (arith, a .before .before .before .two-lines .ensures .2), omega (arith, a .before .before .two-lines2 .ensures .2), omega (arith, a .before .two-lines3 .ensures .2)), (omega (arith, z-le a), omega (arith, y-le a), omega (arith, x-le a)))
+    ((omega (arith, sums a .first .beside-le), omega (arith, sums a .third .beside-le), omega (arith, sums a .second .beside-le)),
+    (omega (arith, z-le a), omega (arith, y-le a), omega (arith, x-le a)))
 
 three-products-requires-4 : tie.Need-three-products-requires-4
 three-products-requires-4 c κs =
     let a = c .before .before .before .before .before .before in
-    ((omega (arith, a .before .before .before .two-lines .ensures .3), omega (arith, a .before .before .two-lines2 .ensures .3), omega (arith, a .before .two-lines3 .ensures .3)), (omega (arith, z-le a), omega (arith, y-le a), omega (arith, x-le a)))
+    ((omega (arith, sums a .first .weighed-le), omega (arith, sums a .third .weighed-le), omega (arith, sums a .second .weighed-le)),
+    (omega (arith, z-le a), omega (arith, y-le a), omega (arith, x-le a)))
 
 add-three-products : tie.Need-add-three-products
 add-three-products c = omega (arith, c .before .before .before .before .before .before .apart .ensures .1, c .before .before .before .before .before .apart2 .ensures .1)
@@ -187,66 +182,94 @@ add-three-products-3 c = omega (arith, c .before .before .before .before .before
 three-products-requires-5 : tie.Need-three-products-requires-5
 three-products-requires-5 c κs =
     let a = c .before .before .before .before .before .before .before in
-    ((omega (arith, a .before .before .before .two-lines .ensures .2), omega (arith, a .before .before .two-lines2 .ensures .2), omega (arith, a .before .two-lines3 .ensures .2)), (omega (arith, c .before .before .before .before .before .before .apart .ensures .1, c .before .before .before .before .before .apart2 .ensures .1), omega (arith, c .before .before .before .before .before .before .apart .ensures .1, c .before .before .before .before .apart3 .ensures .1), omega (arith, c .before .before .before .before .before .apart2 .ensures .1, c .before .before .before .before .apart3 .ensures .1)))
+    ((omega (arith, sums a .first .beside-le), omega (arith, sums a .third .beside-le), omega (arith, sums a .second .beside-le)),
+    (omega (arith, c .before .before .before .before .before .before .apart .ensures .1, c .before .before .before .before .before .apart2 .ensures .1), omega (arith, c .before .before .before .before .before .before .apart .ensures .1, c .before .before .before .before .apart3 .ensures .1), omega (arith, c .before .before .before .before .before .apart2 .ensures .1, c .before .before .before .before .apart3 .ensures .1)))
 
 -- ---- the sums
 
-add-t21 : tie.Need-add-t21
-add-t21 c = omega (arith, c .before .before .before .three-products3 .ensures .1, c .before .before .before .before .before .before .before .before .before .all-lines .ensures .3)
+add-t18 : tie.Need-add-t18
+add-t18 c =
+    omega (
+      arith,
+      c .before .before .before .three-products3 .ensures .1,
+      c .before .before .before .before .before .before .before .before .before .all-lines .ensures .3,
+    )
+
+mul-t20 : tie.Need-mul-t20
+mul-t20 c =
+    omega (
+      arith,
+      c .before .before .before .three-products3 .ensures .1,
+      c .before .before .before .before .before .before .before .before .before .all-lines .ensures .3,
+    )
+
+add-t19 : tie.Need-add-t19
+add-t19 c =
+    omega (
+      arith,
+      c .before .before .before .before .before .three-products .ensures .1,
+      c .before .before .before .three-products3 .ensures .1,
+      c .before .before .before .before .before .before .before .before .before .all-lines .ensures .3,
+    )
+
+sub-t21 : tie.Need-sub-t21
+sub-t21 c = omega (arith, pairs (c .before))
+
+sub-t22 : tie.Need-sub-t22
+sub-t22 c = omega (arith, pairs (c .before))
 
 mul-t23 : tie.Need-mul-t23
-mul-t23 c = omega (arith, c .before .before .before .three-products3 .ensures .1, c .before .before .before .before .before .before .before .before .before .all-lines .ensures .3)
-
-add-t22 : tie.Need-add-t22
-add-t22 c = omega (arith, c .before .before .before .before .before .three-products .ensures .1, c .before .before .before .three-products3 .ensures .1, c .before .before .before .before .before .before .before .before .before .all-lines .ensures .3)
+mul-t23 c = omega (arith, c .before .before .before .before .before .before .before .before .before .before .all-lines .ensures .2)
 
 sub-t24 : tie.Need-sub-t24
-sub-t24 c = omega (arith, pairs (c .before))
+sub-t24 c = omega (arith, pairs (c .before .before))
 
-sub-t25 : tie.Need-sub-t25
-sub-t25 c = omega (arith, pairs (c .before))
+mul-t25 : tie.Need-mul-t25
+mul-t25 c = omega (arith, c .before .before .before .before .before .before .before .before .before .before .before .all-lines .ensures .3)
 
-mul-t26 : tie.Need-mul-t26
-mul-t26 c = omega (arith, c .before .before .before .before .before .before .before .before .before .before .all-lines .ensures .2)
+add-t26 : tie.Need-add-t26
+add-t26 c =
+    omega (
+      arith,
+      c .before .before .before .three-products5 .ensures .1,
+      c .before .before .before .before .before .before .before .before .before .before .before .all-lines .ensures .3,
+    )
 
 sub-t27 : tie.Need-sub-t27
-sub-t27 c = omega (arith, pairs (c .before .before))
+sub-t27 c = omega (arith, hooks (c .before .before .before))
 
-mul-t28 : tie.Need-mul-t28
-mul-t28 c = omega (arith, c .before .before .before .before .before .before .before .before .before .before .before .all-lines .ensures .3)
+add-t28 : tie.Need-add-t28
+add-t28 c =
+    let a = c .before .before .before .before .before .before .before .before .before .before .before .before .before in
+    omega (arith, x-le a, y-le a)
 
 add-t29 : tie.Need-add-t29
-add-t29 c = omega (arith, c .before .before .before .three-products5 .ensures .1, c .before .before .before .before .before .before .before .before .before .before .before .all-lines .ensures .3)
+add-t29 c =
+    let a = c .before .before .before .before .before .before .before .before .before .before .before .before .before .before in
+    omega (arith, x-le a, y-le a, z-le a)
 
-sub-t30 : tie.Need-sub-t30
-sub-t30 c = omega (arith, hooks (c .before .before .before))
+mul-t30 : tie.Need-mul-t30
+mul-t30 c =
+    let a = c .before .before .before .before .before .before .before .before .before .before .before .before .before .before .before in
+    omega (arith, all-le a)
 
-add-t31 : tie.Need-add-t31
-add-t31 c = let a = c .before .before .before .before .before .before .before .before .before .before .before .before .before in omega (arith, x-le a, y-le a)
+mul-t31 : tie.Need-mul-t31
+mul-t31 c =
+    let a = c .before .before .before .before .before .before .before .before .before .before .before .before .before .before .before in
+    omega (arith, all-le a)
 
-add-t32 : tie.Need-add-t32
-add-t32 c = let a = c .before .before .before .before .before .before .before .before .before .before .before .before .before .before in omega (arith, x-le a, y-le a, z-le a)
-
-mul-t33 : tie.Need-mul-t33
-mul-t33 c = omega (arith, total-le (c .before .before .before .before .before .before .before .before .before .before .before .before .before .before .before))
-
-mul-t34 : tie.Need-mul-t34
-mul-t34 c = omega (arith, total-le (c .before .before .before .before .before .before .before .before .before .before .before .before .before .before .before))
-
-sub-t35 : tie.Need-sub-t35
-sub-t35 c = omega (arith, hooks (c .before .before .before .before .before .before .before))
+sub-t32 : tie.Need-sub-t32
+sub-t32 c = omega (arith, hooks (c .before .before .before .before .before .before .before))
 
 returns : tie.Need-returns
-returns c = (omega (arith, pairs (c .before .before .before .before .before .before .before)), omega (arith, hooks (c .before .before .before .before .before .before .before)))
+returns c =
+    let a = c .before .before .before .before .before .before .before in
+    (omega (arith, pairs a), omega (arith, hooks a))
 
 pub three-lines-spec : {M : Type 1} → statement M
 three-lines-spec =
     tie.close
     (tie.spec
-    one-line-requires
-    one-line-requires-2
-    mul-one-line
-    one-line-requires-3
     two-lines-requires
     mul-two-lines
     two-lines-requires-2
@@ -264,19 +287,19 @@ three-lines-spec =
     add-three-products-2
     add-three-products-3
     three-products-requires-5
-    add-t21
+    add-t18
+    mul-t20
+    add-t19
+    sub-t21
+    sub-t22
     mul-t23
-    add-t22
     sub-t24
-    sub-t25
-    mul-t26
+    mul-t25
+    add-t26
     sub-t27
-    mul-t28
+    add-t28
     add-t29
-    sub-t30
-    add-t31
-    add-t32
-    mul-t33
-    mul-t34
-    sub-t35
+    mul-t30
+    mul-t31
+    sub-t32
     returns)

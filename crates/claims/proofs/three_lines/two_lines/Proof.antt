@@ -1,4 +1,4 @@
--- The invariant: `total` and `weighed` are the sums before cell `a`, and `k` and `l` are the places of the cells `a`.
+-- The invariant: the four sums are those before cell `a`, and `k` and `l` are the places of the cells `a`.
 -- Assumes nothing.
 use mathlib.Core.Path.{_≡_, refl, _∙_, ap, ap₂}
 use Prim.Native.Nat.{ℕ, _+_, _*_, _-_, _≤_}
@@ -13,52 +13,70 @@ use Rattle.claims.proofs.three_lines.two_lines.Statement.{statement}
 use Rattle.claims.proofs.three_lines.two_lines.Tie as tie
 
 abbrev Inv-loop : tie.InvT-loop
-Inv-loop cells at to step len total₀ weighed₀ k₀ l₀ a₀ total weigh k l a =
+Inv-loop cells at to step len total₀ squares₀ beside₀ weighed₀ k₀ l₀ a₀ total squares beside weigh k l a =
     (a ≤ len)
     × (k ≡ at + a * step)
     × (l ≡ to + a * step)
-    × (total ≡ products a (lineCell cells at step) (lineCell cells to step))
+    × (total ≡ sum a (lineCell cells at step))
+    × (squares ≡ products a (lineCell cells at step) (lineCell cells at step))
+    × (beside ≡ products a (lineCell cells at step) (lineCell cells to step))
     × (weigh ≡ weighed a (lineCell cells at step) (lineCell cells to step))
-    × (total ≤ a * 65536)
+    × (total ≤ a * 256)
+    × (squares ≤ a * 65536)
+    × (beside ≤ a * 65536)
     × (weigh ≤ a * 33554432)
 
 abbrev μ-loop : tie.MeasureT-loop
-μ-loop cells at to step len total₀ weighed₀ k₀ l₀ a₀ total weigh k l a = len - a
+μ-loop cells at to step len total₀ squares₀ beside₀ weighed₀ k₀ l₀ a₀ total squares beside weigh k l a = len - a
 
 abbrev start : tie.After-big2 Inv-loop μ-loop → tie.Start Inv-loop μ-loop
 start c = c .before .before .before .before .before .before .before
 
 -- the cells that were read
-first : (c : tie.After-big2 Inv-loop μ-loop) → c .before .before .big .result ≡ lineCell (start c .args .cells .now)
-    (start c .args .at) (start c .args .step) (c .before .before .before .before .before .loop .a)
+abbrev x : tie.After-big2 Inv-loop μ-loop → ℕ
+x c = c .before .before .big .result
+
+abbrev y : tie.After-big2 Inv-loop μ-loop → ℕ
+y c = c .big2 .result
+
+first : (c : tie.After-big2 Inv-loop μ-loop)
+    → x c ≡ lineCell (start c .args .cells .now) (start c .args .at) (start c .args .step) (c .before .before .before .before .before .loop .a)
 first c =
     c .before .before .big .ensures .0
     ∙ ap (λ (k : ℕ). word (start c .args .cells .now) k) (c .before .before .before .before .before .loop .inv .1)
 
-second : (c : tie.After-big2 Inv-loop μ-loop) → c .big2 .result ≡ lineCell (start c .args .cells .now)
-    (start c .args .to) (start c .args .step) (c .before .before .before .before .before .loop .a)
+second : (c : tie.After-big2 Inv-loop μ-loop)
+    → y c ≡ lineCell (start c .args .cells .now) (start c .args .to) (start c .args .step) (c .before .before .before .before .before .loop .a)
 second c =
     c .big2 .ensures .0
     ∙ ap (λ (k : ℕ). word (start c .args .cells .now) k) (c .before .before .before .before .before .loop .inv .2)
 
-first-le : (c : tie.After-big2 Inv-loop μ-loop) → c .before .before .big .result ≤ 256
+first-le : (c : tie.After-big2 Inv-loop μ-loop) → x c ≤ 256
 first-le c = omega (arith, first c, start c .pre .0 .low (c .before .before .before .before .before .loop .a) (c .before .before .before .before .loop-test .taken))
 
-second-le : (c : tie.After-big2 Inv-loop μ-loop) → c .big2 .result ≤ 256
+second-le : (c : tie.After-big2 Inv-loop μ-loop) → y c ≤ 256
 second-le c = omega (arith, second c, start c .pre .1 .low (c .before .before .before .before .before .loop .a) (c .before .before .before .before .loop-test .taken))
 
--- their product, ..
-product-low : (c : tie.After-big2 Inv-loop μ-loop) → c .before .before .big .result * c .big2 .result ≤ 65536
+-- the square, the product, ..
+square-low : (c : tie.After-big2 Inv-loop μ-loop) → x c * x c ≤ 65536
+square-low c = product-le 256 256 _ _ (first-le c) (first-le c)
+
+product-low : (c : tie.After-big2 Inv-loop μ-loop) → x c * y c ≤ 65536
 product-low c = product-le 256 256 _ _ (first-le c) (second-le c)
 
 -- .. and the product times the sum
-weighed-low : (c : tie.After-big2 Inv-loop μ-loop) → c .before .before .big .result * c .big2 .result
-    * (c .before .before .big .result + c .big2 .result) ≤ 33554432
+weighed-low : (c : tie.After-big2 Inv-loop μ-loop) → x c * y c * (x c + y c) ≤ 33554432
 weighed-low c = product-le 65536 512 _ _ (product-low c) (omega (arith, first-le c, second-le c))
+
+-- how far the places have come
+stepped : (c : tie.After-big2 Inv-loop μ-loop) → c .before .before .before .before .before .loop .a * start c .args .step ≤ 65536
+stepped c = product-le 256 256 (c .before .before .before .before .before .loop .a) (start c .args .step)
+    (omega (arith, start c .pre .0 .few)) (start c .pre .0 .step-few)
 
 loop-holds : tie.Need-loop-holds Inv-loop μ-loop
 unfolding sum
-loop-holds c = (omega arith, omega arith, omega arith, refl, refl, omega arith, omega arith)
+loop-holds c =
+    (omega arith, omega arith, omega arith, refl, refl, refl, refl, omega arith, omega arith, omega arith, omega arith)
 
 mul-big : tie.Need-mul-big Inv-loop μ-loop
 mul-big c =
@@ -90,7 +108,16 @@ mul-p : tie.Need-mul-p Inv-loop μ-loop
 mul-p c = omega (arith, product-low c)
 
 add-total : tie.Need-add-total Inv-loop μ-loop
-add-total c = omega (arith, product-low c, start c .pre .0 .few)
+add-total c = omega (arith, first-le c, start c .pre .0 .few)
+
+mul-squares : tie.Need-mul-squares Inv-loop μ-loop
+mul-squares c = omega (arith, square-low c)
+
+add-squares : tie.Need-add-squares Inv-loop μ-loop
+add-squares c = omega (arith, square-low c, start c .pre .0 .few)
+
+add-beside : tie.Need-add-beside Inv-loop μ-loop
+add-beside c = omega (arith, product-low c, start c .pre .0 .few)
 
 add-weighed : tie.Need-add-weighed Inv-loop μ-loop
 add-weighed c = omega (arith, first-le c, second-le c)
@@ -100,11 +127,6 @@ mul-weighed c = omega (arith, weighed-low c)
 
 add-weighed-2 : tie.Need-add-weighed-2 Inv-loop μ-loop
 add-weighed-2 c = omega (arith, weighed-low c, start c .pre .0 .few)
-
--- how far the places have come
-stepped : (c : tie.After-big2 Inv-loop μ-loop) → c .before .before .before .before .before .loop .a * start c .args .step ≤ 65536
-stepped c = product-le 256 256 (c .before .before .before .before .before .loop .a) (start c .args .step)
-    (omega (arith, start c .pre .0 .few)) (start c .pre .0 .step-few)
 
 add-k : tie.Need-add-k Inv-loop μ-loop
 add-k c = omega (arith, stepped c, start c .pre .0 .at-few, start c .pre .0 .step-few)
@@ -122,14 +144,18 @@ loop-again : tie.Need-loop-again Inv-loop μ-loop
 loop-again c =
     let l = c .before .before .before .before .before .loop in
     let p = start c .args in
-    let x = lineCell (p .cells .now) (p .at) (p .step) in
-    let y = lineCell (p .cells .now) (p .to) (p .step) in (
+    let f = lineCell (p .cells .now) (p .at) (p .step) in
+    let g = lineCell (p .cells .now) (p .to) (p .step) in (
       omega arith,
       omega arith,
       omega arith,
-      sum-step (l .a) (λ a. x a * y a) _ _ (l .inv .3) (ap₂ (λ (v w : ℕ). v * w) (first c) (second c)),
-      sum-step (l .a) (λ a. x a * y a * (x a + y a)) _ _ (l .inv .4)
+      sum-step (l .a) f _ _ (l .inv .3) (first c),
+      sum-step (l .a) (λ a. f a * f a) _ _ (l .inv .4) (ap (λ (v : ℕ). v * v) (first c)),
+      sum-step (l .a) (λ a. f a * g a) _ _ (l .inv .5) (ap₂ (λ (v w : ℕ). v * w) (first c) (second c)),
+      sum-step (l .a) (λ a. f a * g a * (f a + g a)) _ _ (l .inv .6)
           (ap₂ (λ (v w : ℕ). v * w * (v + w)) (first c) (second c)),
+      omega (arith, first-le c),
+      omega (arith, square-low c),
       omega (arith, product-low c),
       omega (arith, weighed-low c),
     )
@@ -138,12 +164,15 @@ returns : tie.Need-returns Inv-loop μ-loop
 returns c =
     let l = c .before .loop in
     let p = c .before .before .before in
-    let e : l .a ≡ p .args .len = omega arith in (
-      rw e at (l .inv .3),
-      rw e at (l .inv .4),
-      omega (arith, p .pre .0 .few),
-      omega (arith, p .pre .0 .few),
-    )
+    let e : l .a ≡ p .args .len = omega arith in record {
+      sum-is = rw e at (l .inv .3);
+      squares-is = rw e at (l .inv .4);
+      beside-is = rw e at (l .inv .5);
+      weighed-is = rw e at (l .inv .6);
+      squares-le = omega (arith, p .pre .0 .few);
+      beside-le = omega (arith, p .pre .0 .few);
+      weighed-le = omega (arith, p .pre .0 .few);
+    }
 
 pub two-lines-spec : {M : Type 1} → statement M
 two-lines-spec =
@@ -160,6 +189,9 @@ two-lines-spec =
     big-requires-2
     mul-p
     add-total
+    mul-squares
+    add-squares
+    add-beside
     add-weighed
     mul-weighed
     add-weighed-2
