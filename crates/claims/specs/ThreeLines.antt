@@ -1,6 +1,6 @@
 -- Three lines of a block: their sums and products, and what these come to.
 -- Assumes nothing.
-use mathlib.Core.Path.{_≡_, refl, sym, _∙_, ap}
+use mathlib.Core.Path.{_≡_, refl, _∙_, ap}
 use mathlib.Core.List.{List}
 use Prim.Native.Nat.{ℕ, _+_, _*_, _≤_, _<_}
 use native.Mathlib.Omega.{arith}
@@ -11,7 +11,7 @@ use Rattle.sums.specs.Exclusion.{pair-apart}
 use Rattle.node_pairs.specs.Cells.{pairS2, pairS3}
 use Rattle.node_pairs.specs.ThreeRows.{products, weighed, products3, weighed3, products-turned, weighed-turned}
 use Rattle.node_pairs.specs.ThreeRows.{three-rows-S2, three-rows-S3}
-use Rattle.claims.specs.Lines.{Line, lineCell}
+use Rattle.claims.specs.Lines.{lineCell}
 use Rattle.claims.specs.LineDots.{FewLines, lineOf}
 
 -- a line in a slice, short and low
@@ -129,10 +129,23 @@ module _ (len : ℕ) (f g h : ℕ → ℕ) (x y z xx yy zz xy yz zx wxy wyz wzx 
       where
         closed : pairS2 3 len I + (x * u + y * v + z * w) + (wxy * z + wzx * y + wyz * x) + 6 * t
             ≡ xx * u + yy * v + zz * w + 2 * (xy * z + zx * y + yz * x) + 2 * q
-        closed = rw (s .first .sum-is, s .second .sum-is, s .third .sum-is, s .first .squares-is,
-          s .second .squares-is, s .third .squares-is, s .first .beside-is, zx-is, s .second .beside-is,
-          s .first .weighed-is, wzx-is, s .second .weighed-is, s .t-is, s .q-is)
-          (rw (hf, hg, hh) (three-rows-S2 len I u v w u-is v-is w-is))
+        closed = rw (
+          s .first .sum-is,
+          s .second .sum-is,
+          s .third .sum-is,
+          s .first .squares-is,
+          s .second .squares-is,
+          s .third .squares-is,
+          s .first .beside-is,
+          zx-is,
+          s .second .beside-is,
+          s .first .weighed-is,
+          wzx-is,
+          s .second .weighed-is,
+          s .t-is,
+          s .q-is,
+        )
+            (rw (hf, hg, hh) (three-rows-S2 len I u v w u-is v-is w-is))
 
     pub lines-S3 : (hooks weigh : ℕ) → hooks ≡ xy * (u + v) + zx * (u + w) + yz * (v + w)
         → weigh ≡ wxy * z + wzx * y + wyz * x
@@ -141,6 +154,17 @@ module _ (len : ℕ) (f g h : ℕ → ℕ) (x y z xx yy zz xy yz zx wxy wyz wzx 
       where
         closed : pairS3 3 len I + (wxy * z + wzx * y + wyz * x) + 2 * (t * (x + y + z))
             ≡ xy * (u + v) + zx * (u + w) + yz * (v + w) + 4 * q
-        closed = rw (s .first .sum-is, s .second .sum-is, s .third .sum-is, s .first .beside-is, zx-is,
-          s .second .beside-is, s .first .weighed-is, wzx-is, s .second .weighed-is, s .t-is, s .q-is)
-          (rw (hf, hg, hh) (three-rows-S3 len I u v w u-is v-is w-is))
+        closed = rw (
+          s .first .sum-is,
+          s .second .sum-is,
+          s .third .sum-is,
+          s .first .beside-is,
+          zx-is,
+          s .second .beside-is,
+          s .first .weighed-is,
+          wzx-is,
+          s .second .weighed-is,
+          s .t-is,
+          s .q-is,
+        )
+            (rw (hf, hg, hh) (three-rows-S3 len I u v w u-is v-is w-is))

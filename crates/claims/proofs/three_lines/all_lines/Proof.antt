@@ -1,4 +1,4 @@
--- The invariant: `total` and `weighed` are the sums before cell `a`, and `k` is the place of cell `a` of the first line.
+-- The invariant: `total` and `weighed` are the sums before cell `a`, and `k` is its place in the first line.
 -- Assumes nothing.
 use mathlib.Core.Path.{_≡_, refl, _∙_, ap}
 use Prim.Native.Nat.{ℕ, _+_, _*_, _-_, _≤_}
@@ -38,36 +38,45 @@ y c = c .before .before .big2 .result
 abbrev z : tie.After-big3 Inv-loop μ-loop → ℕ
 z c = c .big3 .result
 
-place : (c : tie.After-big3 Inv-loop μ-loop)
-    → c .before .before .before .before .before .before .before .loop .k ≡ 0 + c .before .before .before .before .before .before .before .loop .a * start c .args .step
-place c = omega arith
+-- .. at this place of the lines
+abbrev place : tie.After-big3 Inv-loop μ-loop → ℕ
+place c = c .before .before .before .before .before .before .before .loop .a
 
 first : (c : tie.After-big3 Inv-loop μ-loop)
-    → x c ≡ lineCell (start c .args .cells .now) 0 (start c .args .step) (c .before .before .before .before .before .before .before .loop .a)
+    → x c ≡ lineCell (start c .args .cells .now) 0 (start c .args .step) (place c)
 first c =
-    c .before .before .before .before .big .ensures .0
-    ∙ ap (λ (k : ℕ). word (start c .args .cells .now) k) (place c)
+    let l = c .before .before .before .before .before .before .before .loop in
+    let b = c .before .before .before .before .big in
+    let e : l .k ≡ 0 + l .a * start c .args .step = omega arith in
+    b .ensures .0 ∙ ap (λ (k : ℕ). word (start c .args .cells .now) k) e
 
 second : (c : tie.After-big3 Inv-loop μ-loop)
-    → y c ≡ lineCell (start c .args .cells .now) (start c .args .gap) (start c .args .step) (c .before .before .before .before .before .before .before .loop .a)
+    → y c ≡ lineCell (start c .args .cells .now) (start c .args .gap) (start c .args .step) (place c)
 second c =
-    c .before .before .big2 .ensures .0
-    ∙ ap (λ (k : ℕ). word (start c .args .cells .now) (start c .args .gap + k)) (c .before .before .before .before .before .before .before .loop .inv .1)
+    let l = c .before .before .before .before .before .before .before .loop in
+    let b = c .before .before .big2 in
+    b .ensures .0 ∙ ap (λ (k : ℕ). word (start c .args .cells .now) (start c .args .gap + k)) (l .inv .1)
 
 third : (c : tie.After-big3 Inv-loop μ-loop)
-    → z c ≡ lineCell (start c .args .cells .now) (2 * start c .args .gap) (start c .args .step) (c .before .before .before .before .before .before .before .loop .a)
+    → z c ≡ lineCell (start c .args .cells .now) (2 * start c .args .gap) (start c .args .step) (place c)
 third c =
-    c .big3 .ensures .0
-    ∙ ap (λ (k : ℕ). word (start c .args .cells .now) (2 * start c .args .gap + k)) (c .before .before .before .before .before .before .before .loop .inv .1)
+    let l = c .before .before .before .before .before .before .before .loop in
+    c .big3 .ensures .0 ∙ ap (λ (k : ℕ). word (start c .args .cells .now) (2 * start c .args .gap + k)) (l .inv .1)
 
 first-le : (c : tie.After-big3 Inv-loop μ-loop) → x c ≤ 256
-first-le c = omega (arith, first c, start c .pre .0 .low (c .before .before .before .before .before .before .before .loop .a) (c .before .before .before .before .before .before .loop-test .taken))
+first-le c =
+    let t = c .before .before .before .before .before .before .loop-test in
+    omega (arith, first c, start c .pre .0 .low (place c) (t .taken))
 
 second-le : (c : tie.After-big3 Inv-loop μ-loop) → y c ≤ 256
-second-le c = omega (arith, second c, start c .pre .1 .low (c .before .before .before .before .before .before .before .loop .a) (c .before .before .before .before .before .before .loop-test .taken))
+second-le c =
+    let t = c .before .before .before .before .before .before .loop-test in
+    omega (arith, second c, start c .pre .1 .low (place c) (t .taken))
 
 third-le : (c : tie.After-big3 Inv-loop μ-loop) → z c ≤ 256
-third-le c = omega (arith, third c, start c .pre .2 .low (c .before .before .before .before .before .before .before .loop .a) (c .before .before .before .before .before .before .loop-test .taken))
+third-le c =
+    let t = c .before .before .before .before .before .before .loop-test in
+    omega (arith, third c, start c .pre .2 .low (place c) (t .taken))
 
 -- their product, ..
 pair-low : (c : tie.After-big3 Inv-loop μ-loop) → x c * y c ≤ 65536
@@ -104,18 +113,21 @@ big-requires c κs = search needs
 
 add-big : tie.Need-add-big Inv-loop μ-loop
 add-big c =
-    let l = c .before .before .before .loop in
-    omega (arith, c .before .before .before .before .before .pre .1 .inside (l .a) (c .before .before .loop-test .taken))
+    let t = c .before .before in
+    let l = t .before .loop in
+    omega (arith, c .before .before .before .before .before .pre .1 .inside (l .a) (t .loop-test .taken))
 
 mul-big-2 : tie.Need-mul-big-2 Inv-loop μ-loop
 mul-big-2 c =
-    let l = c .before .before .before .loop in
-    omega (arith, c .before .before .before .before .before .pre .1 .inside (l .a) (c .before .before .loop-test .taken))
+    let t = c .before .before in
+    let l = t .before .loop in
+    omega (arith, c .before .before .before .before .before .pre .1 .inside (l .a) (t .loop-test .taken))
 
 shared-slice-read-big-2 : tie.Need-shared-slice-read-big-2 Inv-loop μ-loop
 shared-slice-read-big-2 c =
-    let l = c .before .before .before .before .loop in
-    omega (arith, c .before .before .before .before .before .before .pre .1 .inside (l .a) (c .before .before .before .loop-test .taken))
+    let t = c .before .before .before in
+    let l = t .before .loop in
+    omega (arith, c .before .before .before .before .before .before .pre .1 .inside (l .a) (t .loop-test .taken))
 
 big-requires-2 : tie.Need-big-requires-2 Inv-loop μ-loop
 big-requires-2 c κs = search needs
@@ -125,18 +137,24 @@ mul-big-3 c = omega (arith, c .before .before .before .before .before .before .b
 
 add-big-2 : tie.Need-add-big-2 Inv-loop μ-loop
 add-big-2 c =
-    let l = c .before .before .before .before .before .loop in
-    omega (arith, c .before .before .before .before .before .before .before .pre .2 .inside (l .a) (c .before .before .before .before .loop-test .taken))
+    let t = c .before .before .before .before in
+    let l = t .before .loop in
+    let p = c .before .before .before .before .before .before .before .pre .2 in
+    omega (arith, p .inside (l .a) (t .loop-test .taken))
 
 mul-big-4 : tie.Need-mul-big-4 Inv-loop μ-loop
 mul-big-4 c =
-    let l = c .before .before .before .before .before .loop in
-    omega (arith, c .before .before .before .before .before .before .before .pre .2 .inside (l .a) (c .before .before .before .before .loop-test .taken))
+    let t = c .before .before .before .before in
+    let l = t .before .loop in
+    let p = c .before .before .before .before .before .before .before .pre .2 in
+    omega (arith, p .inside (l .a) (t .loop-test .taken))
 
 shared-slice-read-big-3 : tie.Need-shared-slice-read-big-3 Inv-loop μ-loop
 shared-slice-read-big-3 c =
-    let l = c .before .before .before .before .before .before .loop in
-    omega (arith, c .before .before .before .before .before .before .before .before .pre .2 .inside (l .a) (c .before .before .before .before .before .loop-test .taken))
+    let t = c .before .before .before .before .before in
+    let l = t .before .loop in
+    let p = c .before .before .before .before .before .before .before .before .pre .2 in
+    omega (arith, p .inside (l .a) (t .loop-test .taken))
 
 big-requires-3 : tie.Need-big-requires-3 Inv-loop μ-loop
 big-requires-3 c κs = search needs

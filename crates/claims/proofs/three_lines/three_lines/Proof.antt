@@ -17,18 +17,27 @@ use Rattle.claims.proofs.three_lines.three_lines.Tie as tie
 abbrev start : tie.After-all-lines → tie.Start
 start c = c .before .before .before .before .before
 
+abbrev first : tie.After-all-lines → tie.After-two-lines
+first c = c .before .before .before
+
+abbrev second : tie.After-all-lines → tie.After-two-lines2
+second c = c .before .before
+
+abbrev third : tie.After-all-lines → tie.After-two-lines3
+third c = c .before
+
 module _ (c : tie.After-all-lines) where
   abbrev few : FewLines (start c .args .cells .now) (start c .args .gap) 3 (start c .args .step) (start c .args .len)
   few = start c .pre
 
   abbrev x : ℕ
-  x = c .before .before .before .two-lines .result .sum
+  x = first c .two-lines .result .sum
 
   abbrev y : ℕ
-  y = c .before .before .two-lines2 .result .sum
+  y = second c .two-lines2 .result .sum
 
   abbrev z : ℕ
-  z = c .before .two-lines3 .result .sum
+  z = third c .two-lines3 .result .sum
 
   sums : ThreeSums (start c .args .len) (lineCell (start c .args .cells .now) 0 (start c .args .step))
       (lineCell (start c .args .cells .now) (start c .args .gap) (start c .args .step))
@@ -36,21 +45,21 @@ module _ (c : tie.After-all-lines) where
       x
       y
       z
-      (c .before .before .before .two-lines .result .squares)
-      (c .before .before .two-lines2 .result .squares)
-      (c .before .two-lines3 .result .squares)
-      (c .before .before .before .two-lines .result .beside)
-      (c .before .before .two-lines2 .result .beside)
-      (c .before .two-lines3 .result .beside)
-      (c .before .before .before .two-lines .result .weighed)
-      (c .before .before .two-lines2 .result .weighed)
-      (c .before .two-lines3 .result .weighed)
+      (first c .two-lines .result .squares)
+      (second c .two-lines2 .result .squares)
+      (third c .two-lines3 .result .squares)
+      (first c .two-lines .result .beside)
+      (second c .two-lines2 .result .beside)
+      (third c .two-lines3 .result .beside)
+      (first c .two-lines .result .weighed)
+      (second c .two-lines2 .result .weighed)
+      (third c .two-lines3 .result .weighed)
       (c .all-lines .result .sum)
       (c .all-lines .result .weighed)
   sums = record {
-    first = c .before .before .before .two-lines .ensures;
-    second = c .before .before .two-lines2 .ensures;
-    third = c .before .two-lines3 .ensures;
+    first = first c .two-lines .ensures;
+    second = second c .two-lines2 .ensures;
+    third = third c .two-lines3 .ensures;
     t-is = c .all-lines .ensures .0;
     q-is = c .all-lines .ensures .1;
   }
@@ -68,42 +77,57 @@ module _ (c : tie.After-all-lines) where
   all-le : c .all-lines .result .sum * (x + y + z) ≤ 3298534883328
   all-le = product-le 4294967296 768 _ _ (c .all-lines .ensures .2) (omega (arith, x-le, y-le, z-le))
 
+-- the products at different places of two lines
+module _ (c : tie.After-apart3) where
+  u-le : c .before .before .apart .result ≤ 131072
+  u-le = omega (arith, c .before .before .apart .ensures .1)
+
+  v-le : c .before .apart2 .result ≤ 131072
+  v-le = omega (arith, c .before .apart2 .ensures .1)
+
+  w-le : c .apart3 .result ≤ 131072
+  w-le = omega (arith, c .apart3 .ensures .1)
+
 -- ---- what they come to
 
 module _ (c : tie.After-three-products5) where
+  abbrev apart : tie.After-apart3
+  apart = c .before .before .before .before .before
+
   abbrev all : tie.After-all-lines
-  all = c .before .before .before .before .before .before .before .before
+  all = apart .before .before .before
+
+  abbrev squares : tie.After-three-products
+  squares = c .before .before .before .before
+
+  abbrev totals : tie.After-three-products2
+  totals = c .before .before .before
+
+  abbrev beside : tie.After-three-products3
+  beside = c .before .before
+
+  abbrev weighed : tie.After-three-products4
+  weighed = c .before
 
   pairs : pairS2 3 (start all .args .len)
       (lineOf (start all .args .cells .now) (start all .args .gap) (start all .args .step))
-      + c .before .before .before .three-products2 .result
-      + c .before .three-products4 .result + 6 * all .all-lines .result .sum
-      ≡ c .before .before .before .before .three-products .result
-      + 2 * (c .before .before .three-products3 .result + all .all-lines .result .weighed)
+      + totals .three-products2 .result + weighed .three-products4 .result + 6 * all .all-lines .result .sum
+      ≡ squares .three-products .result
+      + 2 * (beside .three-products3 .result + all .all-lines .result .weighed)
   pairs = lines-S2 _ _ _ _ _ _ _ _ _ _ _ _ _ _ _ _ _ _ (sums all) _ (first-is _ _ _ _ (few all))
       (second-is _ _ _ _ (few all)) (third-is _ _ _ _ (few all)) _ _ _
-      (c .before .before .before .before .before .before .before .apart .ensures .0)
-      (c .before .before .before .before .before .before .apart2 .ensures .0)
-      (c .before .before .before .before .before .apart3 .ensures .0)
-      _ _ _ _
-      (c .before .before .before .before .three-products .ensures .0)
-      (c .before .before .before .three-products2 .ensures .0)
-      (c .before .before .three-products3 .ensures .0)
-      (c .before .three-products4 .ensures .0)
+      (apart .before .before .apart .ensures .0) (apart .before .apart2 .ensures .0) (apart .apart3 .ensures .0)
+      _ _ _ _ (squares .three-products .ensures .0) (totals .three-products2 .ensures .0)
+      (beside .three-products3 .ensures .0) (weighed .three-products4 .ensures .0)
 
   hooks : pairS3 3 (start all .args .len)
       (lineOf (start all .args .cells .now) (start all .args .gap) (start all .args .step))
-      + c .before .three-products4 .result
-      + 2 * (all .all-lines .result .sum * (x all + y all + z all))
+      + weighed .three-products4 .result + 2 * (all .all-lines .result .sum * (x all + y all + z all))
       ≡ c .three-products5 .result + 4 * all .all-lines .result .weighed
   hooks = lines-S3 _ _ _ _ _ _ _ _ _ _ _ _ _ _ _ _ _ _ (sums all) _ (first-is _ _ _ _ (few all))
       (second-is _ _ _ _ (few all)) (third-is _ _ _ _ (few all)) _ _ _
-      (c .before .before .before .before .before .before .before .apart .ensures .0)
-      (c .before .before .before .before .before .before .apart2 .ensures .0)
-      (c .before .before .before .before .before .apart3 .ensures .0)
-      _ _
-      (c .three-products5 .ensures .0)
-      (c .before .three-products4 .ensures .0)
+      (apart .before .before .apart .ensures .0) (apart .before .apart2 .ensures .0) (apart .apart3 .ensures .0)
+      _ _ (c .three-products5 .ensures .0) (weighed .three-products4 .ensures .0)
 
 -- ---- the calls
 
@@ -148,69 +172,93 @@ apart-requires-3 c κs =
 
 three-products-requires : tie.Need-three-products-requires
 three-products-requires c κs =
-    let a = c .before .before .before in
-    ((omega (arith, sums a .first .squares-le), omega (arith, sums a .second .squares-le), omega (arith, sums a .third .squares-le)),
-    (omega (arith, c .before .before .apart .ensures .1), omega (arith, c .before .apart2 .ensures .1), omega (arith, c .apart3 .ensures .1)))
+    let b = c in
+    let a = b .before .before .before in (
+      (
+        omega (arith, sums a .first .squares-le),
+        omega (arith, sums a .second .squares-le),
+        omega (arith, sums a .third .squares-le),
+      ),
+      (u-le b, v-le b, w-le b),
+    )
 
 three-products-requires-2 : tie.Need-three-products-requires-2
 three-products-requires-2 c κs =
-    let a = c .before .before .before .before in
-    ((omega (arith, x-le a), omega (arith, y-le a), omega (arith, z-le a)),
-    (omega (arith, c .before .before .before .apart .ensures .1), omega (arith, c .before .before .apart2 .ensures .1), omega (arith, c .before .apart3 .ensures .1)))
+    let b = c .before in
+    let a = b .before .before .before in (
+      (omega (arith, x-le a), omega (arith, y-le a), omega (arith, z-le a)),
+      (u-le b, v-le b, w-le b),
+    )
 
 three-products-requires-3 : tie.Need-three-products-requires-3
 three-products-requires-3 c κs =
-    let a = c .before .before .before .before .before in
-    ((omega (arith, sums a .first .beside-le), omega (arith, sums a .third .beside-le), omega (arith, sums a .second .beside-le)),
-    (omega (arith, z-le a), omega (arith, y-le a), omega (arith, x-le a)))
+    let a = c .before .before .before .before .before in (
+      (
+        omega (arith, sums a .first .beside-le),
+        omega (arith, sums a .third .beside-le),
+        omega (arith, sums a .second .beside-le),
+      ),
+      (omega (arith, z-le a), omega (arith, y-le a), omega (arith, x-le a)),
+    )
 
 three-products-requires-4 : tie.Need-three-products-requires-4
 three-products-requires-4 c κs =
-    let a = c .before .before .before .before .before .before in
-    ((omega (arith, sums a .first .weighed-le), omega (arith, sums a .third .weighed-le), omega (arith, sums a .second .weighed-le)),
-    (omega (arith, z-le a), omega (arith, y-le a), omega (arith, x-le a)))
+    let a = c .before .before .before .before .before .before in (
+      (
+        omega (arith, sums a .first .weighed-le),
+        omega (arith, sums a .third .weighed-le),
+        omega (arith, sums a .second .weighed-le),
+      ),
+      (omega (arith, z-le a), omega (arith, y-le a), omega (arith, x-le a)),
+    )
 
 add-three-products : tie.Need-add-three-products
-add-three-products c = omega (arith, c .before .before .before .before .before .before .apart .ensures .1, c .before .before .before .before .before .apart2 .ensures .1)
+add-three-products c =
+    let b = c .before .before .before .before in
+    omega (arith, b .before .before .apart .ensures .1, b .before .apart2 .ensures .1)
 
 add-three-products-2 : tie.Need-add-three-products-2
-add-three-products-2 c = omega (arith, c .before .before .before .before .before .before .apart .ensures .1, c .before .before .before .before .apart3 .ensures .1)
+add-three-products-2 c =
+    let b = c .before .before .before .before in
+    omega (arith, b .before .before .apart .ensures .1, b .apart3 .ensures .1)
 
 add-three-products-3 : tie.Need-add-three-products-3
-add-three-products-3 c = omega (arith, c .before .before .before .before .before .apart2 .ensures .1, c .before .before .before .before .apart3 .ensures .1)
+add-three-products-3 c =
+    let b = c .before .before .before .before in
+    omega (arith, b .before .apart2 .ensures .1, b .apart3 .ensures .1)
 
 three-products-requires-5 : tie.Need-three-products-requires-5
 three-products-requires-5 c κs =
-    let a = c .before .before .before .before .before .before .before in
-    ((omega (arith, sums a .first .beside-le), omega (arith, sums a .third .beside-le), omega (arith, sums a .second .beside-le)),
-    (omega (arith, c .before .before .before .before .before .before .apart .ensures .1, c .before .before .before .before .before .apart2 .ensures .1), omega (arith, c .before .before .before .before .before .before .apart .ensures .1, c .before .before .before .before .apart3 .ensures .1), omega (arith, c .before .before .before .before .before .apart2 .ensures .1, c .before .before .before .before .apart3 .ensures .1)))
+    let b = c .before .before .before .before in
+    let a = b .before .before .before in (
+      (
+        omega (arith, sums a .first .beside-le),
+        omega (arith, sums a .third .beside-le),
+        omega (arith, sums a .second .beside-le),
+      ),
+      (
+        omega (arith, b .before .before .apart .ensures .1, b .before .apart2 .ensures .1),
+        omega (arith, b .before .before .apart .ensures .1, b .apart3 .ensures .1),
+        omega (arith, b .before .apart2 .ensures .1, b .apart3 .ensures .1),
+      ),
+    )
 
 -- ---- the sums
 
 add-t18 : tie.Need-add-t18
 add-t18 c =
-    omega (
-      arith,
-      c .before .before .before .three-products3 .ensures .1,
-      c .before .before .before .before .before .before .before .before .before .all-lines .ensures .3,
-    )
+    let p = c .before in
+    omega (arith, beside p .three-products3 .ensures .1, all p .all-lines .ensures .3)
 
 mul-t20 : tie.Need-mul-t20
 mul-t20 c =
-    omega (
-      arith,
-      c .before .before .before .three-products3 .ensures .1,
-      c .before .before .before .before .before .before .before .before .before .all-lines .ensures .3,
-    )
+    let p = c .before in
+    omega (arith, beside p .three-products3 .ensures .1, all p .all-lines .ensures .3)
 
 add-t19 : tie.Need-add-t19
 add-t19 c =
-    omega (
-      arith,
-      c .before .before .before .before .before .three-products .ensures .1,
-      c .before .before .before .three-products3 .ensures .1,
-      c .before .before .before .before .before .before .before .before .before .all-lines .ensures .3,
-    )
+    let p = c .before in
+    omega (arith, squares p .three-products .ensures .1, beside p .three-products3 .ensures .1, all p .all-lines .ensures .3)
 
 sub-t21 : tie.Need-sub-t21
 sub-t21 c = omega (arith, pairs (c .before))
@@ -219,52 +267,55 @@ sub-t22 : tie.Need-sub-t22
 sub-t22 c = omega (arith, pairs (c .before))
 
 mul-t23 : tie.Need-mul-t23
-mul-t23 c = omega (arith, c .before .before .before .before .before .before .before .before .before .before .all-lines .ensures .2)
+mul-t23 c =
+    let p = c .before .before in
+    omega (arith, all p .all-lines .ensures .2)
 
 sub-t24 : tie.Need-sub-t24
 sub-t24 c = omega (arith, pairs (c .before .before))
 
 mul-t25 : tie.Need-mul-t25
-mul-t25 c = omega (arith, c .before .before .before .before .before .before .before .before .before .before .before .all-lines .ensures .3)
+mul-t25 c =
+    let p = c .before .before .before in
+    omega (arith, all p .all-lines .ensures .3)
 
 add-t26 : tie.Need-add-t26
 add-t26 c =
-    omega (
-      arith,
-      c .before .before .before .three-products5 .ensures .1,
-      c .before .before .before .before .before .before .before .before .before .before .before .all-lines .ensures .3,
-    )
+    let p = c .before .before .before in
+    omega (arith, p .three-products5 .ensures .1, all p .all-lines .ensures .3)
 
 sub-t27 : tie.Need-sub-t27
 sub-t27 c = omega (arith, hooks (c .before .before .before))
 
 add-t28 : tie.Need-add-t28
 add-t28 c =
-    let a = c .before .before .before .before .before .before .before .before .before .before .before .before .before in
-    omega (arith, x-le a, y-le a)
+    let p = c .before .before .before .before .before in
+    omega (arith, x-le (all p), y-le (all p))
 
 add-t29 : tie.Need-add-t29
 add-t29 c =
-    let a = c .before .before .before .before .before .before .before .before .before .before .before .before .before .before in
-    omega (arith, x-le a, y-le a, z-le a)
+    let p = c .before .before .before .before .before .before in
+    omega (arith, x-le (all p), y-le (all p), z-le (all p))
 
 mul-t30 : tie.Need-mul-t30
 mul-t30 c =
-    let a = c .before .before .before .before .before .before .before .before .before .before .before .before .before .before .before in
-    omega (arith, all-le a)
+    let p = c .before .before .before .before .before .before .before in
+    omega (arith, all-le (all p))
 
 mul-t31 : tie.Need-mul-t31
 mul-t31 c =
-    let a = c .before .before .before .before .before .before .before .before .before .before .before .before .before .before .before in
-    omega (arith, all-le a)
+    let p = c .before .before .before .before .before .before .before in
+    omega (arith, all-le (all p))
 
 sub-t32 : tie.Need-sub-t32
-sub-t32 c = omega (arith, hooks (c .before .before .before .before .before .before .before))
+sub-t32 c =
+    let p = c .before .before .before .before .before .before .before in
+    omega (arith, hooks p)
 
 returns : tie.Need-returns
 returns c =
-    let a = c .before .before .before .before .before .before .before in
-    (omega (arith, pairs a), omega (arith, hooks a))
+    let p = c .before .before .before .before .before .before .before in
+    (omega (arith, pairs p), omega (arith, hooks p))
 
 pub three-lines-spec : {M : Type 1} → statement M
 three-lines-spec =

@@ -39,23 +39,31 @@ x c = c .before .before .big .result
 abbrev y : tie.After-big2 Inv-loop μ-loop → ℕ
 y c = c .big2 .result
 
+-- .. at this place of the lines
+abbrev place : tie.After-big2 Inv-loop μ-loop → ℕ
+place c = c .before .before .before .before .before .loop .a
+
 first : (c : tie.After-big2 Inv-loop μ-loop)
-    → x c ≡ lineCell (start c .args .cells .now) (start c .args .at) (start c .args .step) (c .before .before .before .before .before .loop .a)
+    → x c ≡ lineCell (start c .args .cells .now) (start c .args .at) (start c .args .step) (place c)
 first c =
-    c .before .before .big .ensures .0
-    ∙ ap (λ (k : ℕ). word (start c .args .cells .now) k) (c .before .before .before .before .before .loop .inv .1)
+    let l = c .before .before .before .before .before .loop in
+    c .before .before .big .ensures .0 ∙ ap (λ (k : ℕ). word (start c .args .cells .now) k) (l .inv .1)
 
 second : (c : tie.After-big2 Inv-loop μ-loop)
-    → y c ≡ lineCell (start c .args .cells .now) (start c .args .to) (start c .args .step) (c .before .before .before .before .before .loop .a)
+    → y c ≡ lineCell (start c .args .cells .now) (start c .args .to) (start c .args .step) (place c)
 second c =
-    c .big2 .ensures .0
-    ∙ ap (λ (k : ℕ). word (start c .args .cells .now) k) (c .before .before .before .before .before .loop .inv .2)
+    let l = c .before .before .before .before .before .loop in
+    c .big2 .ensures .0 ∙ ap (λ (k : ℕ). word (start c .args .cells .now) k) (l .inv .2)
 
 first-le : (c : tie.After-big2 Inv-loop μ-loop) → x c ≤ 256
-first-le c = omega (arith, first c, start c .pre .0 .low (c .before .before .before .before .before .loop .a) (c .before .before .before .before .loop-test .taken))
+first-le c =
+    let t = c .before .before .before .before .loop-test in
+    omega (arith, first c, start c .pre .0 .low (place c) (t .taken))
 
 second-le : (c : tie.After-big2 Inv-loop μ-loop) → y c ≤ 256
-second-le c = omega (arith, second c, start c .pre .1 .low (c .before .before .before .before .before .loop .a) (c .before .before .before .before .loop-test .taken))
+second-le c =
+    let t = c .before .before .before .before .loop-test in
+    omega (arith, second c, start c .pre .1 .low (place c) (t .taken))
 
 -- the square, the product, ..
 square-low : (c : tie.After-big2 Inv-loop μ-loop) → x c * x c ≤ 65536
@@ -69,14 +77,26 @@ weighed-low : (c : tie.After-big2 Inv-loop μ-loop) → x c * y c * (x c + y c) 
 weighed-low c = product-le 65536 512 _ _ (product-low c) (omega (arith, first-le c, second-le c))
 
 -- how far the places have come
-stepped : (c : tie.After-big2 Inv-loop μ-loop) → c .before .before .before .before .before .loop .a * start c .args .step ≤ 65536
-stepped c = product-le 256 256 (c .before .before .before .before .before .loop .a) (start c .args .step)
-    (omega (arith, start c .pre .0 .few)) (start c .pre .0 .step-few)
+stepped : (c : tie.After-big2 Inv-loop μ-loop) → place c * start c .args .step ≤ 65536
+stepped c =
+    let p = start c .pre .0 in
+    product-le 256 256 (place c) (start c .args .step) (omega (arith, p .few)) (p .step-few)
 
 loop-holds : tie.Need-loop-holds Inv-loop μ-loop
 unfolding sum
-loop-holds c =
-    (omega arith, omega arith, omega arith, refl, refl, refl, refl, omega arith, omega arith, omega arith, omega arith)
+loop-holds c = (
+  omega arith,
+  omega arith,
+  omega arith,
+  refl,
+  refl,
+  refl,
+  refl,
+  omega arith,
+  omega arith,
+  omega arith,
+  omega arith,
+)
 
 mul-big : tie.Need-mul-big Inv-loop μ-loop
 mul-big c =
@@ -93,13 +113,15 @@ big-requires c κs = search needs
 
 mul-big-2 : tie.Need-mul-big-2 Inv-loop μ-loop
 mul-big-2 c =
-    let l = c .before .before .before .loop in
-    omega (arith, c .before .before .before .before .before .pre .1 .inside (l .a) (c .before .before .loop-test .taken))
+    let t = c .before .before in
+    let l = t .before .loop in
+    omega (arith, c .before .before .before .before .before .pre .1 .inside (l .a) (t .loop-test .taken))
 
 shared-slice-read-big-2 : tie.Need-shared-slice-read-big-2 Inv-loop μ-loop
 shared-slice-read-big-2 c =
-    let l = c .before .before .before .before .loop in
-    omega (arith, c .before .before .before .before .before .before .pre .1 .inside (l .a) (c .before .before .before .loop-test .taken))
+    let t = c .before .before .before in
+    let l = t .before .loop in
+    omega (arith, c .before .before .before .before .before .before .pre .1 .inside (l .a) (t .loop-test .taken))
 
 big-requires-2 : tie.Need-big-requires-2 Inv-loop μ-loop
 big-requires-2 c κs = search needs
