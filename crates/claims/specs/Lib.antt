@@ -22,6 +22,7 @@ pub mod ThreeLines
 pub mod BlockTerms
 pub mod NineCells
 pub mod NinePair
+pub mod InnerNodes
 pub mod PairLoops
 pub mod SumsOf
 pub mod LentSums

@@ -17,6 +17,7 @@ use Rattle.claims.specs.Block.{Block, blockCell}
 use Rattle.claims.specs.CodeCells.{Crossed, codeCell, ownCell, childCell}
 use Rattle.claims.specs.CodeLists.{CodeLists, nodePart, part-length, part-edge, edge-inside}
 use Rattle.claims.specs.CodesAt.{degreeAt}
+use Rattle.claims.specs.InnerNodes.{InnerNodes}
 use Rattle.claims.specs.NodeBlock.{NodeEdges, RowsFilled}
 use Rattle.claims.specs.NodeSums.{edgeInto, pairSumS2, pairSumS3}
 
@@ -139,6 +140,15 @@ few-row work w n rows qs l = (
   sum-none (length qs) _ (λ v' m. pairS2-few _ _ _ (inl (omega arith))),
   sum-none (length qs) _ (λ v' m. pairS3-few _ _ _ (inl (omega arith))),
 )
+
+-- .. so the nodes with three codes or more into them add it all
+module _ (work : List ℕ) (w n : ℕ) (rows qs inner : List ℕ) (count : ℕ)
+    (h : InnerNodes qs inner count (length qs)) where
+  pub inner-S2 : sum count (λ i. rowS2 work w n rows qs (word inner i)) ≡ sum (length qs) (rowS2 work w n rows qs)
+  inner-S2 = h .all (rowS2 work w n rows qs) (λ v l m. few-S2 _ _ _ m)
+
+  pub inner-S3 : sum count (λ i. rowS3 work w n rows qs (word inner i)) ≡ sum (length qs) (rowS3 work w n rows qs)
+  inner-S3 = h .all (rowS3 work w n rows qs) (λ v l m. few-S3 _ _ _ m)
 
 -- a cell depends on its two edges alone
 pub cell-same : (work : List ℕ) (w n : ℕ) (r r' c c' : ℕ → ℕ) (i j : ℕ) → r i ≡ r' i → c j ≡ c' j

@@ -2,6 +2,9 @@
 use super::words::wide;
 ghost use Rattle.claims.specs.CodesAt.{codesOf, Parents, Starts, EdgeList};
 ghost use Rattle.claims.specs.CodeCounts.{Counted};
+ghost use Rattle.claims.specs.InnerNodes.{InnerNodes};
+ghost use Prim.Native.Nat.{_≤_};
+ghost use lib.ListN.{length};
 
 // How many codes lead into each node: each edge has one into the node above it and one into its own.
 fn code_counts(parents: &[u16]) -> [usize; 512]
@@ -52,4 +55,22 @@ pub(crate) fn edge_list(parents: &[u16], starts: &[usize; 512]) -> [usize; 1024]
         i += 1;
     }
     list
+}
+
+// The nodes with three codes or more into them, listed from the front of `inner`. How many there are.
+pub(crate) fn inner_nodes(parents: &[u16], starts: &[usize], inner: &mut [usize]) -> usize
+    requires { ⌜ Parents (now parents) × Starts (now parents) (now starts) ⌝ }
+    requires { ⌜ length (now parents) ≤ length (now inner) ⌝ }
+    ensures { λ r. ⌜ InnerNodes (now (parents .entry)) (now (inner .exit)) r (length (now (parents .entry))) ⌝ }
+{
+    let mut count = 0;
+    let mut v = 0;
+    while v < parents.len() {
+        if starts[v + 1] - starts[v] >= 3 {
+            inner[count] = v;
+            count += 1;
+        }
+        v += 1;
+    }
+    count
 }

@@ -1,15 +1,17 @@
 // What all pairs of nodes add to twice S2 and to S3.
+use super::code_lists::inner_nodes;
 use super::node_pair::node_pair;
 use super::terms::PairTerms;
 ghost use mathlib.Core.Path.{_≡_};
-ghost use Prim.Native.Nat.{_-_};
+ghost use Prim.Native.Nat.{_-_, _≤_};
 ghost use lib.ListN.{length};
 ghost use Rattle.sums.specs.Sum.{sum};
 ghost use Rattle.claims.specs.Block.{Scratch};
+ghost use Rattle.claims.specs.InnerNodes.{InnerNodes};
 ghost use Rattle.claims.specs.PairLoops.{RowRoom, NodePairs, rowS2, rowS3, nodeS2, nodeS3};
 
-// A node of the first tree, given by its edges, with every node of the second. Fewer than three codes make no
-// claim.
+// A node of the first tree, given by its edges, with every node of the second: with the `count` nodes that `inner` begins
+// with. Fewer than three codes make no claim.
 fn node_row(
     work: &[u16],
     width: usize,
@@ -18,6 +20,8 @@ fn node_row(
     parents: &[u16],
     starts: &[usize],
     edges: &[usize],
+    inner: &[usize],
+    count: usize,
     block: &mut [u16],
     sums: &mut [u64],
     totals: &mut [u64],
@@ -27,6 +31,8 @@ fn node_row(
 ) -> PairTerms
     requires { ⌜ RowRoom (now work) width n (now rows) (now parents) (now starts) (now edges) (length (now block)) ⌝ }
     requires { ⌜ Scratch (now sums) (now totals) (now down) (now along) (now dots) ⌝ }
+    requires { ⌜ InnerNodes (now parents) (now inner) count (length (now parents))
+        × (count ≤ length (now inner)) ⌝ }
     ensures { λ r. ⌜
         (r .s2 ≡ sum (length (now (parents .entry)))
         (rowS2 (now (work .entry)) width n (now (rows .entry)) (now (parents .entry))))
@@ -39,8 +45,9 @@ fn node_row(
     }
     let mut s2: u64 = 0;
     let mut s3: u64 = 0;
-    let mut v = 0;
-    while v < parents.len() {
+    let mut i = 0;
+    while i < count {
+        let v = inner[i];
         let from = starts[v];
         let to = starts[v + 1];
         let pair = node_pair(
@@ -58,7 +65,7 @@ fn node_row(
         );
         s2 += pair.s2;
         s3 += pair.s3;
-        v += 1;
+        i += 1;
     }
     PairTerms { s2, s3 }
 }
@@ -84,6 +91,8 @@ pub(crate) fn pair_sums(
         ⌝ }
 {
     let width = others.len() - 1;
+    let mut inner = [0usize; 512];
+    let count = inner_nodes(others, begins, &mut inner);
     let mut block = [0u16; 65536];
     let mut sums = [0u64; 256];
     let mut totals = [0u64; 256];
@@ -104,6 +113,8 @@ pub(crate) fn pair_sums(
             others,
             begins,
             columns,
+            &inner,
+            count,
             &mut block,
             &mut sums,
             &mut totals,

@@ -1,20 +1,22 @@
--- The invariant: the pairs with the second tree's nodes before `v` are summed.
+-- The invariant: the pairs with the first `i` listed nodes of the second tree are summed.
 -- Assumes nothing.
-use Prim.Native.Nat.{_-_, _≤_}
+use Prim.Native.Nat.{ℕ, _-_, _≤_, _<_}
 use mathlib.Core.Path.{_≡_, refl, sym, _∙_}
 use native.Mathlib.Omega.{arith}
 use lib.ListN.{length}
+use Rattle.trees.specs.Table.{word}
 use Rattle.claims.specs.CodeLists.{part-inside}
 use Rattle.claims.specs.PairLoops.{Summed, summed-none, summed-next, summed-most, summed-all}
-use Rattle.claims.specs.PairLoops.{rowS2, rowS3, few-row, row-room, row-S2, row-S3}
+use Rattle.claims.specs.PairLoops.{rowS2, rowS3, few-row, inner-S2, inner-S3, row-room, row-S2, row-S3}
 use Rattle.claims.proofs.pair_sums.node_row.Statement.{statement}
 use Rattle.claims.proofs.pair_sums.node_row.Tie as tie
 
 abbrev Inv-loop : tie.InvT-loop
-Inv-loop work width n rows parents starts edges block₀ sums₀ totals₀ down₀ along₀ dots₀ s2₀ s3₀ v₀
-    block sums totals down along dots s2 s3 v =
-    (v ≤ length parents)
-    × Summed (rowS2 work width n rows parents) (rowS3 work width n rows parents) v s2 s3
+Inv-loop work width n rows parents starts edges inner count block₀ sums₀ totals₀ down₀ along₀ dots₀ s2₀ s3₀ i₀
+    block sums totals down along dots s2 s3 i =
+    (i ≤ count)
+    × Summed (λ k. rowS2 work width n rows parents (word inner k)) (λ k. rowS3 work width n rows parents (word inner k))
+    i s2 s3
     × (length block ≡ length block₀)
     × (length sums ≡ length sums₀)
     × (length totals ≡ length totals₀)
@@ -23,166 +25,181 @@ Inv-loop work width n rows parents starts edges block₀ sums₀ totals₀ down�
     × (length dots ≡ length dots₀)
 
 abbrev μ-loop : tie.MeasureT-loop
-μ-loop work width n rows parents starts edges block₀ sums₀ totals₀ down₀ along₀ dots₀ s2₀ s3₀ v₀
-    block sums totals down along dots s2 s3 v = length parents - v
+μ-loop work width n rows parents starts edges inner count block₀ sums₀ totals₀ down₀ along₀ dots₀ s2₀ s3₀ i₀
+    block sums totals down along dots s2 s3 i = count - i
 
 returns : tie.Need-returns Inv-loop μ-loop
 returns c =
-    let s = c .before .before .before .before .before .before .before .before .before .before .before .before in
-    let a = s .args in
+    let a = c .before .before .before .before .before .before .before .before .before .before .before .before .before .args in
     let q = few-row (a .work .now) (a .width) (a .n) (a .rows .now) (a .parents .now) (c .if1 .taken) in
     (sym (q .0), sym (q .1))
 
 loop-holds : tie.Need-loop-holds Inv-loop μ-loop
-loop-holds c =
-    (omega arith, summed-none _ _, refl, refl, refl, refl, refl, refl)
+loop-holds c = (omega arith, summed-none _ _, refl, refl, refl, refl, refl, refl)
+
+mul-v : tie.Need-mul-v Inv-loop μ-loop
+mul-v c =
+    let l = c in
+    let s = l .before .before .before .before .before .before .before .before .before .before .before .before .before .before .before in
+    let h = s .pre .0 .row (omega (arith, l .before .before .if1 .left)) in
+    omega (arith, h .lists .parents .few, s .pre .1 .1 .0 .few, l .loop-test .taken)
+
+shared-slice-read-v : tie.Need-shared-slice-read-v Inv-loop μ-loop
+shared-slice-read-v c =
+    let l = c .before in
+    let s = l .before .before .before .before .before .before .before .before .before .before .before .before .before .before .before in
+    omega (arith, s .pre .1 .1 .1, l .loop-test .taken)
 
 mul-from : tie.Need-mul-from Inv-loop μ-loop
 mul-from c =
-    let l = c in
-    let m = l .before .before in
-    let s = m .before .before .before .before .before .before .before .before .before .before .before .before in
-    let h = s .pre .0 .row (omega (arith, m .if1 .left)) in
-    omega (arith, h .lists .parents .few, l .loop-test .taken, h .lists .begins .long)
+    let l = c .before in
+    let s = l .before .before .before .before .before .before .before .before .before .before .before .before .before .before .before in
+    let h = s .pre .0 .row (omega (arith, l .before .before .if1 .left)) in
+    let v = s .pre .1 .1 .0 .before _ (l .loop-test .taken) in
+    omega (arith, h .lists .parents .few, v, h .lists .begins .long)
 
 shared-slice-read-from : tie.Need-shared-slice-read-from Inv-loop μ-loop
 shared-slice-read-from c =
-    let l = c .before in
-    let m = l .before .before in
-    let s = m .before .before .before .before .before .before .before .before .before .before .before .before in
-    let h = s .pre .0 .row (omega (arith, m .if1 .left)) in
-    omega (arith, h .lists .parents .few, l .loop-test .taken, h .lists .begins .long)
+    let l = c .before .before in
+    let s = l .before .before .before .before .before .before .before .before .before .before .before .before .before .before .before in
+    let h = s .pre .0 .row (omega (arith, l .before .before .if1 .left)) in
+    let v = s .pre .1 .1 .0 .before _ (l .loop-test .taken) in
+    omega (arith, h .lists .parents .few, v, h .lists .begins .long)
 
 add-to : tie.Need-add-to Inv-loop μ-loop
 add-to c =
-    let l = c .before in
-    let m = l .before .before in
-    let s = m .before .before .before .before .before .before .before .before .before .before .before .before in
-    let h = s .pre .0 .row (omega (arith, m .if1 .left)) in
-    omega (arith, h .lists .parents .few, l .loop-test .taken, h .lists .begins .long)
+    let l = c .before .before in
+    let s = l .before .before .before .before .before .before .before .before .before .before .before .before .before .before .before in
+    let h = s .pre .0 .row (omega (arith, l .before .before .if1 .left)) in
+    let v = s .pre .1 .1 .0 .before _ (l .loop-test .taken) in
+    omega (arith, h .lists .parents .few, v, h .lists .begins .long)
 
 mul-to : tie.Need-mul-to Inv-loop μ-loop
 mul-to c =
-    let l = c .before in
-    let m = l .before .before in
-    let s = m .before .before .before .before .before .before .before .before .before .before .before .before in
-    let h = s .pre .0 .row (omega (arith, m .if1 .left)) in
-    omega (arith, h .lists .parents .few, l .loop-test .taken, h .lists .begins .long)
+    let l = c .before .before in
+    let s = l .before .before .before .before .before .before .before .before .before .before .before .before .before .before .before in
+    let h = s .pre .0 .row (omega (arith, l .before .before .if1 .left)) in
+    let v = s .pre .1 .1 .0 .before _ (l .loop-test .taken) in
+    omega (arith, h .lists .parents .few, v, h .lists .begins .long)
 
 shared-slice-read-to : tie.Need-shared-slice-read-to Inv-loop μ-loop
 shared-slice-read-to c =
-    let l = c .before .before in
-    let m = l .before .before in
-    let s = m .before .before .before .before .before .before .before .before .before .before .before .before in
-    let h = s .pre .0 .row (omega (arith, m .if1 .left)) in
-    omega (arith, h .lists .parents .few, l .loop-test .taken, h .lists .begins .long)
+    let l = c .before .before .before in
+    let s = l .before .before .before .before .before .before .before .before .before .before .before .before .before .before .before in
+    let h = s .pre .0 .row (omega (arith, l .before .before .if1 .left)) in
+    let v = s .pre .1 .1 .0 .before _ (l .loop-test .taken) in
+    omega (arith, h .lists .parents .few, v, h .lists .begins .long)
 
 mul-node-pair : tie.Need-mul-node-pair Inv-loop μ-loop
 mul-node-pair c =
-    let l = c .before .before in
-    let m = l .before .before in
-    let s = m .before .before .before .before .before .before .before .before .before .before .before .before in
-    let h = s .pre .0 .row (omega (arith, m .if1 .left)) in
-    omega (arith, part-inside _ _ _ (h .lists) _ (l .loop-test .taken))
+    let l = c .before .before .before in
+    let s = l .before .before .before .before .before .before .before .before .before .before .before .before .before .before .before in
+    let h = s .pre .0 .row (omega (arith, l .before .before .if1 .left)) in
+    let v = s .pre .1 .1 .0 .before _ (l .loop-test .taken) in
+    omega (arith, part-inside _ _ _ (h .lists) _ v)
 
 sub-node-pair : tie.Need-sub-node-pair Inv-loop μ-loop
 sub-node-pair c =
-    let l = c .before .before in
-    let m = l .before .before in
-    let s = m .before .before .before .before .before .before .before .before .before .before .before .before in
-    let h = s .pre .0 .row (omega (arith, m .if1 .left)) in
-    part-inside _ _ _ (h .lists) _ (l .loop-test .taken) .0
+    let l = c .before .before .before in
+    let s = l .before .before .before .before .before .before .before .before .before .before .before .before .before .before .before in
+    let h = s .pre .0 .row (omega (arith, l .before .before .if1 .left)) in
+    let v = s .pre .1 .1 .0 .before _ (l .loop-test .taken) in
+    part-inside _ _ _ (h .lists) _ v .0
 
 part-node-pair-start : tie.Need-part-node-pair-start Inv-loop μ-loop
 part-node-pair-start c =
-    let l = c .before .before in
-    let m = l .before .before in
-    let s = m .before .before .before .before .before .before .before .before .before .before .before .before in
-    let h = s .pre .0 .row (omega (arith, m .if1 .left)) in
-    part-inside _ _ _ (h .lists) _ (l .loop-test .taken) .0
+    let l = c .before .before .before in
+    let s = l .before .before .before .before .before .before .before .before .before .before .before .before .before .before .before in
+    let h = s .pre .0 .row (omega (arith, l .before .before .if1 .left)) in
+    let v = s .pre .1 .1 .0 .before _ (l .loop-test .taken) in
+    part-inside _ _ _ (h .lists) _ v .0
 
 part-node-pair-end : tie.Need-part-node-pair-end Inv-loop μ-loop
 part-node-pair-end c =
-    let l = c .before .before in
-    let m = l .before .before in
-    let s = m .before .before .before .before .before .before .before .before .before .before .before .before in
-    let h = s .pre .0 .row (omega (arith, m .if1 .left)) in
-    part-inside _ _ _ (h .lists) _ (l .loop-test .taken) .1
+    let l = c .before .before .before in
+    let s = l .before .before .before .before .before .before .before .before .before .before .before .before .before .before .before in
+    let h = s .pre .0 .row (omega (arith, l .before .before .if1 .left)) in
+    let v = s .pre .1 .1 .0 .before _ (l .loop-test .taken) in
+    part-inside _ _ _ (h .lists) _ v .1
 
 node-pair-requires : tie.Need-node-pair-requires Inv-loop μ-loop
 node-pair-requires c κs =
-    let l = c .before .before .before .before .before .before .before .before .before in
-    let m = l .before .before in
-    let s = m .before .before .before .before .before .before .before .before .before .before .before .before in
-    let h = s .pre .0 .row (omega (arith, m .if1 .left)) in
+    let l = c .before .before .before .before .before .before .before .before .before .before in
+    let s = l .before .before .before .before .before .before .before .before .before .before .before .before .before .before .before in
+    let h = s .pre .0 .row (omega (arith, l .before .before .if1 .left)) in
+    let v = s .pre .1 .1 .0 .before _ (l .loop-test .taken) in
     let i = l .before .loop .inv in (
-      rw (i .2) (row-room _ _ _ _ _ _ _ _ h _ (l .loop-test .taken)),
+      rw (i .2) (row-room _ _ _ _ _ _ _ _ h _ v),
       record {
-        sums-long = omega (arith, i .3, s .pre .1 .sums-long);
-        totals-long = omega (arith, i .4, s .pre .1 .totals-long);
-        down-long = omega (arith, i .5, s .pre .1 .down-long);
-        along-long = omega (arith, i .6, s .pre .1 .along-long);
-        dots-long = omega (arith, i .7, s .pre .1 .dots-long);
+        sums-long = omega (arith, i .3, s .pre .1 .0 .sums-long);
+        totals-long = omega (arith, i .4, s .pre .1 .0 .totals-long);
+        down-long = omega (arith, i .5, s .pre .1 .0 .down-long);
+        along-long = omega (arith, i .6, s .pre .1 .0 .along-long);
+        dots-long = omega (arith, i .7, s .pre .1 .0 .dots-long);
       },
     )
 
 add-s2 : tie.Need-add-s2 Inv-loop μ-loop
 add-s2 c =
     let p = c .before .before .before .before .before .before .before .before .before .before .before .before .before in
-    let l = p .before .before .before .before .before .before .before .before .before .before in
-    let m = l .before .before in
-    let s = m .before .before .before .before .before .before .before .before .before .before .before .before in
-    let h = s .pre .0 .row (omega (arith, m .if1 .left)) in
+    let l = p .before .before .before .before .before .before .before .before .before .before .before in
+    let s = l .before .before .before .before .before .before .before .before .before .before .before .before .before .before .before in
+    let h = s .pre .0 .row (omega (arith, l .before .before .if1 .left)) in
+    let v = s .pre .1 .1 .0 .before _ (l .loop-test .taken) in
     let q = summed-next _ _ _ _ _ (l .before .loop .inv .1) _ _
-    (row-S2 _ _ _ _ _ _ _ _ h _ (l .loop-test .taken) _ (p .node-pair .ensures .0))
-    (row-S3 _ _ _ _ _ _ _ _ h _ (l .loop-test .taken) _ (p .node-pair .ensures .1)) in
-    omega (arith, summed-most _ _ _ _ _ q _ 699170560 (omega (arith, l .loop-test .taken)) (h .all-S2) (h .all-S3))
+    (row-S2 _ _ _ _ _ _ _ _ h _ v _ (p .node-pair .ensures .0))
+    (row-S3 _ _ _ _ _ _ _ _ h _ v _ (p .node-pair .ensures .1)) in
+    let a = s .args in
+    let n = s .pre .1 .1 .0 in
+    omega (
+      arith,
+      summed-most _ _ _ _ _ q (a .count) 699170560 (omega (arith, l .loop-test .taken))
+          (omega (arith, inner-S2 (a .work .now) (a .width) (a .n) (a .rows .now) _ _ _ n, h .all-S2))
+          (omega (arith, inner-S3 (a .work .now) (a .width) (a .n) (a .rows .now) _ _ _ n, h .all-S3)),
+    )
 
 add-s3 : tie.Need-add-s3 Inv-loop μ-loop
 add-s3 c =
-    let z = c .before .before .before .before .before .before .before in
-    let p = z .before .before .before .before .before .before .before in
-    let l = p .before .before .before .before .before .before .before .before .before .before in
-    let m = l .before .before in
-    let s = m .before .before .before .before .before .before .before .before .before .before .before .before in
-    let h = s .pre .0 .row (omega (arith, m .if1 .left)) in
+    let p = c .before .before .before .before .before .before .before .before .before .before .before .before .before .before in
+    let l = p .before .before .before .before .before .before .before .before .before .before .before in
+    let s = l .before .before .before .before .before .before .before .before .before .before .before .before .before .before .before in
+    let h = s .pre .0 .row (omega (arith, l .before .before .if1 .left)) in
+    let v = s .pre .1 .1 .0 .before _ (l .loop-test .taken) in
     let q = summed-next _ _ _ _ _ (l .before .loop .inv .1) _ _
-    (row-S2 _ _ _ _ _ _ _ _ h _ (l .loop-test .taken) _ (p .node-pair .ensures .0))
-    (row-S3 _ _ _ _ _ _ _ _ h _ (l .loop-test .taken) _ (p .node-pair .ensures .1)) in
-    omega (arith, summed-most _ _ _ _ _ q _ 699170560 (omega (arith, l .loop-test .taken)) (h .all-S2) (h .all-S3))
+    (row-S2 _ _ _ _ _ _ _ _ h _ v _ (p .node-pair .ensures .0))
+    (row-S3 _ _ _ _ _ _ _ _ h _ v _ (p .node-pair .ensures .1)) in
+    let a = s .args in
+    let n = s .pre .1 .1 .0 in
+    omega (
+      arith,
+      summed-most _ _ _ _ _ q (a .count) 699170560 (omega (arith, l .loop-test .taken))
+          (omega (arith, inner-S2 (a .work .now) (a .width) (a .n) (a .rows .now) _ _ _ n, h .all-S2))
+          (omega (arith, inner-S3 (a .work .now) (a .width) (a .n) (a .rows .now) _ _ _ n, h .all-S3)),
+    )
 
-add-v : tie.Need-add-v Inv-loop μ-loop
-add-v c =
-    let z = c .before .before .before .before .before .before .before in
-    let p = z .before .before .before .before .before .before .before in
-    let l = p .before .before .before .before .before .before .before .before .before .before in
-    let m = l .before .before in
-    let s = m .before .before .before .before .before .before .before .before .before .before .before .before in
-    let h = s .pre .0 .row (omega (arith, m .if1 .left)) in
-    omega (arith, h .lists .parents .few, l .loop-test .taken)
+add-i : tie.Need-add-i Inv-loop μ-loop
+add-i c =
+    let l = c .before .before .before .before .before .before .before .before .before .before .before .before .before .before .before .before .before .before .before .before .before .before .before .before .before in
+    let s = l .before .before .before .before .before .before .before .before .before .before .before .before .before .before .before in
+    let h = s .pre .0 .row (omega (arith, l .before .before .if1 .left)) in
+    omega (arith, h .lists .parents .few, s .pre .1 .1 .0 .few, l .loop-test .taken)
 
 loop-less : tie.Need-loop-less Inv-loop μ-loop
 loop-less c =
-    let z = c .before .before .before .before .before .before .before in
-    let p = z .before .before .before .before .before .before .before in
-    let l = p .before .before .before .before .before .before .before .before .before .before in
-    let m = l .before .before in
-    let s = m .before .before .before .before .before .before .before .before .before .before .before .before in
-    let h = s .pre .0 .row (omega (arith, m .if1 .left)) in
+    let l = c .before .before .before .before .before .before .before .before .before .before .before .before .before .before .before .before .before .before .before .before .before .before .before .before .before in
     omega (arith, l .loop-test .taken)
 
 loop-again : tie.Need-loop-again Inv-loop μ-loop
 loop-again c =
-    let z = c .before .before .before .before .before .before .before in
-    let p = z .before .before .before .before .before .before .before in
-    let l = p .before .before .before .before .before .before .before .before .before .before in
-    let m = l .before .before in
-    let s = m .before .before .before .before .before .before .before .before .before .before .before .before in
-    let h = s .pre .0 .row (omega (arith, m .if1 .left)) in
-    let i = l .before .loop .inv in
+    let p = c .before .before .before .before .before .before .before .before .before .before .before .before .before .before in
+    let l = p .before .before .before .before .before .before .before .before .before .before .before in
+    let s = l .before .before .before .before .before .before .before .before .before .before .before .before .before .before .before in
+    let h = s .pre .0 .row (omega (arith, l .before .before .if1 .left)) in
+    let v = s .pre .1 .1 .0 .before _ (l .loop-test .taken) in
     let q = summed-next _ _ _ _ _ (l .before .loop .inv .1) _ _
-    (row-S2 _ _ _ _ _ _ _ _ h _ (l .loop-test .taken) _ (p .node-pair .ensures .0))
-    (row-S3 _ _ _ _ _ _ _ _ h _ (l .loop-test .taken) _ (p .node-pair .ensures .1)) in (
+    (row-S2 _ _ _ _ _ _ _ _ h _ v _ (p .node-pair .ensures .0))
+    (row-S3 _ _ _ _ _ _ _ _ h _ v _ (p .node-pair .ensures .1)) in
+    let i = l .before .loop .inv in (
       omega (arith, l .loop-test .taken),
       q,
       p .node-pair .kept .1 .1 .1 .1 .1 .0 ∙ i .2,
@@ -214,7 +231,11 @@ same-length-6 c = c .before .loop .inv .7
 returns-2 : tie.Need-returns-2 Inv-loop μ-loop
 returns-2 c =
     let i = c .before .loop .inv in
-    summed-all _ _ _ _ _ (i .1) _ (i .0) (omega (arith, c .loop-test .left))
+    let s = c .before .before .before .before .before .before .before .before .before .before .before .before .before .before .before in
+    let a = s .args in
+    let n = s .pre .1 .1 .0 in
+    let q = summed-all _ _ _ _ _ (i .1) _ (i .0) (omega (arith, c .loop-test .left)) in
+    (q .0 ∙ inner-S2 (a .work .now) (a .width) (a .n) (a .rows .now) _ _ _ n, q .1 ∙ inner-S3 (a .work .now) (a .width) (a .n) (a .rows .now) _ _ _ n)
 
 pub node-row-spec : {M : Type 1} → statement M
 node-row-spec =
@@ -224,6 +245,8 @@ node-row-spec =
     μ-loop
     returns
     loop-holds
+    mul-v
+    shared-slice-read-v
     mul-from
     shared-slice-read-from
     add-to
@@ -236,7 +259,7 @@ node-row-spec =
     node-pair-requires
     add-s2
     add-s3
-    add-v
+    add-i
     loop-less
     loop-again
     same-length

@@ -11,8 +11,8 @@ use Rattle.claims.proofs.pair_sums.pair_sums.Statement.{statement}
 use Rattle.claims.proofs.pair_sums.pair_sums.Tie as tie
 
 abbrev Inv-loop : tie.InvT-loop
-Inv-loop work n parents starts edges others begins columns width block₀ sums₀ totals₀ down₀ along₀ dots₀ s2₀ s3₀ v₀
-    block sums totals down along dots s2 s3 v =
+Inv-loop work n parents starts edges others begins columns width inner count
+    block₀ sums₀ totals₀ down₀ along₀ dots₀ s2₀ s3₀ v₀ block sums totals down along dots s2 s3 v =
     (v ≤ length parents)
     × Summed (nodeS2 work (length others - 1) n parents others) (nodeS3 work (length others - 1) n parents others)
     v s2 s3
@@ -24,143 +24,139 @@ Inv-loop work n parents starts edges others begins columns width block₀ sums�
     × (length dots ≡ 256)
 
 abbrev μ-loop : tie.MeasureT-loop
-μ-loop work n parents starts edges others begins columns width block₀ sums₀ totals₀ down₀ along₀ dots₀ s2₀ s3₀ v₀
-    block sums totals down along dots s2 s3 v = length parents - v
+μ-loop work n parents starts edges others begins columns width inner count
+    block₀ sums₀ totals₀ down₀ along₀ dots₀ s2₀ s3₀ v₀ block sums totals down along dots s2 s3 v = length parents - v
 
 sub-width : tie.Need-sub-width Inv-loop μ-loop
-sub-width c =
-    let s = c .before .before .before .before .before .before .before in omega (arith, s .pre .second .parents .some)
+sub-width c = omega (arith, c .before .before .before .before .before .before .before .pre .second .parents .some)
+
+slice-aggregate-inner-nodes : tie.Need-slice-aggregate-inner-nodes Inv-loop μ-loop
+slice-aggregate-inner-nodes c = refl
+
+inner-nodes-requires : tie.Need-inner-nodes-requires Inv-loop μ-loop
+inner-nodes-requires c κs =
+    let h = c .before .before .before .before .before .before .before .before .pre .second in
+    ((h .parents, h .begins), omega (arith, h .parents .few))
 
 loop-holds : tie.Need-loop-holds Inv-loop μ-loop
-loop-holds c =
-    (omega arith, summed-none _ _, length-replicate {A = ℕ} 65536 0, refl, refl, refl, refl, refl)
+loop-holds c = (omega arith, summed-none _ _, length-replicate {A = ℕ} 65536 0, refl, refl, refl, refl, refl)
 
 mul-from : tie.Need-mul-from Inv-loop μ-loop
 mul-from c =
     let l = c in
-    let m = l .before .before in
-    let s = m .before .before .before .before .before .before .before in
-    let h = s .pre in
+    let h = l .before .before .before .before .before .before .before .before .before .before .before .before .pre in
     omega (arith, h .first .parents .few, l .loop-test .taken, h .first .begins .long)
 
 shared-slice-read-from : tie.Need-shared-slice-read-from Inv-loop μ-loop
 shared-slice-read-from c =
     let l = c .before in
-    let m = l .before .before in
-    let s = m .before .before .before .before .before .before .before in
-    let h = s .pre in
+    let h = l .before .before .before .before .before .before .before .before .before .before .before .before .pre in
     omega (arith, h .first .parents .few, l .loop-test .taken, h .first .begins .long)
 
 add-to : tie.Need-add-to Inv-loop μ-loop
 add-to c =
     let l = c .before in
-    let m = l .before .before in
-    let s = m .before .before .before .before .before .before .before in
-    let h = s .pre in
+    let h = l .before .before .before .before .before .before .before .before .before .before .before .before .pre in
     omega (arith, h .first .parents .few, l .loop-test .taken, h .first .begins .long)
 
 mul-to : tie.Need-mul-to Inv-loop μ-loop
 mul-to c =
     let l = c .before in
-    let m = l .before .before in
-    let s = m .before .before .before .before .before .before .before in
-    let h = s .pre in
+    let h = l .before .before .before .before .before .before .before .before .before .before .before .before .pre in
     omega (arith, h .first .parents .few, l .loop-test .taken, h .first .begins .long)
 
 shared-slice-read-to : tie.Need-shared-slice-read-to Inv-loop μ-loop
 shared-slice-read-to c =
     let l = c .before .before in
-    let m = l .before .before in
-    let s = m .before .before .before .before .before .before .before in
-    let h = s .pre in
+    let h = l .before .before .before .before .before .before .before .before .before .before .before .before .pre in
     omega (arith, h .first .parents .few, l .loop-test .taken, h .first .begins .long)
 
 mul-node-row : tie.Need-mul-node-row Inv-loop μ-loop
 mul-node-row c =
     let l = c .before .before in
-    let m = l .before .before in
-    let s = m .before .before .before .before .before .before .before in
-    let h = s .pre in
+    let h = l .before .before .before .before .before .before .before .before .before .before .before .before .pre in
     omega (arith, part-inside _ _ _ (h .first) _ (l .loop-test .taken))
 
 sub-node-row : tie.Need-sub-node-row Inv-loop μ-loop
 sub-node-row c =
     let l = c .before .before in
-    let m = l .before .before in
-    let s = m .before .before .before .before .before .before .before in
-    let h = s .pre in
+    let h = l .before .before .before .before .before .before .before .before .before .before .before .before .pre in
     part-inside _ _ _ (h .first) _ (l .loop-test .taken) .0
 
 part-node-row-start : tie.Need-part-node-row-start Inv-loop μ-loop
 part-node-row-start c =
     let l = c .before .before in
-    let m = l .before .before in
-    let s = m .before .before .before .before .before .before .before in
-    let h = s .pre in
+    let h = l .before .before .before .before .before .before .before .before .before .before .before .before .pre in
     part-inside _ _ _ (h .first) _ (l .loop-test .taken) .0
 
 part-node-row-end : tie.Need-part-node-row-end Inv-loop μ-loop
 part-node-row-end c =
     let l = c .before .before in
-    let m = l .before .before in
-    let s = m .before .before .before .before .before .before .before in
-    let h = s .pre in
+    let h = l .before .before .before .before .before .before .before .before .before .before .before .before .pre in
     part-inside _ _ _ (h .first) _ (l .loop-test .taken) .1
 
 slice-aggregate-node-row : tie.Need-slice-aggregate-node-row Inv-loop μ-loop
 slice-aggregate-node-row c =
-    let l = c .before .before .before .before in
-    sym (l .before .loop .inv .2)
+    let i = c .before .before .before .before .before .before .before in
+    sym (i .inner-nodes .kept .1 .1 .0)
 
 slice-aggregate-node-row-2 : tie.Need-slice-aggregate-node-row-2 Inv-loop μ-loop
 slice-aggregate-node-row-2 c =
     let l = c .before .before .before .before .before in
-    sym (l .before .loop .inv .3)
+    sym (l .before .loop .inv .2)
 
 slice-aggregate-node-row-3 : tie.Need-slice-aggregate-node-row-3 Inv-loop μ-loop
 slice-aggregate-node-row-3 c =
     let l = c .before .before .before .before .before .before in
-    sym (l .before .loop .inv .4)
+    sym (l .before .loop .inv .3)
 
 slice-aggregate-node-row-4 : tie.Need-slice-aggregate-node-row-4 Inv-loop μ-loop
 slice-aggregate-node-row-4 c =
     let l = c .before .before .before .before .before .before .before in
-    sym (l .before .loop .inv .5)
+    sym (l .before .loop .inv .4)
 
 slice-aggregate-node-row-5 : tie.Need-slice-aggregate-node-row-5 Inv-loop μ-loop
 slice-aggregate-node-row-5 c =
     let l = c .before .before .before .before .before .before .before .before in
-    sym (l .before .loop .inv .6)
+    sym (l .before .loop .inv .5)
 
 slice-aggregate-node-row-6 : tie.Need-slice-aggregate-node-row-6 Inv-loop μ-loop
 slice-aggregate-node-row-6 c =
     let l = c .before .before .before .before .before .before .before .before .before in
+    sym (l .before .loop .inv .6)
+
+slice-aggregate-node-row-7 : tie.Need-slice-aggregate-node-row-7 Inv-loop μ-loop
+slice-aggregate-node-row-7 c =
+    let l = c .before .before .before .before .before .before .before .before .before .before in
     sym (l .before .loop .inv .7)
 
 node-row-requires : tie.Need-node-row-requires Inv-loop μ-loop
 node-row-requires c κs =
-    let l = c .before .before .before .before .before .before .before .before .before in
-    let m = l .before .before in
-    let s = m .before .before .before .before .before .before .before in
-    let h = s .pre in
+    let l = c .before .before .before .before .before .before .before .before .before .before in
+    let n = l .before .before .before in
+    let h = n .before .before .before .before .before .before .before .before .before .pre in
     let i = l .before .loop .inv in (
       node-room _ _ _ _ _ _ _ _ _ h _ (l .loop-test .taken) _ (omega (arith, i .2)),
-      record {
-        sums-long = omega (arith, i .3);
-        totals-long = omega (arith, i .4);
-        down-long = omega (arith, i .5);
-        along-long = omega (arith, i .6);
-        dots-long = omega (arith, i .7);
-      },
+      (
+        record {
+          sums-long = omega (arith, i .3);
+          totals-long = omega (arith, i .4);
+          down-long = omega (arith, i .5);
+          along-long = omega (arith, i .6);
+          dots-long = omega (arith, i .7);
+        },
+        (
+          n .inner-nodes .ensures,
+          omega (arith, n .inner-nodes .ensures .few, h .second .parents .few, n .inner-nodes .kept .1 .1 .0),
+        ),
+      ),
     )
 
 add-s2 : tie.Need-add-s2 Inv-loop μ-loop
 add-s2 c =
     let p = c .before .before .before .before .before .before .before in
-    let l = p .before .before .before .before .before .before .before .before .before .before in
-    let m = l .before .before in
-    let s = m .before .before .before .before .before .before .before in
-    let h = s .pre in
+    let l = p .before .before .before .before .before .before .before .before .before .before .before in
+    let h = l .before .before .before .before .before .before .before .before .before .before .before .before .pre in
     let q = summed-next _ _ _ _ _ (l .before .loop .inv .1) _ _
     (node-S2 _ _ _ _ _ _ _ _ _ h _ (l .loop-test .taken) _ (p .node-row .ensures .0))
     (node-S3 _ _ _ _ _ _ _ _ _ h _ (l .loop-test .taken) _ (p .node-row .ensures .1)) in
@@ -169,10 +165,8 @@ add-s2 c =
 add-s3 : tie.Need-add-s3 Inv-loop μ-loop
 add-s3 c =
     let p = c .before .before .before .before .before .before .before .before in
-    let l = p .before .before .before .before .before .before .before .before .before .before in
-    let m = l .before .before in
-    let s = m .before .before .before .before .before .before .before in
-    let h = s .pre in
+    let l = p .before .before .before .before .before .before .before .before .before .before .before in
+    let h = l .before .before .before .before .before .before .before .before .before .before .before .before .pre in
     let q = summed-next _ _ _ _ _ (l .before .loop .inv .1) _ _
     (node-S2 _ _ _ _ _ _ _ _ _ h _ (l .loop-test .taken) _ (p .node-row .ensures .0))
     (node-S3 _ _ _ _ _ _ _ _ _ h _ (l .loop-test .taken) _ (p .node-row .ensures .1)) in
@@ -181,40 +175,32 @@ add-s3 c =
 add-v : tie.Need-add-v Inv-loop μ-loop
 add-v c =
     let p = c .before .before .before .before .before .before .before .before in
-    let l = p .before .before .before .before .before .before .before .before .before .before in
-    let m = l .before .before in
-    let s = m .before .before .before .before .before .before .before in
-    let h = s .pre in
+    let l = p .before .before .before .before .before .before .before .before .before .before .before in
+    let h = l .before .before .before .before .before .before .before .before .before .before .before .before .pre in
     omega (arith, h .first .parents .few, l .loop-test .taken)
 
 loop-less : tie.Need-loop-less Inv-loop μ-loop
 loop-less c =
-    let p = c .before .before .before .before .before .before .before .before in
-    let l = p .before .before .before .before .before .before .before .before .before .before in
-    let m = l .before .before in
-    let s = m .before .before .before .before .before .before .before in
-    let h = s .pre in
+    let l = c .before .before .before .before .before .before .before .before .before .before .before .before .before .before .before .before .before .before .before in
     omega (arith, l .loop-test .taken)
 
 loop-again : tie.Need-loop-again Inv-loop μ-loop
 loop-again c =
     let p = c .before .before .before .before .before .before .before .before in
-    let l = p .before .before .before .before .before .before .before .before .before .before in
-    let m = l .before .before in
-    let s = m .before .before .before .before .before .before .before in
-    let h = s .pre in
-    let i = l .before .loop .inv in
+    let l = p .before .before .before .before .before .before .before .before .before .before .before in
+    let h = l .before .before .before .before .before .before .before .before .before .before .before .before .pre in
     let q = summed-next _ _ _ _ _ (l .before .loop .inv .1) _ _
     (node-S2 _ _ _ _ _ _ _ _ _ h _ (l .loop-test .taken) _ (p .node-row .ensures .0))
-    (node-S3 _ _ _ _ _ _ _ _ _ h _ (l .loop-test .taken) _ (p .node-row .ensures .1)) in (
+    (node-S3 _ _ _ _ _ _ _ _ _ h _ (l .loop-test .taken) _ (p .node-row .ensures .1)) in
+    let i = l .before .loop .inv in (
       omega (arith, l .loop-test .taken),
       q,
-      p .node-row .kept .1 .1 .1 .1 .1 .1 .1 .0 ∙ i .2,
-      p .node-row .kept .1 .1 .1 .1 .1 .1 .1 .1 .0 ∙ i .3,
-      p .node-row .kept .1 .1 .1 .1 .1 .1 .1 .1 .1 .0 ∙ i .4,
-      p .node-row .kept .1 .1 .1 .1 .1 .1 .1 .1 .1 .1 .0 ∙ i .5,
-      p .node-row .kept .1 .1 .1 .1 .1 .1 .1 .1 .1 .1 .1 .0 ∙ i .6,
-      p .node-row .kept .1 .1 .1 .1 .1 .1 .1 .1 .1 .1 .1 .1 .0 ∙ i .7,
+      p .node-row .kept .1 .1 .1 .1 .1 .1 .1 .1 .1 .0 ∙ i .2,
+      p .node-row .kept .1 .1 .1 .1 .1 .1 .1 .1 .1 .1 .0 ∙ i .3,
+      p .node-row .kept .1 .1 .1 .1 .1 .1 .1 .1 .1 .1 .1 .0 ∙ i .4,
+      p .node-row .kept .1 .1 .1 .1 .1 .1 .1 .1 .1 .1 .1 .1 .0 ∙ i .5,
+      p .node-row .kept .1 .1 .1 .1 .1 .1 .1 .1 .1 .1 .1 .1 .1 .0 ∙ i .6,
+      p .node-row .kept .1 .1 .1 .1 .1 .1 .1 .1 .1 .1 .1 .1 .1 .1 .0 ∙ i .7,
     )
 
 returns : tie.Need-returns Inv-loop μ-loop
@@ -229,6 +215,8 @@ pair-sums-spec =
     Inv-loop
     μ-loop
     sub-width
+    slice-aggregate-inner-nodes
+    inner-nodes-requires
     loop-holds
     mul-from
     shared-slice-read-from
@@ -245,6 +233,7 @@ pair-sums-spec =
     slice-aggregate-node-row-4
     slice-aggregate-node-row-5
     slice-aggregate-node-row-6
+    slice-aggregate-node-row-7
     node-row-requires
     add-s2
     add-s3
