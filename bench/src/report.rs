@@ -84,8 +84,8 @@ Written by this command, together with `scaling.svg`, after `rt staticlib capi`:
 Machine: {processor}.
 
 Each line is one pair of trees with n tips, labelled and numbered at random from a fixed seed. All four methods agree on
-all five cases of the pair before they are timed. A time is the median of several batches of calls, taken in turns
-within one run, in microseconds; what else the machine does falls on all of them, so the ratios say more than the times.
+all five cases of the pair before they are timed. A time is that of the fastest of several batches of calls, taken in turns
+within one run, in microseconds: what else the machine does only adds to a time.
 
 - *this library*: `leskwyn_quartet_table`, with the check of both tables and the crossings in the lent work.
 - *straight Rust*: the same algorithm in plain Rust with 64-bit sums (`bench/src/straight.rs`), compiled by `rustc` with

@@ -39,7 +39,7 @@ pub const PAIRINGS: [Pairing; 12] = [
 /// The methods, in the order of the columns.
 pub const METHODS: [&str; 4] = ["this library", "straight Rust", "O(n²d²)", "O(n³)"];
 
-/// The medians of one pairing, in microseconds, one for each method.
+/// The times of one pairing, in microseconds, one for each method.
 pub struct Measured {
     pub name: &'static str,
     pub tips: usize,
@@ -49,7 +49,8 @@ pub struct Measured {
 /// A batch of calls takes at least this long, so that the clock is fine enough.
 const BATCH: Duration = Duration::from_millis(2);
 
-/// Batches of each method, of which the median is taken; fewer where a single call is slow.
+/// Batches of each method, of which the fastest is taken: what else the machine does only adds to a time. Fewer where a
+/// single call is slow.
 const ROUNDS: usize = 25;
 const SLOW_ROUNDS: usize = 5;
 const SLOW: Duration = Duration::from_millis(20);
@@ -78,9 +79,8 @@ fn batch(method: &mut Method, calls: u32) -> Duration {
     start.elapsed() / calls
 }
 
-fn median(mut times: Vec<Duration>) -> f64 {
-    times.sort();
-    times[times.len() / 2].as_secs_f64() * 1e6
+fn fastest(times: Vec<Duration>) -> f64 {
+    times.into_iter().min().expect("a batch").as_secs_f64() * 1e6
 }
 
 /// One pair of trees, its methods, and their batches so far.
@@ -123,6 +123,6 @@ pub fn measure(pairing: &Pairing) -> Vec<Measured> {
     for round in 0..ROUNDS {
         courses.iter_mut().for_each(|course| course.round(round));
     }
-    let medians = courses.map(|course| course.times.map(median));
-    TIPS.into_iter().zip(medians).map(|(tips, micros)| Measured { name: pairing.name, tips, micros }).collect()
+    let least = courses.map(|course| course.times.map(fastest));
+    TIPS.into_iter().zip(least).map(|(tips, micros)| Measured { name: pairing.name, tips, micros }).collect()
 }
