@@ -14,8 +14,18 @@ use Rattle.tree_pairs.specs.PairOrder.{IsPair, pairOrder, pair-check}
 use Rattle.tree_pairs.specs.Crossings.{crossed, afterCrossings}
 use Rattle.tree_pairs.specs.Filling.{PairArrays}
 
+-- the first word is the number of tips, ..
+pub lent-tips : (t : Table) (n : ℕ) → n ≡ word t 0 → n ≡ tips t
+unfolding tips
+lent-tips t n e = e
+
+-- .. the second that of nodes
+pub lent-nodes : (t : Table) (m : ℕ) → m ≡ word t 1 → m ≡ nodes t
+unfolding nodes
+lent-nodes t m e = e
+
 -- the parents `&t[2..2 + m]`
-abbrev lentParents : Table → ℕ → List ℕ
+abbrev pub lentParents : Table → ℕ → List ℕ
 lentParents t m = take (2 + m - 2) (drop 2 t)
 
 -- the labels `&t[2 + m..]`
@@ -24,20 +34,8 @@ lentLabels t m = rest (2 + m) t
 
 module _ (t u : Table) (work : List ℕ) (h : IsPair t u (length work)) (n m k : ℕ)
     (en : n ≡ word t 0) (em : m ≡ word t 1) (ek : k ≡ word u 1) where
-  n-is : n ≡ tips t
-  unfolding tips
-  n-is = en
-
-  m-is : m ≡ nodes t
-  unfolding nodes
-  m-is = em
-
-  k-is : k ≡ nodes u
-  unfolding nodes
-  k-is = ek
-
   pub lent-lengths : (length t ≡ 2 + 2 * m) × (length u ≡ 2 + 2 * k)
-  lent-lengths = (omega (arith, h .first .words, m-is), omega (arith, h .second .words, k-is))
+  lent-lengths = (omega (arith, h .first .words, lent-nodes t m em), omega (arith, h .second .words, lent-nodes u k ek))
 
   own-arrays : PairArrays (tips u) (parents t) (labels t) (parents u) (labels u) work
   own-arrays = record {
@@ -49,18 +47,18 @@ module _ (t u : Table) (work : List ℕ) (h : IsPair t u (length work)) (n m k :
   pub lent-arrays : PairArrays n (lentParents t m) (lentLabels t m) (lentParents u k) (lentLabels u k) work
   lent-arrays =
       to-parts (λ x ps ls. PairArrays x ps ls (lentParents u k) (lentLabels u k) work)
-      t n m (h .first .words) n-is m-is
+      t n m (h .first .words) (lent-tips t n en) (lent-nodes t m em)
       (to-parts (λ x qs ms. PairArrays x (parents t) (labels t) qs ms work)
-      u (tips t) k (h .second .words) (h .same-tips) k-is own-arrays)
+      u (tips t) k (h .second .words) (h .same-tips) (lent-nodes u k ek) own-arrays)
 
   pub lent-crossed : (new : List ℕ)
       → new ≡ crossed (tableOf n (lentParents t m) (lentLabels t m)) (tableOf n (lentParents u k) (lentLabels u k)) work
       → new ≡ crossed t u work
   lent-crossed new e =
       of-parts (λ x qs ms. new ≡ crossed (tableOf (tips t) (parents t) (labels t)) (tableOf x qs ms) work)
-      u (tips t) k (h .second .words) (h .same-tips) k-is
+      u (tips t) k (h .second .words) (h .same-tips) (lent-nodes u k ek)
       (of-parts (λ x ps ls. new ≡ crossed (tableOf x ps ls) (tableOf x (lentParents u k) (lentLabels u k)) work)
-      t n m (h .first .words) n-is m-is e)
+      t n m (h .first .words) (lent-tips t n en) (lent-nodes t m em) e)
       ∙ ap₂ (λ (x y : Table). crossed x y work)
       (table-of-parts t (h .first .words)) (table-of-parts u (h .second .words))
 

@@ -15,6 +15,7 @@ use Rattle.trees.specs.IsTree.{IsTree}
 use Rattle.tree_pairs.specs.declared.counts.SplitCounts.{SplitCounts}
 use Rattle.tree_pairs.specs.PairOrder.{IsPair, pairOrder, cellsNeeded}
 use Rattle.tree_pairs.specs.Crossings.{crossed, inOrder, cellOf, in-order-length}
+use Rattle.tree_pairs.specs.LentTables.{lent-tips, lent-nodes}
 use Rattle.tree_pairs.specs.SplitCells.{rowSplits, columnSplits, commonRows}
 use Rattle.tree_pairs.specs.SplitCells.{row-splits, column-splits, common-rows}
 use Rattle.tree_pairs.specs.SplitLoops.{SplitRoom}
@@ -103,16 +104,13 @@ first-words t g =
 module _ (t u : Table) (work : List ℕ) (h : IsPair t u (length work)) (n m k : ℕ)
     (en : n ≡ word t 0) (em : m ≡ word t 1) (ek : k ≡ word u 1) where
   n-is : n ≡ tips t
-  unfolding tips
-  n-is = en
+  n-is = lent-tips t n en
 
   m-is : m ≡ nodes t
-  unfolding nodes
-  m-is = em
+  m-is = lent-nodes t m em
 
   k-is : k ≡ nodes u
-  unfolding nodes
-  k-is = ek
+  k-is = lent-nodes u k ek
 
   first-is : rowSplits n (m - 1) (k - 1) (crossed t u work) ≡ splits t
   first-is = rw (n-is, m-is, k-is) (row-splits t u (h .first) (h .second) (h .same-tips) work)
