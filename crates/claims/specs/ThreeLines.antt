@@ -32,6 +32,7 @@ pub record TwoSums (len : ℕ) (f g : ℕ → ℕ) (x xx xy wxy : ℕ) : Type 0 
   pub beside-le : xy ≤ 16777216
   pub weighed-le : wxy ≤ 8589934592
 
+-- three lines of a block, by where they begin: each is low, its sum too, and it is that line of the block
 module _ (cells : List ℕ) (gap step len : ℕ) (h : FewLines cells gap 3 step len) where
   low-line : (i at : ℕ) → i < 3 → at ≡ i * gap → LowLine cells at step len
   low-line i at l e = rw e (record {
@@ -80,6 +81,7 @@ module _ (cells : List ℕ) (gap step len : ℕ) (h : FewLines cells gap 3 step 
 
 -- ---- the sums of three lines f, g and h
 
+-- each with the next, and all three together
 pub record ThreeSums (len : ℕ) (f g h : ℕ → ℕ) (x y z xx yy zz xy yz zx wxy wyz wzx t q : ℕ) : Type 0 where
   pub first : TwoSums len f g x xx xy wxy
   pub second : TwoSums len g h y yy yz wyz
@@ -100,6 +102,7 @@ module _ (len : ℕ) (f g h : ℕ → ℕ) (x y z xx yy zz xy yz zx wxy wyz wzx 
   wzx-is : wzx ≡ weighed len f h
   wzx-is = s .third .weighed-is ∙ weighed-turned len h f
 
+  -- .. of two lines each
   pub yz-le : yz ≤ y * z
   yz-le = rw (s .second .sum-is, s .third .sum-is, s .second .beside-is) (beside-le len g h)
 
@@ -121,6 +124,7 @@ module _ (len : ℕ) (f g h : ℕ → ℕ) (x y z xx yy zz xy yz zx wxy wyz wzx 
     w-is : w + products len (I 0) (I 1) ≡ sum len (I 0) * sum len (I 1)
     w-is = rw (s .first .sum-is, s .second .sum-is, s .first .beside-is, hf, hg) at hw
 
+    -- twice S2, as it is added up
     pub lines-S2 : (squares sums beside weigh : ℕ) → squares ≡ xx * u + yy * v + zz * w
         → sums ≡ x * u + y * v + z * w → beside ≡ xy * z + zx * y + yz * x
         → weigh ≡ wxy * z + wzx * y + wyz * x
@@ -147,6 +151,7 @@ module _ (len : ℕ) (f g h : ℕ → ℕ) (x y z xx yy zz xy yz zx wxy wyz wzx 
         )
             (rw (hf, hg, hh) (three-rows-S2 len I u v w u-is v-is w-is))
 
+    -- .. and S3
     pub lines-S3 : (hooks weigh : ℕ) → hooks ≡ xy * (u + v) + zx * (u + w) + yz * (v + w)
         → weigh ≡ wxy * z + wzx * y + wyz * x
         → pairS3 3 len I + weigh + 2 * (t * (x + y + z)) ≡ hooks + 4 * q

@@ -47,6 +47,7 @@ module _ (d : ℕ) where
   abbrev squareTimes2 : (ℕ → ℕ) → (ℕ → ℕ) → (ℕ → ℕ) → ℕ
   squareTimes2 x y z = sum d (λ a. x a * x a * (y a * z a))
 
+  -- a product times a sum, as squares times the others
   weighed-is : (x y : ℕ → ℕ) → weighed x y ≡ squareTimes x y + squareTimes y x
   weighed-is x y = sum-cong d (λ a. regroup (x a) (y a)) ∙ sum-add d _ _
     where
@@ -70,6 +71,7 @@ module _ (d : ℕ) where
       ∙ sym (sum-add d _ _)
       ∙ sum-cong d (λ a. omega (arith, ap (λ (s : ℕ). s * w a) (choose2-square (x a))))
 
+  -- .. and without
   pairs-all : (x : ℕ → ℕ) → 2 * sum d (λ a. choose2 (x a)) + sum d x ≡ products x x
   pairs-all x =
       ap (λ (s : ℕ). s + sum d x) (sym (sum-mul-left d 2 _))
@@ -163,11 +165,13 @@ module _ (d : ℕ) where
         → products3 x y z ≡ sum d (λ a. p (x a) (y a) (z a))
     t-turned p h = sum-cong d (λ a. h (x a) (y a) (z a))
 
+    -- .. and with the square of a cell of x
     inner-turned : (x y z : ℕ → ℕ) → squareTimes2 x y z ≡ squareTimes2 x z y
     inner-turned x y z = sum-cong d (λ a. ap (λ (k : ℕ). x a * x a * k) (mul-comm (y a) (z a)))
 
     -- ---- twice S2
 
+    -- the six orders of the rows
     pairs-six : pairS2 3 d I
         ≡ threeApart d (λ a. choose2 (x a)) y z + threeApart d (λ a. choose2 (x a)) z y
         + (threeApart d (λ a. choose2 (y a)) x z + threeApart d (λ a. choose2 (y a)) z x)
@@ -183,6 +187,7 @@ module _ (d : ℕ) where
       apart-products d (λ a. choose2 (z a)) y x,
     )
 
+    -- twice S2, from sums along the rows
     pub three-rows-S2 : pairS2 3 d I + (sum d x * u + sum d y * v + sum d z * w)
         + allWeighed x y z + 6 * products3 x y z
         ≡ products x x * u + products y y * v + products z z * w
@@ -209,6 +214,7 @@ module _ (d : ℕ) where
 
     -- ---- S3
 
+    -- the six orders of the rows
     hooks-six : pairS3 3 d I
         ≡ threeApart d (λ a. x a * z a) y x + threeApart d (λ a. x a * y a) z x
         + threeApart d (λ a. y a * z a) x y + threeApart d (λ a. y a * x a) z y
@@ -224,6 +230,7 @@ module _ (d : ℕ) where
       apart-hooks d z y x,
     )
 
+    -- S3, from the same sums
     pub three-rows-S3 : pairS3 3 d I + allWeighed x y z + 2 * (products3 x y z * (sum d x + sum d y + sum d z))
         ≡ products x y * (u + v) + products x z * (u + w) + products y z * (v + w) + 4 * weighed3 x y z
     three-rows-S3 = rw (hooks-six, weighed-is x y, weighed-is x z, weighed-is y z, weighed3-is x y z)
