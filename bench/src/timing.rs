@@ -52,7 +52,7 @@ const BATCH: Duration = Duration::from_millis(2);
 /// Batches of each method, of which the fastest is taken: what else the machine does only adds to a time. Fewer where a
 /// single call is slow.
 const ROUNDS: usize = 25;
-const SLOW_ROUNDS: usize = 5;
+const SLOW_ROUNDS: usize = 11;
 const SLOW: Duration = Duration::from_millis(20);
 
 /// One way of getting the five cases.
