@@ -55,6 +55,18 @@ plainTable a = record {
   distance = a .distance;
 }
 
+-- .. and back, to read demand 3 of it
+unfoldable pub libraryTable : QuartetTableAnswer → QuartetTable
+libraryTable a = record {
+  refusal = a .refusal;
+  a = a .a;
+  b = a .b;
+  c = a .c;
+  d = a .d;
+  e = a .e;
+  distance = a .distance;
+}
+
 unfoldable pub plainSplits : SplitCounts → SplitCountsAnswer
 plainSplits a = record {
   refusal = a .refusal;

@@ -26,8 +26,9 @@ ghost use Rattle.tree_pairs.specs.PairOrder.{pairOrder};
 ghost use Rattle.tree_pairs.specs.Crossings.{afterCrossings};
 ghost use Rattle.tree_pairs.specs.SplitAnswer.{splitAnswer};
 ghost use Rattle.claims.specs.SumsOf.{claimAnswer};
-ghost use Rattle.quartets.specs.QuartetAnswer.{quartetAnswer};
+ghost use Rattle.quartets.specs.QuartetAnswer.{DemandThree, quartetAnswer};
 ghost use Rattle.capi.specs.PlainAnswers.{plainCentre, plainTopology, plainClaims, plainTable, plainSplits};
+ghost use Rattle.capi.specs.PlainAnswers.{libraryTable};
 
 // The tree check's number.
 #[no_mangle]
@@ -123,6 +124,7 @@ pub extern "C" fn leskwyn_quartet_table(
 ) -> QuartetTableAnswer
     ensures { λ r. ⌜
         (r ≡ plainTable (quartetAnswer (now (first .entry)) (now (second .entry)) (length (now (work .entry)))))
+        × DemandThree (now (first .entry)) (now (second .entry)) (length (now (work .entry))) (libraryTable r)
         × (now (work .exit) ≡ afterCrossings (now (first .entry)) (now (second .entry)) (now (work .entry)))
         ⌝ }
 {

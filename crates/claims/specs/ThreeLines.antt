@@ -90,8 +90,8 @@ pub record ThreeSums (len : ℕ) (f g h : ℕ → ℕ) (x y z xx yy zz xy yz zx 
   pub q-is : q ≡ weighed3 len f g h
 
 -- the products at the same place are some of all products
-beside-le : (len : ℕ) (f g : ℕ → ℕ) → products len f g ≤ sum len f * sum len g
-beside-le len f g = omega (arith, pair-apart len f g)
+same-place-le : (len : ℕ) (f g : ℕ → ℕ) → products len f g ≤ sum len f * sum len g
+same-place-le len f g = omega (arith, pair-apart len f g)
 
 module _ (len : ℕ) (f g h : ℕ → ℕ) (x y z xx yy zz xy yz zx wxy wyz wzx t q : ℕ)
     (s : ThreeSums len f g h x y z xx yy zz xy yz zx wxy wyz wzx t q) where
@@ -104,13 +104,13 @@ module _ (len : ℕ) (f g h : ℕ → ℕ) (x y z xx yy zz xy yz zx wxy wyz wzx 
 
   -- .. of two lines each
   pub yz-le : yz ≤ y * z
-  yz-le = rw (s .second .sum-is, s .third .sum-is, s .second .beside-is) (beside-le len g h)
+  yz-le = rw (s .second .sum-is, s .third .sum-is, s .second .beside-is) (same-place-le len g h)
 
   pub zx-le : zx ≤ x * z
-  zx-le = rw (s .first .sum-is, s .third .sum-is, zx-is) (beside-le len f h)
+  zx-le = rw (s .first .sum-is, s .third .sum-is, zx-is) (same-place-le len f h)
 
   pub xy-le : xy ≤ x * y
-  xy-le = rw (s .first .sum-is, s .second .sum-is, s .first .beside-is) (beside-le len f g)
+  xy-le = rw (s .first .sum-is, s .second .sum-is, s .first .beside-is) (same-place-le len f g)
 
   -- u, v and w are the products at different places of two lines
   module _ (I : ℕ → ℕ → ℕ) (hf : f ≡ I 0) (hg : g ≡ I 1) (hh : h ≡ I 2) (u v w : ℕ)

@@ -1,10 +1,10 @@
 // The edges of the codes into each node, listed node after node.
 use super::words::wide;
+ghost use Prim.Native.Nat.{_≤_};
+ghost use lib.ListN.{length};
 ghost use Rattle.claims.specs.CodesAt.{codesOf, Parents, Starts, EdgeList};
 ghost use Rattle.claims.specs.CodeCounts.{Counted};
 ghost use Rattle.claims.specs.InnerNodes.{InnerNodes};
-ghost use Prim.Native.Nat.{_≤_};
-ghost use lib.ListN.{length};
 
 // How many codes lead into each node: each edge has one into the node above it and one into its own.
 fn code_counts(parents: &[u16]) -> [usize; 512]

@@ -6,7 +6,7 @@ use mathlib.Core.List.{List, [], _∷_, _++_}
 use Prim.Native.Nat.{ℕ, zero, suc, _+_, _*_, _-_}
 use native.Mathlib.Omega.{arith}
 use lib.Dec.{eqb}
-use lib.ListN.{length, getD, take, drop, length-drop, length-append, take-append-drop}
+use lib.ListN.{length, getD, take, drop, length-drop, take-append-drop}
 use lib.Seq.{take-at, drop-at, take-all, length-take-le}
 use Rattle.shapes.specs.Ancestors.{anc}
 
@@ -78,11 +78,6 @@ labels-of n ps ls e =
     ap (λ (j : ℕ). take (length ps) (drop j (n ∷ length ps ∷ (ps ++ ls)))) (two-more (length ps))
     ∙ ap (take (length ps)) (drop-at ps ls (length ps) refl)
     ∙ take-all (length ps) ls (omega arith)
-
-pub length-of : (n : ℕ) (ps ls : List ℕ) → length ls ≡ length ps
-    → length (tableOf n ps ls) ≡ 2 + 2 * length ps
-unfolding tableOf
-length-of n ps ls e = omega (arith, length-append ps ls)
 
 pub parents-length : (t : Table) → length t ≡ 2 + 2 * nodes t → length (parents t) ≡ nodes t
 unfolding parents
