@@ -9,5 +9,6 @@ pub mod ReferencePairs
 pub mod CountingTheorem
 pub mod TreeSplits
 pub mod QuartetTheorem
+pub mod LabelsAlone
 pub mod NodePairSums
 pub mod Degrees

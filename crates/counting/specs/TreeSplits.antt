@@ -14,6 +14,7 @@ use Rattle.shapes.specs.Paths.{towards}
 use Rattle.shapes.specs.Splits.{splitsOf, commonOf, robinsonFouldsOf, Distinct, SameSides, same, turned, same-splits-iff}
 use Rattle.shapes.specs.RobinsonFoulds as rf
 use Rattle.shapes.specs.RobinsonFoulds.{common-turned}
+use Rattle.shapes.specs.SameSplits as ss
 use Rattle.trees.specs.Table.{Table, tips, nodes, parent, label, nodeOf, beyond}
 use Rattle.trees.specs.IsTree.{IsTree, Child, rooted}
 use Rattle.trees.specs.Labels.{node-only}
@@ -144,6 +145,19 @@ module _ (t u : Table) (g : IsTree t) (h : IsTree u) (e : tips t ≡ tips u) whe
   unfolding robinsonFoulds robinsonFouldsOf commonSplits splits
   robinson-foulds-zero = rw second-splits (rf.robinson-foulds-zero
       (tips t) (nodes t - 1) (beyond t) (nodes u - 1) (beyond u) (tree-distinct t g) distinct-in-second)
+
+  -- two trees with the same splits have as many
+  pub same-splits-as-many : HaveSameSplits t u → splits t ≡ splits u
+  unfolding splits
+  same-splits-as-many s = rw second-splits (ss.same-splits-as-many
+      (tips t) (nodes t - 1) (beyond t) (nodes u - 1) (beyond u) (tree-distinct t g) distinct-in-second s)
+
+-- .. and as many in common with any tree
+pub same-splits-in-common : (t u v : Table) → tips t ≡ tips u → HaveSameSplits u v
+    → commonSplits t u ≡ commonSplits t v
+unfolding commonSplits
+same-splits-in-common t u v e s = ss.same-splits-in-common
+    (tips t) (nodes t - 1) (beyond t) (nodes u - 1) (beyond u) (nodes v - 1) (beyond v) (rw e s)
 
 -- 'the same splits', as a test
 pub same-splits-test : (t u : Table) → T (sameSplits t u) ↔ HaveSameSplits t u

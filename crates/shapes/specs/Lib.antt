@@ -8,6 +8,7 @@ pub mod Shape
 pub mod Claims
 pub mod Splits
 pub mod RobinsonFoulds
+pub mod SameSplits
 pub mod Topologies
 pub mod EulerCentre
 pub mod Triples

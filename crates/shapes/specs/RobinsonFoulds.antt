@@ -90,7 +90,7 @@ module _ (n k : ℕ) (b : Sides) (l : ℕ) (c : Sides) where
   common-le = count-mono k _ _ is-split
 
   -- as many are common as there are exactly if all are
-  common-all : (commonOf n k b l c ≡ splitsOf n k b) ↔ AllOccur n k b l c
+  pub common-all : (commonOf n k b l c ≡ splitsOf n k b) ↔ AllOccur n k b l c
   unfolding commonOf splitsOf
   common-all = let a = all-occur n k b l c in (
     λ e. a .0 (λ i m t. and-iff (isSplit n b (suc i)) _ .0 (count-same k _ _ is-split e i m t) .1),

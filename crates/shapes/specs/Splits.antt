@@ -143,7 +143,7 @@ same-sides-iff n b c i j =
       ]),
     )
 
-occurs-iff : {n k : ℕ} {b : Sides} {i : ℕ} (l : ℕ) (c : Sides) → Split n k b i
+pub occurs-iff : {n k : ℕ} {b : Sides} {i : ℕ} (l : ℕ) (c : Sides) → Split n k b i
     → T (occurs n b l c i) ↔ Occurs n b l c i
 unfolding occurs
 occurs-iff {n} {b = b} {i = i} l c s = (
