@@ -10,5 +10,6 @@ pub mod CountingTheorem
 pub mod TreeSplits
 pub mod QuartetTheorem
 pub mod LabelsAlone
+pub mod Renumbered
 pub mod NodePairSums
 pub mod Degrees
