@@ -1,4 +1,5 @@
 pub mod ClaimSums
+pub mod EdgeClaims
 pub mod Cases
 pub mod QuartetTable
 pub mod FiveFormulas

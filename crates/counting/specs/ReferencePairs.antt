@@ -12,7 +12,7 @@ use Rattle.sums.specs.Fours.{fours}
 use Rattle.shapes.specs.Ancestors.{ancIn, anc}
 use Rattle.shapes.specs.Directions.{edge, rising, head, behind}
 use Rattle.shapes.specs.Quartets.{parts, parted}
-use Rattle.shapes.specs.Claims.{sumIf, meet, sumClaims, choose2}
+use Rattle.shapes.specs.Claims.{sumIf, meet, sumClaimsOf, sumClaims, choose2}
 use Rattle.shapes.specs.Splits.{isSplit, sameSides, occurs, splitsOf, commonOf, allOccur, sameSplitsOf}
 use Rattle.trees.specs.Table.{Table, tips, nodes, parents, labels, parent, label, nodeBelow, nodeOf, beyond}
 use Rattle.trees.specs.Topology.{butterfly, partner, named, topology}
@@ -45,8 +45,8 @@ pub reference-pairs :
     ∷ (0 ∷ 0 ∷ 0 ∷ 0 ∷ 0 ∷ 0 ∷ 0 ∷ 0 ∷ 0 ∷ 0 ∷ 0 ∷ 0 ∷ 0 ∷ 0 ∷ [])
     ∷ (0 ∷ 0 ∷ 0 ∷ 0 ∷ 0 ∷ 0 ∷ 0 ∷ 0 ∷ 0 ∷ 0 ∷ 0 ∷ 0 ∷ 0 ∷ 0 ∷ []) ∷ []
 unfolding
-    figures S S2 S3 codes behindEdge size crossing sumClaims sumIf meet choose2 quartets isCase caseNumber caseOf
-    splits commonSplits robinsonFoulds splitsOf commonOf isSplit sameSides occurs
+    figures S S2 S3 codes behindEdge size crossing sumClaims sumClaimsOf sumIf meet choose2 quartets isCase caseNumber
+    caseOf splits commonSplits robinsonFoulds splitsOf commonOf isSplit sameSides occurs
     topology named partner butterfly parts parted sets2 sets3 sets4 sum bit some every
     ancIn anc edge rising head behind tips nodes parents labels parent label nodeBelow nodeOf beyond
 reference-pairs = refl

@@ -11,7 +11,7 @@ use Rattle.sums.specs.SetsOfFour.{sets2, sets3, sets4}
 use Rattle.shapes.specs.Ancestors.{ancIn, anc}
 use Rattle.shapes.specs.Directions.{edge, rising, head, behind}
 use Rattle.shapes.specs.Quartets.{parts, parted}
-use Rattle.shapes.specs.Claims.{sumIf, meet, sumClaims, choose2}
+use Rattle.shapes.specs.Claims.{sumIf, meet, sumClaimsOf, sumClaims, choose2}
 use Rattle.shapes.specs.Splits.{isSplit, sameSides, occurs, splitsOf, commonOf}
 use Rattle.trees.specs.Table.{tips, nodes, parents, labels, parent, label, nodeBelow, nodeOf, beyond}
 use Rattle.trees.specs.Refusals.{refusal, ifAccepted}
@@ -47,8 +47,8 @@ unfolding
     comparison figuresOf fileOrder wordsOrder fileWords firstTable secondTable firstLength refusal ifAccepted
     pairOrder bothOrder plus treeOrder arraysOrder tipsFit nodesFit parentFits labelFits standing labelsFit
     isChild children misplaced
-    S S2 S3 codes behindEdge size crossing sumClaims sumIf meet choose2 quartets isCase caseNumber caseOf
-    splits commonSplits robinsonFoulds splitsOf commonOf isSplit sameSides occurs
+    S S2 S3 codes behindEdge size crossing sumClaims sumClaimsOf sumIf meet choose2 quartets isCase caseNumber
+    caseOf splits commonSplits robinsonFoulds splitsOf commonOf isSplit sameSides occurs
     topology named partner butterfly parts parted sets2 sets3 sets4 sum bit some every
     ancIn anc edge rising head behind tips nodes parents labels parent label nodeBelow nodeOf beyond
 comparison-of-P-and-Q = refl

@@ -16,10 +16,15 @@ unfoldable pub meet : (ℕ → ℕ) → ℕ → ℕ → Bool
 meet up e f = elim (eqb e f) [ true ↦ false | false ↦ eqb (head up e) (head up f) ]
 
 -- 'A claim is a directed edge e with an unordered pair of different subtrees T2, T3 at the node e points to, neither of
--- them through e': three different codes e; f < g with one head. The sum of F over the claims of a tree with that many codes.
+-- them through e': three different codes e; f < g with one head. The sum of F over the claims of e in a tree with that
+-- many codes, ..
+unfoldable pub sumClaimsOf : (ℕ → ℕ) → ℕ → ℕ → (ℕ → ℕ → ℕ) → ℕ
+sumClaimsOf up codes e F =
+    sumIf codes (meet up e) (λ g. sumIf g (λ f. meet up e f && meet up f g) (λ f. F f g))
+
+-- .. and over the claims of the tree
 unfoldable pub sumClaims : (ℕ → ℕ) → ℕ → (ℕ → ℕ → ℕ → ℕ) → ℕ
-sumClaims up codes F =
-    sum codes (λ e. sumIf codes (meet up e) (λ g. sumIf g (λ f. meet up e f && meet up f g) (λ f. F e f g)))
+sumClaims up codes F = sum codes (λ e. sumClaimsOf up codes e (F e))
 
 -- k(k − 1)/2
 unfoldable pub choose2 : ℕ → ℕ

@@ -13,6 +13,7 @@ pub mod Topologies
 pub mod EulerCentre
 pub mod Triples
 pub mod OrderedClaims
+pub mod ClaimsOfAnEdge
 pub mod ClaimPairs
 pub mod LabelSums
 pub mod ClaimCounts

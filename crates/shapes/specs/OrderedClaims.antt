@@ -14,12 +14,12 @@ use Rattle.sums.specs.Products.{bit-sq, bit-and, sum-ne}
 use Rattle.sums.specs.Exclusion.{twoApart, threeApart}
 use Rattle.shapes.specs.Ancestors.{Rooted}
 use Rattle.shapes.specs.Directions.{head, behind, into}
-use Rattle.shapes.specs.Claims.{sumIf, meet, sumClaims, choose2}
+use Rattle.shapes.specs.Claims.{sumIf, meet, sumClaimsOf, sumClaims, choose2}
 use Rattle.shapes.specs.EulerCentre.{head-le}
 use Rattle.shapes.specs.Triples.{triples}
 
 -- 1 if e, f and g are different codes into one node
-abbrev weight : (ℕ → ℕ) → ℕ → ℕ → ℕ → ℕ
+abbrev pub weight : (ℕ → ℕ) → ℕ → ℕ → ℕ → ℕ
 weight up e f g = ne f g * ((ne e f * is (head up e) (head up f)) * (ne e g * is (head up e) (head up g)))
 
 -- the sum of F over the triples of different codes into one node: each claim once with f < g, once with g < f
@@ -124,7 +124,7 @@ sumIf-bit (suc n) q f = go (q n) ∙ ap (λ (x : ℕ). x + bit (q n) * f n) (sum
     go true = unfold bit in omega arith
     go false = unfold bit in omega arith
 
-meet-bit : (up : ℕ → ℕ) (e f : ℕ) → bit (meet up e f) ≡ ne e f * is (head up e) (head up f)
+pub meet-bit : (up : ℕ → ℕ) (e f : ℕ) → bit (meet up e f) ≡ ne e f * is (head up e) (head up f)
 unfolding meet
 meet-bit up e f = go (eqb e f) (eqb (head up e) (head up f))
   where
@@ -141,35 +141,37 @@ is-third a b c = elim (alike a b) [
   | inr d ↦ rw (d .1) (omega arith)
 ]
 
-module _ (up : ℕ → ℕ) (codes : ℕ) (F : ℕ → ℕ → ℕ → ℕ) (sym-F : (e f g : ℕ) → F e f g ≡ F e g f) where
-  tested : (e f g : ℕ)
-      → bit (meet up e g) * (bit (meet up e f && meet up f g) * F e f g) ≡ weight up e f g * F e f g
-  tested e f g = simp (bit-and, meet-bit) (omega (
+module _ (up : ℕ → ℕ) (codes e : ℕ) (F : ℕ → ℕ → ℕ) where
+  tested : (f g : ℕ) → bit (meet up e g) * (bit (meet up e f && meet up f g) * F f g) ≡ weight up e f g * F f g
+  tested f g = simp (bit-and, meet-bit) (omega (
     arith,
-    ap (λ (x : ℕ). x * (ne e g * ne e f * ne f g * F e f g)) (is-third (head up e) (head up f) (head up g)),
+    ap (λ (x : ℕ). x * (ne e g * ne e f * ne f g * F f g)) (is-third (head up e) (head up f) (head up g)),
   ))
 
-  pub claims-ordered : 2 * sumClaims up codes F ≡ sumOrdered up codes F
-  unfolding sumClaims sumOrdered
-  claims-ordered =
-      sym (sum-mul-left codes 2 _)
-      ∙ sum-cong codes (λ e. ap (λ (x : ℕ). 2 * x) (inner e)
-      ∙ sym (twice codes (term e) (λ f g. rw (ne-sym f g, sym-F e f g) (omega arith))
-      (λ f. rw (ne-self f) (omega arith)))
-      ∙ unfold tuples2 in refl)
-    where
-      term : ℕ → ℕ → ℕ → ℕ
-      term e f g = weight up e f g * F e f g
+  weighed : sumClaimsOf up codes e F ≡ sets2 codes (λ f g. weight up e f g * F f g)
+  unfolding sumClaimsOf sets2
+  weighed =
+      sumIf-bit codes (meet up e) _
+      ∙ sum-cong codes (λ g. ap (λ (x : ℕ). bit (meet up e g) * x) (sumIf-bit g _ _)
+      ∙ sym (sum-mul-left g _ _)
+      ∙ sum-cong g (λ f. tested f g))
 
-      inner : (e : ℕ)
-          → sumIf codes (meet up e) (λ g. sumIf g (λ f. meet up e f && meet up f g) (λ f. F e f g))
-          ≡ sets2 codes (term e)
-      inner e =
-          sumIf-bit codes (meet up e) _
-          ∙ sum-cong codes (λ g. ap (λ (x : ℕ). bit (meet up e g) * x) (sumIf-bit g _ _)
-          ∙ sym (sum-mul-left g _ _)
-          ∙ sum-cong g (λ f. tested e f g))
-          ∙ unfold sets2 in refl
+  -- of one directed edge
+  pub edge-claims-ordered : ((f g : ℕ) → F f g ≡ F g f)
+      → 2 * sumClaimsOf up codes e F ≡ tuples2 codes (λ f g. weight up e f g * F f g)
+  edge-claims-ordered sym-F =
+      ap (λ (x : ℕ). 2 * x) weighed
+      ∙ sym (twice codes (λ f g. weight up e f g * F f g)
+      (λ f g. rw (ne-sym f g, sym-F f g) (omega arith))
+      (λ f. rw (ne-self f) (omega arith)))
+
+-- of the tree
+pub claims-ordered : (up : ℕ → ℕ) (codes : ℕ) (F : ℕ → ℕ → ℕ → ℕ) → ((e f g : ℕ) → F e f g ≡ F e g f)
+    → 2 * sumClaims up codes F ≡ sumOrdered up codes F
+unfolding sumClaims sumOrdered tuples2
+claims-ordered up codes F sym-F =
+    sym (sum-mul-left codes 2 _)
+    ∙ sum-cong codes (λ e. edge-claims-ordered up codes e (F e) (sym-F e))
 
 -- ---- pairs
 
