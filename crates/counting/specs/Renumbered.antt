@@ -32,9 +32,9 @@ parent-node : (t : Table) → IsTree t → (i : ℕ) → i < nodes t → parent 
 parent-node t g zero l = omega (arith, g .root-parent)
 parent-node t g (suc w) l = omega (arith, rooted t g .falls w)
 
--- back again
-turned : (t t' : Table) → IsTree t → Renumbered t t' → Renumbered t' t
-turned t t' g m = record {
+-- and t is t' under other numbers
+numbered-back : (t t' : Table) → IsTree t → Renumbered t t' → Renumbered t' t
+numbered-back t t' g m = record {
   to = m .from;
   from = m .to;
   same-tips = sym (m .same-tips);
@@ -117,7 +117,7 @@ module _ (t t' : Table) (g : IsTree t) (g' : IsTree t') (m : Renumbered t t') wh
 pub renumbered-same-splits : (t t' : Table) → IsTree t → IsTree t' → Renumbered t t' → HaveSameSplits t t'
 renumbered-same-splits t t' g g' m = record {
   there = splits-occur t t' g g' m;
-  back = rw (m .same-tips) (splits-occur t' t g' g (turned t t' g m));
+  back = rw (m .same-tips) (splits-occur t' t g' g (numbered-back t t' g m));
 }
 
 pub renumbered-alone : (t t' : Table) → IsTree t → IsTree t' → Renumbered t t' → LabelsAlone t t'

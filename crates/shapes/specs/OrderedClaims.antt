@@ -148,9 +148,9 @@ module _ (up : ℕ → ℕ) (codes e : ℕ) (F : ℕ → ℕ → ℕ) where
     ap (λ (x : ℕ). x * (ne e g * ne e f * ne f g * F f g)) (is-third (head up e) (head up f) (head up g)),
   ))
 
-  weighed : sumClaimsOf up codes e F ≡ sets2 codes (λ f g. weight up e f g * F f g)
+  edge-claims-weighed : sumClaimsOf up codes e F ≡ sets2 codes (λ f g. weight up e f g * F f g)
   unfolding sumClaimsOf sets2
-  weighed =
+  edge-claims-weighed =
       sumIf-bit codes (meet up e) _
       ∙ sum-cong codes (λ g. ap (λ (x : ℕ). bit (meet up e g) * x) (sumIf-bit g _ _)
       ∙ sym (sum-mul-left g _ _)
@@ -160,7 +160,7 @@ module _ (up : ℕ → ℕ) (codes e : ℕ) (F : ℕ → ℕ → ℕ) where
   pub edge-claims-ordered : ((f g : ℕ) → F f g ≡ F g f)
       → 2 * sumClaimsOf up codes e F ≡ tuples2 codes (λ f g. weight up e f g * F f g)
   edge-claims-ordered sym-F =
-      ap (λ (x : ℕ). 2 * x) weighed
+      ap (λ (x : ℕ). 2 * x) edge-claims-weighed
       ∙ sym (twice codes (λ f g. weight up e f g * F f g)
       (λ f g. rw (ne-sym f g, sym-F f g) (omega arith))
       (λ f. rw (ne-self f) (omega arith)))
