@@ -14,10 +14,12 @@ import os
 import pathlib
 import random
 import shutil
+import signal
 import subprocess
 import sys
 import tempfile
 import time
+import tty
 import unittest
 from math import comb
 
@@ -210,6 +212,50 @@ def listing(content):
 def setUpModule():
     if not os.access(PROGRAM, os.X_OK) or PROGRAM.is_dir():
         sys.exit(f"compare_tests: there is no program {PROGRAM}; `rt check compare` builds target/bin/compare")
+
+
+CANNOT_READ = b"compare: cannot read standard input\n"
+CANNOT_WRITE = b"compare: cannot write to standard output\n"
+
+
+def breaks_after(content):
+    """A descriptor that gives these bytes, and then fails: a terminal whose other end is closed."""
+    own, other = os.openpty()
+    tty.setraw(other)
+    os.write(other, content)
+    os.close(other)
+    return own
+
+
+def pieces_of(content, lengths):
+    at = 0
+    for length in itertools.cycle(lengths):
+        if at >= len(content):
+            return
+        yield content[at:at + length]
+        at += length
+
+
+def run_in_pieces(command, pieces, pause, **given):
+    """What a run prints and says, and its status, with standard input a pipe that gets the pieces one by one."""
+    run = subprocess.Popen(command, stdin=subprocess.PIPE, stdout=subprocess.PIPE, stderr=subprocess.PIPE, bufsize=0,
+                           **given)
+    with run:
+        try:
+            for piece in pieces:
+                run.stdin.write(piece)
+                time.sleep(pause)
+        except BrokenPipeError:
+            pass  # it may stop reading once there are too many bytes
+        printed, said = run.communicate(timeout=SECONDS)
+    return printed, said, run.returncode
+
+
+def without_a_reader():
+    """The writing end of a pipe that nobody reads."""
+    reader, writer = os.pipe()
+    os.close(reader)
+    return writer
 
 
 class ProgramTest(unittest.TestCase):
@@ -426,39 +472,22 @@ class Pipes(ProgramTest):
     """Standard input that comes in pieces."""
 
     def assert_in_pieces(self, expected, pieces, pause):
-        program = subprocess.Popen([PROGRAM], stdin=subprocess.PIPE, stdout=subprocess.PIPE, bufsize=0)
-        with program:
-            try:
-                for piece in pieces:
-                    program.stdin.write(piece)
-                    time.sleep(pause)
-            except BrokenPipeError:
-                pass  # it may stop reading once there are too many bytes
-            printed, _ = program.communicate(timeout=SECONDS)
-        self.assertEqual((printed, program.returncode), (expected, 0))
-
-    def pieces(self, content, lengths):
-        at = 0
-        for length in itertools.cycle(lengths):
-            if at >= len(content):
-                return
-            yield content[at:at + length]
-            at += length
+        self.assertEqual(run_in_pieces([PROGRAM], pieces, pause), (expected, b"", 0))
 
     def test_byte_by_byte(self):
-        self.assert_in_pieces(P_AND_Q, self.pieces(packed(P, Q), [1]), 0.002)
-        self.assert_in_pieces(b"refused 15\n", self.pieces(packed(P, Q)[:-1], [1]), 0.002)
+        self.assert_in_pieces(P_AND_Q, pieces_of(packed(P, Q), [1]), 0.002)
+        self.assert_in_pieces(b"refused 15\n", pieces_of(packed(P, Q)[:-1], [1]), 0.002)
 
     def test_odd_pieces(self):
-        self.assert_in_pieces(P_AND_Q, self.pieces(packed(P, Q), [1, 3, 7, 5]), 0.02)
-        self.assert_in_pieces(P_AND_Q, self.pieces(packed(P, Q), [35, 33]), 0.2)
+        self.assert_in_pieces(P_AND_Q, pieces_of(packed(P, Q), [1, 3, 7, 5]), 0.02)
+        self.assert_in_pieces(P_AND_Q, pieces_of(packed(P, Q), [35, 33]), 0.2)
 
     def test_the_largest_file_in_pieces(self):
         content = packed(caterpillar(64), balanced(64))
-        self.assert_in_pieces(listing(content), self.pieces(content, [1, 2, 3, 5, 8, 13, 21, 34]), 0.002)
-        self.assert_in_pieces(listing(content), self.pieces(content, [511, 505]), 0.1)
-        self.assert_in_pieces(b"refused 14\n", self.pieces(content + b"\0", [1016, 1]), 0.1)
-        self.assert_in_pieces(b"refused 14\n", self.pieces(content + bytes(99), [100]), 0.01)
+        self.assert_in_pieces(listing(content), pieces_of(content, [1, 2, 3, 5, 8, 13, 21, 34]), 0.002)
+        self.assert_in_pieces(listing(content), pieces_of(content, [511, 505]), 0.1)
+        self.assert_in_pieces(b"refused 14\n", pieces_of(content + b"\0", [1016, 1]), 0.1)
+        self.assert_in_pieces(b"refused 14\n", pieces_of(content + bytes(99), [100]), 0.01)
 
     def test_a_late_first_byte_and_a_late_end(self):
         self.assert_in_pieces(P_AND_Q, [b"", packed(P, Q), b""], 0.2)
@@ -471,6 +500,80 @@ class Pipes(ProgramTest):
             self.assertEqual(subprocess.run([PROGRAM], stdin=file, stdout=subprocess.PIPE).stdout, P_AND_Q)
         done = subprocess.run([PROGRAM], stdin=subprocess.DEVNULL, stdout=subprocess.PIPE)
         self.assertEqual(done.stdout, b"refused 1\n")
+
+
+class Failures(ProgramTest):
+    """A read or a write that fails: a line on standard error, and never a listing of half a file."""
+
+    def run_on(self, stdin=None, stdout=None, **given):
+        """A run on descriptors that are closed here afterwards; without a standard output it is taken in."""
+        stdin = stdin if stdin is not None else self.whole_file()
+        done = subprocess.run([PROGRAM], stdin=stdin, stdout=subprocess.PIPE if stdout is None else stdout,
+                              stderr=subprocess.PIPE, timeout=SECONDS, **given)
+        for descriptor in (stdin, stdout):
+            if descriptor is not None:
+                os.close(descriptor)
+        return done
+
+    def whole_file(self):
+        return os.open(ROOT / "examples" / "p-q.bin", os.O_RDONLY)
+
+    def assert_unread(self, done):
+        self.assertEqual((done.stdout, done.stderr, done.returncode), (b"", CANNOT_READ, 0))
+
+    def assert_unwritten(self, done):
+        self.assertEqual((done.stdout or b"", done.stderr, done.returncode), (b"", CANNOT_WRITE, 0))
+
+    def test_a_folder_as_standard_input(self):
+        self.assert_unread(self.run_on(os.open(ROOT, os.O_RDONLY)))
+
+    def test_standard_input_closed(self):
+        self.assert_unread(self.run_on(preexec_fn=lambda: os.close(0)))
+
+    def test_standard_input_open_for_writing_only(self):
+        self.assert_unread(self.run_on(os.open(os.devnull, os.O_WRONLY)))
+
+    def test_a_read_that_fails_after_some_bytes(self):
+        content = packed(P, Q)
+        for length in (0, 1, 34, 36, 67, 68):
+            self.assert_unread(self.run_on(breaks_after(content[:length])))
+        self.assert_unread(self.run_on(breaks_after(packed(caterpillar(64), balanced(64)))))
+
+    def test_a_file_that_is_too_long_is_not_read_further(self):
+        done = self.run_on(breaks_after(bytes(1017)))
+        self.assertEqual((done.stdout, done.stderr, done.returncode), (b"refused 14\n", b"", 0))
+
+    def test_standard_output_closed(self):
+        self.assert_unwritten(self.run_on(preexec_fn=lambda: os.close(1)))
+
+    def test_standard_output_open_for_reading_only(self):
+        self.assert_unwritten(self.run_on(stdout=os.open(os.devnull, os.O_RDONLY)))
+
+    @unittest.skipUnless(os.path.exists("/dev/full"), "there is no full device")
+    def test_a_full_device(self):
+        self.assert_unwritten(self.run_on(stdout=os.open("/dev/full", os.O_WRONLY)))
+
+    def test_a_pipe_that_is_closed_early(self):
+        done = self.run_on(stdout=without_a_reader())
+        self.assertEqual((done.stderr, done.returncode), (b"", -signal.SIGPIPE))
+        self.assert_unwritten(self.run_on(stdout=without_a_reader(), restore_signals=False))  # the signal is ignored
+
+    def test_nothing_can_be_said(self):
+        for closed in (0, 1):
+            done = self.run_on(preexec_fn=lambda: os.close(closed) or os.close(2))
+            self.assertEqual((done.stdout, done.stderr, done.returncode), (b"", b"", 0))
+
+    def test_a_run_that_is_stopped_and_continued(self):
+        program = subprocess.Popen([PROGRAM], stdin=subprocess.PIPE, stdout=subprocess.PIPE, stderr=subprocess.PIPE,
+                                   bufsize=0)
+        with program:
+            program.stdin.write(packed(P))
+            for step in (signal.SIGSTOP, signal.SIGCONT):
+                time.sleep(0.1)
+                program.send_signal(step)
+            time.sleep(0.1)
+            printed, said = program.communicate(packed(Q), timeout=SECONDS)
+        self.assertEqual((printed, said, program.returncode), (P_AND_Q, b"", 0))
 
 
 # ---- bin/compare
@@ -497,6 +600,7 @@ class Wrapper(unittest.TestCase):
         self.source = self.house / "crates" / "compare" / "src" / "main.rt"
         for file in (self.source, self.house / "crates.txt"):
             file.write_text("")
+        self.where = {"PATH": str(self.path), "CALLS": str(self.calls), "BUILT": str(PROGRAM)}
         self.path.mkdir()
         for command in COMMANDS:
             if shutil.which(command):
@@ -504,12 +608,11 @@ class Wrapper(unittest.TestCase):
         (self.path / "rt").write_text(STAND_IN_RT)
         (self.path / "rt").chmod(0o755)
 
-    def compare(self, *words, cwd=None, command=None, **given):
+    def compare(self, *words, cwd=None, command=None, stdout=subprocess.PIPE, **given):
         """A run; `given` is its standard input, else it has an empty one."""
-        where = {"PATH": str(self.path), "CALLS": str(self.calls), "BUILT": str(PROGRAM)}
         given = given or {"input": b""}
-        return subprocess.run([command or self.house / "bin" / "compare", *words], cwd=cwd or self.folder, env=where,
-                              stdout=subprocess.PIPE, stderr=subprocess.PIPE, timeout=SECONDS, **given)
+        return subprocess.run([command or self.house / "bin" / "compare", *words], cwd=cwd or self.folder, env=self.where,
+                              stdout=stdout, stderr=subprocess.PIPE, timeout=SECONDS, **given)
 
     def built(self):
         """How often rt was called."""
@@ -584,8 +687,7 @@ class Wrapper(unittest.TestCase):
         self.assert_trouble(self.compare(), "no rt on the path")
 
     def test_first_uses_at_once(self):
-        where = {"PATH": str(self.path), "CALLS": str(self.calls), "BUILT": str(PROGRAM)}
-        uses = [subprocess.Popen([self.house / "bin" / "compare"], env=where, stdout=subprocess.PIPE,
+        uses = [subprocess.Popen([self.house / "bin" / "compare"], env=self.where, stdout=subprocess.PIPE,
                                  stderr=subprocess.DEVNULL) for _ in range(3)]
         self.assertEqual([use.communicate(timeout=SECONDS)[0] for use in uses], [P_AND_Q] * 3)
         if (self.path / "flock").exists():
@@ -615,6 +717,46 @@ class Wrapper(unittest.TestCase):
         folder = os.open(self.folder, os.O_RDONLY)
         self.addCleanup(os.close, folder)
         self.assert_trouble(self.compare("-", stdin=folder), "folder")
+
+    def assert_one_line(self, done, line):
+        """Status 2, nothing on standard output, and this line alone on standard error."""
+        self.assertEqual((done.returncode, done.stdout or b"", done.stderr.decode()), (2, b"", line + "\n"))
+
+    def test_standard_input_that_fails(self):
+        self.compare()
+        content = packed(P, Q)
+        for length in (0, 34, 36, 68):
+            own = breaks_after(content[:length])
+            self.assert_one_line(self.compare("-", stdin=own), "compare: cannot read standard input")
+            os.close(own)
+        with open(os.devnull, "wb") as unreadable:
+            self.assert_one_line(self.compare("-", stdin=unreadable), "compare: cannot read standard input")
+
+    @unittest.skipUnless(os.path.exists("/proc/self/mem"), "there is no file whose first byte cannot be read")
+    def test_a_file_that_fails(self):
+        self.compare()
+        self.assert_one_line(self.compare("/proc/self/mem"), "compare: cannot read /proc/self/mem")
+
+    def test_standard_input_in_pieces(self):
+        self.compare()
+        command, content = [self.house / "bin" / "compare", "-"], packed(P, Q)
+        for lengths, pause in (([1], 0.002), ([34], 0.2), ([35, 33], 0.2)):
+            done = run_in_pieces(command, pieces_of(content, lengths), pause, env=self.where)
+            self.assertEqual(done, (P_AND_Q, b"", 0))
+
+    def test_standard_output_that_cannot_be_written(self):
+        self.compare()
+        pair = self.file("pair.bin", packed(P, Q))
+        outputs = [without_a_reader(), os.open(os.devnull, os.O_RDONLY)]
+        if os.path.exists("/dev/full"):
+            outputs.append(os.open("/dev/full", os.O_WRONLY))
+        for words in ([pair], ["--help"]):
+            for output in outputs:
+                self.assert_one_line(self.compare(*words, stdout=output), "compare: cannot write to standard output")
+            self.assert_one_line(self.compare(*words, preexec_fn=lambda: os.close(1)),
+                                 "compare: cannot write to standard output")
+        for output in outputs:
+            os.close(output)
 
     def test_refusals_have_status_1(self):
         for content in (b"", b"\0", packed(P), packed(P, THREE), bytes(2000)):
@@ -662,10 +804,12 @@ class Wrapper(unittest.TestCase):
         self.compare()
         program = self.house / "target" / "bin" / "compare"
         program.unlink()
-        for body in ("exit 3", "echo leaf 5", "exit 0"):
+        for body in ("exit 3", "echo leaf 5", "exit 0", "printf 'leaves 5\\nclaims 10 6'", "printf 'refused 1'"):
             program.write_text("#!/bin/sh\n" + body + "\n")
             program.chmod(0o755)
             self.assert_trouble(self.compare(), "the program")
+        program.write_text("#!/bin/sh\nprintf 'leaves 5\\ncl'\necho compare: cannot write to standard output >&2\n")
+        self.assert_trouble(self.compare(), "compare: cannot write to standard output\n")
 
 
 class Readme(unittest.TestCase):
