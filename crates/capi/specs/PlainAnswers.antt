@@ -2,31 +2,26 @@
 -- Assumes nothing.
 use mathlib.Core.Path.{_≡_, refl}
 use Prim.Native.Nat.{ℕ}
+use Rattle.trees.specs.declared.edges.PartBeyond.{PartBeyond}
 use Rattle.trees.specs.declared.centres.CentreAnswer as trees-centre
 use Rattle.trees.specs.declared.quartet.TopologyAnswer as trees-topology
-use Rattle.trees.specs.declared.quartet.Topology.{Topology}
 use Rattle.trees.specs.declared.quartet.Topology.the-variants.{Butterfly, Star}
+use Rattle.trees.specs.Topology.{butterflyOf, partnerOf}
 use Rattle.tree_pairs.specs.declared.counts.SplitCounts.{SplitCounts}
 use Rattle.claims.specs.declared.totals.ClaimSums.{ClaimSums}
 use Rattle.quartets.specs.declared.tables.QuartetTable.{QuartetTable}
+use Rattle.capi.specs.declared.answers.BeyondAnswer.{BeyondAnswer}
 use Rattle.capi.specs.declared.answers.CentreAnswer.{CentreAnswer}
 use Rattle.capi.specs.declared.answers.TopologyAnswer.{TopologyAnswer}
 use Rattle.capi.specs.declared.answers.ClaimSumsAnswer.{ClaimSumsAnswer}
 use Rattle.capi.specs.declared.answers.QuartetTableAnswer.{QuartetTableAnswer}
 use Rattle.capi.specs.declared.answers.SplitCountsAnswer.{SplitCountsAnswer}
 
+unfoldable pub plainBeyond : PartBeyond → BeyondAnswer
+plainBeyond a = record { refusal = a .refusal; start = a .start; labels = a .labels }
+
 unfoldable pub plainCentre : trees-centre.CentreAnswer → CentreAnswer
 plainCentre a = record { refusal = a .refusal; node = a .node }
-
--- 1 for a butterfly and 0 for a star
-abbrev pub butterflyOf : Topology → ℕ
-butterflyOf (Butterfly p) = 1
-butterflyOf Star = 0
-
--- the partner of the smallest label, 0 for a star
-abbrev pub partnerOf : Topology → ℕ
-partnerOf (Butterfly p) = p
-partnerOf Star = 0
 
 unfoldable pub plainTopology : trees-topology.TopologyAnswer → TopologyAnswer
 plainTopology a = record {

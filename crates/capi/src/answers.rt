@@ -1,5 +1,13 @@
 // The answers as plain structs, laid out as in C.
 
+// The number; the first cell of the labels beyond an edge, and how many they are.
+#[repr(C)]
+pub struct BeyondAnswer {
+    pub refusal: u16,
+    pub start: u16,
+    pub labels: u16,
+}
+
 // The number; the node, or 0.
 #[repr(C)]
 pub struct CentreAnswer {

@@ -1,4 +1,5 @@
 // The exported functions. A slice is a pointer to its elements, then their number.
+use super::answers::BeyondAnswer;
 use super::answers::CentreAnswer;
 use super::answers::ClaimSumsAnswer;
 use super::answers::QuartetTableAnswer;
@@ -11,6 +12,7 @@ use quartets::split_counts;
 use trees::Topology;
 use trees::centre;
 use trees::check;
+use trees::part_beyond;
 use trees::refusal_of;
 use trees::topology_of;
 use trees::walk;
@@ -19,16 +21,16 @@ ghost use lib.ListN.{length};
 ghost use Rattle.trees.specs.Refusals.{refusal};
 ghost use Rattle.trees.specs.TreeCheck.{treeOrder};
 ghost use Rattle.trees.specs.Orders.{walkOrder};
-ghost use Rattle.trees.specs.Walk.{afterWalk};
+ghost use Rattle.trees.specs.Walk.{afterWalk, placeBeyond};
 ghost use Rattle.trees.specs.Centre.{centreAnswer};
 ghost use Rattle.trees.specs.Topology.{topologyAnswer};
-ghost use Rattle.tree_pairs.specs.PairOrder.{pairOrder};
+ghost use Rattle.pair_check.specs.PairOrder.{pairOrder};
 ghost use Rattle.tree_pairs.specs.Crossings.{afterCrossings};
 ghost use Rattle.tree_pairs.specs.SplitAnswer.{splitAnswer};
 ghost use Rattle.claims.specs.SumsOf.{claimAnswer};
 ghost use Rattle.quartets.specs.QuartetAnswer.{DemandThree, quartetAnswer};
-ghost use Rattle.capi.specs.PlainAnswers.{plainCentre, plainTopology, plainClaims, plainTable, plainSplits};
-ghost use Rattle.capi.specs.PlainAnswers.{libraryTable};
+ghost use Rattle.capi.specs.PlainAnswers.{plainBeyond, plainCentre, plainTopology, plainClaims};
+ghost use Rattle.capi.specs.PlainAnswers.{plainTable, libraryTable, plainSplits};
 
 // The tree check's number.
 #[no_mangle]
@@ -47,6 +49,19 @@ pub extern "C" fn leskwyn_walk(table: &[u16], cells: &mut [u16]) -> u16
         ⌝ }
 {
     walk(table, cells)
+}
+
+// Where the labels beyond an edge stand in a walk of so many cells, by position alone.
+#[no_mangle]
+pub extern "C" fn leskwyn_beyond(table: &[u16], edge: u16, cells: usize) -> BeyondAnswer
+    ensures { λ r. ⌜ r ≡ plainBeyond (placeBeyond (now (table .entry)) edge cells) ⌝ }
+{
+    let part = part_beyond(table, edge, cells);
+    BeyondAnswer {
+        refusal: part.refusal,
+        start: part.start,
+        labels: part.labels,
+    }
 }
 
 // The centre of three labels.

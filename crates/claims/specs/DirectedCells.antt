@@ -6,15 +6,15 @@ use mathlib.Core.Bool.{Bool, true, false, not, _&&_}
 use mathlib.Core.List.{List}
 use Prim.Native.Nat.{ℕ, zero, suc, _+_, _*_, _-_, _/_, _≤_, _<_}
 use native.Mathlib.Omega.{arith}
-use lib.ListN.{length, drop, length-append, length-drop}
+use lib.ListN.{length}
 use Rattle.sums.specs.Sum.{sum-cong, sum-add, sum-const}
 use Rattle.sums.specs.Bits.{bit, bit-not}
 use Rattle.sums.specs.Counts.{count, count-le}
 use Rattle.shapes.specs.Directions.{behind-even, behind-odd}
 use Rattle.trees.specs.Table.{Table, word, tips, nodes, parent, nodeOf, beyond}
 use Rattle.counting.specs.ClaimSums.{behindEdge, size, crossing}
-use Rattle.tree_pairs.specs.PairOrder.{IsPair, cellsNeeded}
-use Rattle.tree_pairs.specs.Crossings.{edgeCrossing, crossed, inOrder, cellOf, in-order-length, cell-of-edges}
+use Rattle.pair_check.specs.PairOrder.{PairWithCells}
+use Rattle.tree_pairs.specs.Crossings.{edgeCrossing, crossed, crossed-length, cell-of-edges}
 use Rattle.tree_pairs.specs.SplitCells.{row-cell, column-cell}
 use Rattle.claims.specs.CodeCells.{childCell, ownCell, codeCell, Crossed}
 use Rattle.claims.specs.CodeSizes.{codeSize}
@@ -130,7 +130,7 @@ pub record NodeCodes (k d : ℕ) (c : ℕ → ℕ) : Type 0 where
   pub children : (i : ℕ) → 1 ≤ i → i < d → c i ≡ 2 * (c i / 2)
   pub inside : (i : ℕ) → i < d → c i / 2 < k
 
-module _ (t u : Table) (work : List ℕ) (p : IsPair t u (length work)) where
+module _ (t u : Table) (work : List ℕ) (p : PairWithCells t u (length work)) where
   cells : List ℕ
   cells = crossed t u work
 
@@ -144,11 +144,11 @@ module _ (t u : Table) (work : List ℕ) (p : IsPair t u (length work)) where
 
     row-is : word cells (j * w) ≡ edgeSize t j
     unfolding cells w
-    row-is = row-cell t u (p .first) (p .second) (p .same-tips) work j lj
+    row-is = row-cell t u (p .pair .first) (p .pair .second) (p .pair .same-tips) work j lj
 
     column-is : word cells k ≡ count (tips t) (beyond u (suc k))
     unfolding cells
-    column-is = column-cell t u (p .first) (p .second) (p .same-tips) work k lk
+    column-is = column-cell t u (p .pair .first) (p .pair .second) (p .pair .same-tips) work k lk
 
     at-both : word cells (j * w + k) ≡ crossing t u (2 * j) (2 * k)
     at-both = cell-is ∙ sym (both-rising t u j k)
@@ -190,13 +190,13 @@ module _ (t u : Table) (work : List ℕ) (p : IsPair t u (length work)) where
   unfolding codeSize cells w
   first-size d c h zero l =
       let j = c 0 / 2 in
-      let some = p .second .tips-range in
-      let many = p .second .nodes-range in
+      let some = p .pair .second .tips-range in
+      let many = p .pair .second .nodes-range in
       omega (arith, row-is j 0 (h .inside 0 l) (omega arith), size-falling t j) ∙ ap (size t) (sym (h .own))
   first-size d c h (suc i) l =
       let j = c (suc i) / 2 in
-      let some = p .second .tips-range in
-      let many = p .second .nodes-range in
+      let some = p .pair .second .tips-range in
+      let many = p .pair .second .nodes-range in
       row-is j 0 (h .inside (suc i) l) (omega arith)
       ∙ sym (size-rising t j)
       ∙ ap (size t) (sym (h .children (suc i) (omega arith) l))
@@ -204,11 +204,11 @@ module _ (t u : Table) (work : List ℕ) (p : IsPair t u (length work)) where
   -- .. those of the second are the first row
   column-size : (k : ℕ) → k < nodes u - 1 → word cells (k * 1) ≡ edgeSize u k
   column-size k l =
-      let some = p .first .tips-range in
-      let many = p .first .nodes-range in
+      let some = p .pair .first .tips-range in
+      let many = p .pair .first .nodes-range in
       ap (word cells) (once k)
       ∙ column-is 0 k (omega arith) l
-      ∙ ap (λ (n : ℕ). count n (beyond u (suc k))) (p .same-tips)
+      ∙ ap (λ (n : ℕ). count n (beyond u (suc k))) (p .pair .same-tips)
     where
       once : (k : ℕ) → k * 1 ≡ k
       once k = omega arith
@@ -218,7 +218,7 @@ module _ (t u : Table) (work : List ℕ) (p : IsPair t u (length work)) where
   unfolding codeSize cells
   second-size d c h zero l =
       let k = c 0 / 2 in
-      omega (arith, column-size k (h .inside 0 l), size-falling u k, p .same-tips) ∙ ap (size u) (sym (h .own))
+      omega (arith, column-size k (h .inside 0 l), size-falling u k, p .pair .same-tips) ∙ ap (size u) (sym (h .own))
   second-size d c h (suc i) l =
       let k = c (suc i) / 2 in
       column-size k (h .inside (suc i) l)
@@ -227,26 +227,16 @@ module _ (t u : Table) (work : List ℕ) (p : IsPair t u (length work)) where
 
   -- ---- what the code asks of the cells
 
-  long : length cells ≡ length work
-  unfolding cells crossed
-  long = omega (
-    arith,
-    length-append (inOrder (cellsNeeded t u) (cellOf t u)) (drop (cellsNeeded t u) work),
-    in-order-length (cellsNeeded t u) (cellOf t u),
-    length-drop (cellsNeeded t u) work,
-    p .room,
-  )
-
   pub crossed-cells : Crossed (crossed t u work) (nodes t - 1) (nodes u - 1) (tips t)
   unfolding cells w
   crossed-cells =
-      let few = p .first .tips-range in
-      let rows = p .first .nodes-range in
-      let same = p .same-tips in
-      let columns = p .second .nodes-range in record {
+      let few = p .pair .first .tips-range in
+      let rows = p .pair .first .nodes-range in
+      let same = p .pair .same-tips in
+      let columns = p .pair .second .nodes-range in record {
         rows-few = omega arith;
         narrow = omega arith;
-        inside = omega (arith, long, p .room);
+        inside = omega (arith, crossed-length t u work (p .room), p .room);
         tips-few = few .1;
         in-row = λ j k lj lk. omega (arith, cell-is j k lj lk, row-is j k lj lk, first-rising t u j k);
         in-column = λ j k lj lk. omega (arith, cell-is j k lj lk, column-is j k lj lk, second-rising t u j k);

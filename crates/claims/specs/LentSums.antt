@@ -5,50 +5,41 @@ use mathlib.Core.List.{List}
 use Prim.Native.Nat.{ℕ, _+_, _-_, _≤_}
 use native.Mathlib.Omega.{arith}
 use lib.ListN.{length}
-use Rattle.trees.specs.Table.{Table, word, tips, nodes, parents, to-parts, of-parts}
-use Rattle.trees.specs.Refusals.{refusal, if-accepted}
-use Rattle.tree_pairs.specs.PairOrder.{IsPair, pairOrder}
+use Rattle.trees.specs.Table.{Table, tips, nodes, parents, to-parts, of-parts}
+use Rattle.pair_check.specs.PairOrder.{PairWithCells}
+use Rattle.pair_check.specs.PairOutcomes.{edges-some}
 use Rattle.tree_pairs.specs.Crossings.{crossed, afterCrossings}
-use Rattle.tree_pairs.specs.LentTables.{lentParents, lent-tips, lent-nodes, pair-accepted}
+use Rattle.tree_pairs.specs.LentTables.{lentParents, crossings-are}
 use Rattle.claims.specs.declared.totals.ClaimSums.{ClaimSums}
 use Rattle.claims.specs.SumsOf.{Summable, summed, summable, claimAnswer, claims-accepted}
 
--- the number and the cells after `crossings`
-module _ (t u : Table) (work new : List ℕ) (number : ℕ) (e : number ≡ refusal (pairOrder t u (length work)))
-    (w : new ≡ afterCrossings t u work) (z : number ≡ 0) where
-  pub pair : IsPair t u (length work)
-  pair = pair-accepted t u (length work) number e z
+-- the nodes of a table, from its edges
+pub nodes-are : (t u : Table) (cells : ℕ) → PairWithCells t u cells → (rows columns : ℕ) → rows ≡ nodes t - 1
+    → columns ≡ nodes u - 1 → (rows + 1 ≡ nodes t) × (columns + 1 ≡ nodes u)
+nodes-are t u cells p rows columns er ec =
+    (omega (arith, edges-some t (p .pair .first)), omega (arith, edges-some u (p .pair .second)))
 
-  -- both tables have their first words and their parents
-  pub lent-words : (m k : ℕ) → m ≡ word t 1 → k ≡ word u 1
-      → (2 ≤ length t) × (2 ≤ length u) × (2 + m ≤ length t) × (2 + k ≤ length u)
-  unfolding nodes
-  lent-words m k em ek = (
-    omega (arith, pair .first .words),
-    omega (arith, pair .second .words),
-    omega (arith, pair .first .words, em),
-    omega (arith, pair .second .words, ek),
-  )
+-- both tables have their parents
+pub lent-words : (t u : Table) (cells : ℕ) → PairWithCells t u cells → (m k : ℕ) → m ≡ nodes t → k ≡ nodes u
+    → (2 + m ≤ length t) × (2 + k ≤ length u)
+lent-words t u cells p m k em ek =
+    (omega (arith, p .pair .first .words), omega (arith, p .pair .second .words))
 
-  are-crossed : new ≡ crossed t u work
-  unfolding afterCrossings
-  are-crossed = w ∙ if-accepted _ _ _ (sym e ∙ z)
+-- the cells of a pair, after its crossings were written
+module _ (t u : Table) (work new : List ℕ) (p : PairWithCells t u (length work)) (w : new ≡ afterCrossings t u work)
+    (n m k : ℕ) (en : n ≡ tips t) (em : m ≡ nodes t) (ek : k ≡ nodes u) where
+  pub lent-summable : Summable new n (lentParents t m) (lentParents u k)
+  lent-summable =
+      subst (λ (c : List ℕ). Summable c n (lentParents t m) (lentParents u k)) (sym (crossings-are t u work new p w))
+      (to-parts (λ x ps ls. Summable (crossed t u work) x ps (lentParents u k)) t n m (p .pair .first .words) en em
+      (to-parts (λ x qs ls. Summable (crossed t u work) (tips t) (parents t) qs) u (tips u) k (p .pair .second .words)
+      refl ek (summable t u work p)))
 
-  module _ (n m k : ℕ) (en : n ≡ word t 0) (em : m ≡ word t 1) (ek : k ≡ word u 1) where
-    pub lent-summable : Summable new n (lentParents t m) (lentParents u k)
-    lent-summable =
-        subst (λ (c : List ℕ). Summable c n (lentParents t m) (lentParents u k)) (sym are-crossed)
-        (to-parts (λ x ps ls. Summable (crossed t u work) x ps (lentParents u k)) t n m (pair .first .words)
-        (lent-tips t n en) (lent-nodes t m em)
-        (to-parts (λ x qs ls. Summable (crossed t u work) (tips t) (parents t) qs) u (tips u) k (pair .second .words)
-        refl (lent-nodes u k ek) (summable t u work pair)))
-
-    pub lent-claims : (r : ClaimSums) → r ≡ summed new n (lentParents t m) (lentParents u k)
-        → r ≡ claimAnswer t u (length work)
-    lent-claims r q =
-        of-parts (λ x qs ls. r ≡ summed (crossed t u work) (tips t) (parents t) qs) u (tips u) k (pair .second .words)
-        refl (lent-nodes u k ek)
-        (of-parts (λ x ps ls. r ≡ summed (crossed t u work) x ps (lentParents u k)) t n m (pair .first .words)
-        (lent-tips t n en) (lent-nodes t m em)
-        (subst (λ (c : List ℕ). r ≡ summed c n (lentParents t m) (lentParents u k)) are-crossed q))
-        ∙ claims-accepted t u work pair (sym e ∙ z)
+  pub lent-claims : (r : ClaimSums) → r ≡ summed new n (lentParents t m) (lentParents u k)
+      → r ≡ claimAnswer t u (length work)
+  lent-claims r q =
+      of-parts (λ x qs ls. r ≡ summed (crossed t u work) (tips t) (parents t) qs) u (tips u) k (p .pair .second .words)
+      refl ek
+      (of-parts (λ x ps ls. r ≡ summed (crossed t u work) x ps (lentParents u k)) t n m (p .pair .first .words) en em
+      (subst (λ (c : List ℕ). r ≡ summed c n (lentParents t m) (lentParents u k)) (crossings-are t u work new p w) q))
+      ∙ claims-accepted t u work p

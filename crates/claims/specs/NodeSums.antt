@@ -17,7 +17,7 @@ use Rattle.counting.specs.ClaimSums.{size, crossing, S, S2, S3}
 use Rattle.counting.specs.Degrees.{sizes-most}
 use Rattle.counting.specs.NodePairSums.{nodeTerm, pairTermS2, pairTermS3}
 use Rattle.counting.specs.NodePairSums.{S-over-nodes, S2-over-node-pairs, S3-over-node-pairs, cells-most}
-use Rattle.tree_pairs.specs.PairOrder.{IsPair}
+use Rattle.pair_check.specs.PairOrder.{PairWithCells}
 use Rattle.tree_pairs.specs.Crossings.{crossed}
 use Rattle.claims.specs.CodeCells.{codeCell}
 use Rattle.claims.specs.CodeSizes.{codeSize}
@@ -60,12 +60,12 @@ sizes-few d s l = apart-few d _ l
 
 -- ---- these are the claim sums
 
-module _ (t u : Table) (work : List ℕ) (p : IsPair t u (length work)) where
+module _ (t u : Table) (work : List ℕ) (p : PairWithCells t u (length work)) where
   g : IsTree t
-  g = p .first
+  g = p .pair .first
 
   h : IsTree u
-  h = p .second
+  h = p .pair .second
 
   -- the first tree's nodes
   first-node : (v : ℕ) → v < nodes t
@@ -168,4 +168,4 @@ module _ (t u : Table) (work : List ℕ) (p : IsPair t u (length work)) where
       ≤ tips t
   cells-whole v v' l m l' m' = rw (
       sum-ext _ _ _ (λ i li. sum-ext _ _ _ (λ j lj. pair-cells v v' l m l' m' i j li lj)))
-      (cells-most t u (treeCodes t g) (treeCodes u h) g h (p .same-tips) v v' m m')
+      (cells-most t u (treeCodes t g) (treeCodes u h) g h (p .pair .same-tips) v v' m m')

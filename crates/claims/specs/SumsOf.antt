@@ -12,7 +12,8 @@ use Rattle.trees.specs.Refusals.{refusal, ifAccepted}
 use Rattle.trees.specs.IsTree.{IsTree}
 use Rattle.counting.specs.ClaimSums.{S, S2, S3}
 use Rattle.counting.specs.QuartetTheorem.{quartet-theorem}
-use Rattle.tree_pairs.specs.PairOrder.{IsPair, pairOrder}
+use Rattle.pair_check.specs.PairOrder.{PairWithCells, pairOrder}
+use Rattle.pair_check.specs.PairCheck.{pair-check}
 use Rattle.tree_pairs.specs.Crossings.{crossed}
 use Rattle.claims.specs.declared.totals.ClaimSums.{ClaimSums}
 use Rattle.claims.specs.CodeCells.{Crossed, codeCell, row-start}
@@ -145,12 +146,12 @@ summed-is work n ps qs a b c d ea eb ec ed = rw (ea, eb, ec, ed) refl
 
 -- ---- of two tables
 
-module _ (t u : Table) (work : List ℕ) (p : IsPair t u (length work)) where
+module _ (t u : Table) (work : List ℕ) (p : PairWithCells t u (length work)) where
   g : IsTree t
-  g = p .first
+  g = p .pair .first
 
   h : IsTree u
-  h = p .second
+  h = p .pair .second
 
   long : length (parents t) ≡ nodes t
   long = parents-length t (g .words)
@@ -174,7 +175,7 @@ module _ (t u : Table) (work : List ℕ) (p : IsPair t u (length work)) where
       let few = g .tips-range in
       let many = g .nodes-range in
       let more = h .nodes-range in
-      let same = p .same-tips in
+      let same = p .pair .same-tips in
       let q = quartet-theorem t u g h same in record {
         first = tree-parents t g;
         second = tree-parents u h;
@@ -198,11 +199,10 @@ module _ (t u : Table) (work : List ℕ) (p : IsPair t u (length work)) where
   halved a b e = omega arith
 
   -- the sums are the published ones
-  pub claims-accepted : refusal (pairOrder t u (length work)) ≡ 0
-      → summed (crossed t u work) (tips t) (parents t) (parents u) ≡ claimAnswer t u (length work)
+  pub claims-accepted : summed (crossed t u work) (tips t) (parents t) (parents u) ≡ claimAnswer t u (length work)
   unfolding summed claimAnswer
-  claims-accepted z = rw (
-    z,
+  claims-accepted = rw (
+    pair-check t u (length work) .1 p,
     long',
     halved _ _ (first-sum t u work p),
     halved _ _ (rw long' at (second-sum t u work p)),

@@ -3,8 +3,9 @@ use super::code_lists::code_starts;
 use super::code_lists::edge_list;
 use super::node_sums::tree_sum;
 use super::pair_sums::pair_sums;
-use super::words::wide;
-use tree_pairs::crossings;
+use pair_check::CheckedPair;
+use pair_check::pair_refusal;
+use tree_pairs::cross_pair;
 ghost use mathlib.Core.Path.{_≡_};
 ghost use lib.ListN.{length};
 ghost use Rattle.tree_pairs.specs.Crossings.{afterCrossings};
@@ -56,17 +57,22 @@ pub fn claim_sums(first: &[u16], second: &[u16], work: &mut [u16]) -> ClaimSums
         × (now (work .exit) ≡ afterCrossings (now (first .entry)) (now (second .entry)) (now (work .entry)))
         ⌝ }
 {
-    let number = crossings(first, second, work);
-    if number != 0 {
+    let answer = cross_pair(first, second, work);
+    let CheckedPair::Pair {
+        tips,
+        rows,
+        columns,
+    } = answer
+    else {
         return ClaimSums {
-            refusal: number,
+            refusal: pair_refusal(answer),
             first: 0,
             second: 0,
             same: 0,
             different: 0,
         };
-    }
-    let m = wide(first[1]);
-    let k = wide(second[1]);
-    sums_of(&first[2..2 + m], &second[2..2 + k], work, first[0])
+    };
+    let m = rows + 1;
+    let k = columns + 1;
+    sums_of(&first[2..2 + m], &second[2..2 + k], work, tips)
 }

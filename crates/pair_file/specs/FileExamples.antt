@@ -21,7 +21,7 @@ use Rattle.trees.specs.Topology.{butterfly, partner, named, topology}
 use Rattle.counting.specs.ClaimSums.{codes, behindEdge, size, crossing, S, S2, S3}
 use Rattle.counting.specs.Cases.{caseOf, caseNumber, isCase, quartets}
 use Rattle.counting.specs.SplitCounts.{splits, commonSplits, robinsonFoulds}
-use Rattle.tree_pairs.specs.PairOrder.{plus, bothOrder, pairOrder}
+use Rattle.pair_check.specs.PairOrder.{plus, tipsOrder, tablesOrder, workOrder, pairOrder}
 use Rattle.pair_file.specs.PairFile.{fileWords, firstLength, firstTable, secondTable, wordsOrder, fileOrder}
 use Rattle.pair_file.specs.PairFile.{figuresOf, comparison}
 use Rattle.pair_file.specs.ListingExamples.{ofPAndQ}
@@ -45,7 +45,7 @@ bytesOfQ =
 pub comparison-of-P-and-Q : comparison (bytesOfP ++ bytesOfQ) ≡ ofPAndQ
 unfolding
     comparison figuresOf fileOrder wordsOrder fileWords firstTable secondTable firstLength refusal ifAccepted
-    pairOrder bothOrder plus treeOrder arraysOrder tipsFit nodesFit parentFits labelFits standing labelsFit
+    pairOrder tablesOrder tipsOrder workOrder plus treeOrder arraysOrder tipsFit nodesFit parentFits labelFits standing labelsFit
     isChild children misplaced
     S S2 S3 codes behindEdge size crossing sumClaims sumClaimsOf sumIf meet choose2 quartets isCase caseNumber
     caseOf splits commonSplits robinsonFoulds splitsOf commonOf isSplit sameSides occurs
@@ -64,6 +64,6 @@ pub edges-of-a-file :
     ≡ 1 ∷ 15 ∷ 4 ∷ 101 ∷ 104 ∷ []
 unfolding
     fileOrder wordsOrder fileWords firstTable secondTable firstLength refusal
-    pairOrder bothOrder plus treeOrder arraysOrder tipsFit nodesFit parentFits labelFits standing labelsFit
+    pairOrder tablesOrder tipsOrder workOrder plus treeOrder arraysOrder tipsFit nodesFit parentFits labelFits standing labelsFit
     isChild children misplaced sum bit some every tips nodes parents labels parent label
 edges-of-a-file = refl

@@ -12,8 +12,10 @@ use Rattle.trees.specs.Table.{Table, tips}
 use Rattle.trees.specs.Refusals.{refusal}
 use Rattle.trees.specs.IsTree.{IsTree}
 use Rattle.trees.specs.TreeCheck.{treeOrder, tree-check}
-use Rattle.tree_pairs.specs.PairOrder.{pairOrder, cellsNeeded, tree-refusal-most}
-use Rattle.tree_pairs.specs.PairOrder.{first-refused, second-refused, tips-differ, pair-kept}
+use Rattle.pair_check.specs.PairOrder.{tablesOrder, pairOrder, cellsNeeded}
+use Rattle.pair_check.specs.PairCheck.{tables-check, tree-refusal-most}
+use Rattle.pair_check.specs.PairOutcomes.{first-refused, second-refused, tips-differ, tables-accepted}
+use Rattle.pair_check.specs.PairOutcomes.{tables-refused, pair-kept}
 use Rattle.pair_file.specs.PairFile.{fileWords, firstTable, secondTable, wordsOrder, fileOrder}
 use Rattle.pair_file.specs.FileWords.{words-length, tables-length}
 use Rattle.pair_file.specs.FileOrder.{too-long, odd-length, even-length}
@@ -37,24 +39,28 @@ product-most k a b l = elim (decLe a k) [
 cells-enough : (t u : Table) → IsTree t → IsTree u → length t + length u ≤ 508 → cellsNeeded t u ≤ 15625
 cells-enough t u g h l = product-most 125 _ _ (omega (arith, g .words, h .words))
 
-module _ (t u : Table) (few : length t + length u ≤ 508) where
-  never-both : IsTree t → IsTree u → refusal (pairOrder t u 15625) ≢ 9
-  never-both g h z = elim (ℕ-discrete (tips t) (tips u)) [
-    | yes e ↦ omega (arith, z, pair-kept t u 15625 g h e (cells-enough t u g h few))
-    | no d ↦ omega (arith, z, tips-differ t u 15625 g h d)
+-- 9 is no number of two tables alone
+tables-never-nine : (t u : Table) → refusal (tablesOrder t u) ≢ 9
+tables-never-nine t u z = elim (ℕ-discrete (refusal (treeOrder t)) 0) [
+  | yes e ↦ elim (ℕ-discrete (refusal (treeOrder u)) 0) [
+    | yes f ↦ both (tree-check t .0 e) (tree-check u .0 f)
+    | no d ↦ omega (arith, z, second-refused t u (tree-check t .0 e) _ refl d)
   ]
+  | no d ↦ omega (arith, z, first-refused t u _ refl d, tree-refusal-most t)
+]
+  where
+    both : IsTree t → IsTree u → ⊥
+    both g h = elim (ℕ-discrete (tips t) (tips u)) [
+      | yes e ↦ omega (arith, z, tables-accepted t u g h e)
+      | no d ↦ omega (arith, z, tips-differ t u g h d)
+    ]
 
-  never-second : IsTree t → refusal (pairOrder t u 15625) ≢ 9
-  never-second g z = elim (ℕ-discrete (refusal (treeOrder u)) 0) [
-    | yes e ↦ never-both g (tree-check u .0 e) z
-    | no d ↦ omega (arith, z, second-refused t u 15625 g _ refl d)
-  ]
-
-  never-pair : refusal (pairOrder t u 15625) ≢ 9
-  never-pair z = elim (ℕ-discrete (refusal (treeOrder t)) 0) [
-    | yes e ↦ never-second (tree-check t .0 e) z
-    | no d ↦ omega (arith, z, first-refused t u 15625 _ refl d, tree-refusal-most t)
-  ]
+never-pair : (t u : Table) → length t + length u ≤ 508 → refusal (pairOrder t u 15625) ≢ 9
+never-pair t u few z = elim (ℕ-discrete (refusal (tablesOrder t u)) 0) [
+  | yes e ↦ (let p = tables-check t u .0 e in
+      omega (arith, z, pair-kept t u 15625 p (cells-enough t u (p .first) (p .second) few)))
+  | no d ↦ tables-never-nine t u (sym (tables-refused t u 15625 _ refl d) ∙ z)
+]
 
 -- '9 never occurs here with 15625 cells.'
 pub never-nine : (bytes : List ℕ) → refusal (fileOrder bytes) ≢ 9

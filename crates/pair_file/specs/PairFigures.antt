@@ -6,12 +6,13 @@ use mathlib.Core.List.{List}
 use Prim.Native.Nat.{ℕ, zero, suc, _+_, _%_, _≤_, _<_}
 use native.Mathlib.Omega.{arith}
 use lib.ListN.{length, take}
-use Rattle.trees.specs.Table.{Table, word, tips, rest}
+use Rattle.trees.specs.Table.{Table, tips, rest}
 use Rattle.trees.specs.Refusals.{refusal, ifAccepted}
 use Rattle.counting.specs.ClaimSums.{S, S2, S3}
 use Rattle.counting.specs.Cases.{A, B, C, D, E, quartets}
 use Rattle.counting.specs.SplitCounts.{splits, commonSplits, robinsonFoulds}
-use Rattle.tree_pairs.specs.PairOrder.{pairOrder, pair-check}
+use Rattle.pair_check.specs.PairOrder.{PairWithCells, pairOrder}
+use Rattle.pair_check.specs.PairCheck.{pair-check}
 use Rattle.tree_pairs.specs.SplitAnswer.{splitAnswer}
 use Rattle.tree_pairs.specs.SplitAnswer as split_counts
 use Rattle.tree_pairs.specs.declared.counts.SplitCounts.{SplitCounts}
@@ -87,27 +88,16 @@ figures-answered t u = refl
 
 -- ---- as the code finds them
 
-module _ (t u : Table) (sums : ClaimSums) (e : sums ≡ claimAnswer t u 15625) where
-  own-number : sums .refusal ≡ refusal (pairOrder t u 15625)
-  unfolding claimAnswer claim_sums.answer
-  own-number = ap (λ (x : ClaimSums). x .refusal) e
+pub pair-refused : (t u : Table) (k : ℕ) → k ≡ refusal (pairOrder t u 15625) → k ≢ 0 → ofRefusal k ≡ pairFigures t u
+unfolding pairFigures
+pair-refused t u k e d = figures-refused k t u d ∙ ap (λ (j : ℕ). figuresOf j t u) e
 
-  pub pair-refused : sums .refusal ≢ 0 → ofRefusal (sums .refusal) ≡ pairFigures t u
-  unfolding pairFigures
-  pair-refused d = figures-refused (sums .refusal) t u d ∙ ap (λ (k : ℕ). figuresOf k t u) own-number
-
-  module _ (z : sums .refusal ≡ 0) where
-    number : refusal (pairOrder t u 15625) ≡ 0
-    number = sym own-number ∙ z
-
-    -- an accepted table has a first word
-    pub first-word : 1 ≤ length t
-    first-word = omega (arith, pair-check t u 15625 .0 number .first .words)
-
-    pub pair-accepted : (cases : QuartetTable) (counts : SplitCounts) → cases ≡ quartetAnswer t u 15625
-        → counts ≡ splitAnswer t u 15625 → answered (word t 0) sums cases counts ≡ pairFigures t u
-    unfolding pairFigures claimAnswer quartetAnswer splitAnswer tips
-    pair-accepted cases counts ec es = rw (e, ec, es, number) (figures-answered t u)
+pub pair-accepted : (t u : Table) → PairWithCells t u 15625 → (n : ℕ) (sums : ClaimSums) (cases : QuartetTable)
+    (counts : SplitCounts) → n ≡ tips t → sums ≡ claimAnswer t u 15625 → cases ≡ quartetAnswer t u 15625
+    → counts ≡ splitAnswer t u 15625 → answered n sums cases counts ≡ pairFigures t u
+unfolding pairFigures claimAnswer quartetAnswer splitAnswer
+pair-accepted t u p n sums cases counts en e ec es =
+    rw (en, e, ec, es, pair-check t u 15625 .1 p) (figures-answered t u)
 
 -- ---- a whole file
 

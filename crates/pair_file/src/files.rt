@@ -5,6 +5,9 @@ use super::figures::Quartets;
 use super::figures::Splits;
 use super::words::decode;
 use super::words::first_length;
+use pair_check::CheckedPair;
+use pair_check::check_work;
+use pair_check::pair_refusal;
 use quartets::ClaimSums;
 use quartets::QuartetTable;
 use quartets::SplitCounts;
@@ -18,11 +21,14 @@ ghost use Rattle.quartets.specs.QuartetAnswer.{quartetAnswer};
 ghost use Rattle.pair_file.specs.PairFile.{comparison};
 ghost use Rattle.pair_file.specs.PairFigures.{ofRefusal, pairFigures, wordFigures};
 
+// The cells lent to each operation: enough for any two trees of one file, so that 9 never occurs.
+const CELLS: usize = 15625;
+
 // The claim sums, with work of their own.
 fn claims_of(first: &[u16], second: &[u16]) -> ClaimSums
     ensures { λ r. ⌜ r ≡ claimAnswer (now (first .entry)) (now (second .entry)) 15625 ⌝ }
 {
-    let mut work = [0u16; 15625];
+    let mut work = [0u16; CELLS];
     claim_sums(first, second, &mut work)
 }
 
@@ -30,7 +36,7 @@ fn claims_of(first: &[u16], second: &[u16]) -> ClaimSums
 fn quartets_of(first: &[u16], second: &[u16]) -> QuartetTable
     ensures { λ r. ⌜ r ≡ quartetAnswer (now (first .entry)) (now (second .entry)) 15625 ⌝ }
 {
-    let mut work = [0u16; 15625];
+    let mut work = [0u16; CELLS];
     quartet_table(first, second, &mut work)
 }
 
@@ -38,7 +44,7 @@ fn quartets_of(first: &[u16], second: &[u16]) -> QuartetTable
 fn splits_of(first: &[u16], second: &[u16]) -> SplitCounts
     ensures { λ r. ⌜ r ≡ splitAnswer (now (first .entry)) (now (second .entry)) 15625 ⌝ }
 {
-    let mut work = [0u16; 15625];
+    let mut work = [0u16; CELLS];
     split_counts(first, second, &mut work)
 }
 
@@ -76,16 +82,21 @@ fn refused(number: u16) -> Figures
 fn compare_tables(first: &[u16], second: &[u16]) -> Figures
     ensures { λ r. ⌜ r ≡ pairFigures (now (first .entry)) (now (second .entry)) ⌝ }
 {
+    let answer = check_work(first, second, CELLS);
+    let CheckedPair::Pair {
+        tips,
+        rows: _,
+        columns: _,
+    } = answer
+    else {
+        return refused(pair_refusal(answer));
+    };
     let sums = claims_of(first, second);
-    let number = sums.refusal;
-    if number != 0 {
-        return refused(number);
-    }
     let cases = quartets_of(first, second);
     let counts = splits_of(first, second);
     Figures {
         refusal: 0,
-        tips: first[0],
+        tips,
         claims: Claims {
             first: sums.first,
             second: sums.second,

@@ -2,18 +2,18 @@
 -- Assumes nothing.
 use mathlib.Core.Path.{_≡_, refl, sym, _∙_, ap, subst}
 use mathlib.Core.Logic.{_≢_, _↔_}
-use Prim.Native.Nat.{ℕ, zero, suc, _+_, _-_, _/_, _%_, _≤_}
+use Prim.Native.Nat.{ℕ, zero, suc, _+_, _*_, _-_, _/_, _%_, _≤_}
 use native.Mathlib.Omega.{arith}
-use lib.ListN.{length}
 use Rattle.sums.specs.Fours.{fours}
-use Rattle.trees.specs.Table.{Table, word, tips}
+use Rattle.trees.specs.Table.{Table, tips}
 use Rattle.trees.specs.Refusals.{refusal, ifAccepted}
 use Rattle.counting.specs.ClaimSums.{S, S2, S3}
 use Rattle.counting.specs.Cases.{A, B, C, D, E, quartets}
 use Rattle.counting.specs.QuartetTable.{formulaA, formulaB, formulaC, formulaD, formulaE, formulaDistance}
 use Rattle.counting.specs.SplitCounts.{HaveSameSplits}
 use Rattle.counting.specs.QuartetTheorem.{QuartetTheorem, quartet-theorem}
-use Rattle.tree_pairs.specs.PairOrder.{IsPair, pairOrder, pair-check}
+use Rattle.pair_check.specs.PairOrder.{PairWithCells, pairOrder}
+use Rattle.pair_check.specs.PairCheck.{pair-check}
 use Rattle.claims.specs.declared.totals.ClaimSums.{ClaimSums}
 use Rattle.claims.specs.SumsOf.{claimAnswer}
 use Rattle.claims.specs.SumsOf as claims
@@ -47,26 +47,33 @@ pub record DemandThree (t u : Table) (cells : ℕ) (r : QuartetTable) : Type 0 w
   pub number : r .refusal ≡ refusal (pairOrder t u cells)
   pub refused : r .refusal ≢ 0 → (r .a ≡ 0) × (r .b ≡ 0) × (r .c ≡ 0) × (r .d ≡ 0) × (r .e ≡ 0) × (r .distance ≡ 0)
   -- 'the quartet table is formed by its five formulas from the four claim sums and the number of tips alone'
-  pub formulas : IsPair t u cells
+  pub formulas : PairWithCells t u cells
       → (r .a ≡ formulaA (S2 t u))
       × (r .b ≡ formulaB (S3 t u))
       × (r .c ≡ formulaC (S t) (S2 t u) (S3 t u))
       × (r .d ≡ formulaD (S u) (S2 t u) (S3 t u))
       × (r .e ≡ formulaE (tips t) (S t) (S u) (S2 t u) (S3 t u))
   -- 'each of A to E equals the number of four-tip sets whose topologies put them in that case'
-  pub counts : IsPair t u cells
+  pub counts : PairWithCells t u cells
       → (r .a ≡ quartets t u A)
       × (r .b ≡ quartets t u B)
       × (r .c ≡ quartets t u C)
       × (r .d ≡ quartets t u D)
       × (r .e ≡ quartets t u E)
-  -- 'Every division leaves nothing over'
-  pub exact : IsPair t u cells → (S t % 2 ≡ 0) × (S u % 2 ≡ 0) × (S2 t u % 2 ≡ 0) × (S3 t u % 4 ≡ 0)
+  -- 'Every division leaves nothing over': the halves, the quarter, and all sets of four by 24
+  pub exact : PairWithCells t u cells
+      → (S t % 2 ≡ 0) × (S u % 2 ≡ 0) × (S2 t u % 2 ≡ 0) × (S3 t u % 4 ≡ 0)
+      × (tips t * (tips t - 1) * (tips t - 2) * (tips t - 3) % 24 ≡ 0)
+  -- 'nothing wraps up to 256 tips': the sums and the counts are at most these, and nothing is cut off at 0
+  pub fits : PairWithCells t u cells
+      → (S t ≤ 349585280) × (S u ≤ 349585280) × (S2 t u ≤ 349585280) × (S3 t u ≤ 699170560)
+      × (r .a ≤ 174792640) × (r .b ≤ 174792640) × (r .c ≤ 174792640) × (r .d ≤ 174792640) × (r .e ≤ 174792640)
+      × (r .a + r .b ≤ S t / 2) × (r .a + r .b ≤ S u / 2) × (r .a + r .b + r .c + r .d ≤ fours (tips t))
   -- 'the five add up to all sets of four'
-  pub total : IsPair t u cells → r .a + r .b + r .c + r .d + r .e ≡ fours (tips t)
+  pub total : PairWithCells t u cells → r .a + r .b + r .c + r .d + r .e ≡ fours (tips t)
   -- 'the distance B + C + D is zero exactly when the trees have the same splits'
-  pub distance : IsPair t u cells → r .distance ≡ r .b + r .c + r .d
-  pub zero-distance : IsPair t u cells → (r .distance ≡ 0) ↔ HaveSameSplits t u
+  pub distance : PairWithCells t u cells → r .distance ≡ r .b + r .c + r .d
+  pub zero-distance : PairWithCells t u cells → (r .distance ≡ 0) ↔ HaveSameSplits t u
 
 -- ---- the answer has all of it
 
@@ -76,7 +83,7 @@ unfolding answer ifAccepted
 accepted-answer a b c d e f = refl
 
 module _ (t u : Table) (cells : ℕ) where
-  accepted : IsPair t u cells → quartetAnswer t u cells ≡ record {
+  accepted : PairWithCells t u cells → quartetAnswer t u cells ≡ record {
     refusal = 0;
     a = quartets t u A;
     b = quartets t u B;
@@ -88,8 +95,8 @@ module _ (t u : Table) (cells : ℕ) where
   unfolding quartetAnswer
   accepted p = rw (pair-check t u cells .1 p) (accepted-answer _ _ _ _ _ _)
 
-  q : IsPair t u cells → QuartetTheorem t u
-  q p = quartet-theorem t u (p .first) (p .second) (p .same-tips)
+  q : PairWithCells t u cells → QuartetTheorem t u
+  q p = quartet-theorem t u (p .pair .first) (p .pair .second) (p .pair .same-tips)
 
   zeros : (k a b c d e f : ℕ) → k ≢ 0
       → (answer k a b c d e f .a ≡ 0) × (answer k a b c d e f .b ≡ 0) × (answer k a b c d e f .c ≡ 0)
@@ -101,6 +108,9 @@ module _ (t u : Table) (cells : ℕ) where
   own-number : (k a b c d e f : ℕ) → answer k a b c d e f .refusal ≡ k
   unfolding answer
   own-number k a b c d e f = refl
+
+  multiple : (x y : ℕ) → 24 * x ≡ y → y % 24 ≡ 0
+  multiple x y e = omega arith
 
   pub demand-three : DemandThree t u cells (quartetAnswer t u cells)
   unfolding quartetAnswer
@@ -115,7 +125,21 @@ module _ (t u : Table) (cells : ℕ) where
       sym (h .E-counts),
     ));
     counts = λ p. rw (accepted p) (refl, refl, refl, refl, refl);
-    exact = λ p. let h = q p in (h .S-even, h .S'-even, h .S2-even, h .S3-fourfold);
+    exact = λ p. let h = q p in (h .S-even, h .S'-even, h .S2-even, h .S3-fourfold, multiple _ _ (h .all-exact));
+    fits = λ p. rw (accepted p) (let h = q p in (
+      h .S-most,
+      h .S'-most,
+      h .S2-most,
+      h .S3-most,
+      h .count-most A,
+      h .count-most B,
+      h .count-most C,
+      h .count-most D,
+      h .count-most E,
+      omega (arith, h .C-fits, h .A-counts, h .B-counts),
+      omega (arith, h .D-fits, h .A-counts, h .B-counts),
+      omega (arith, h .E-fits, h .A-counts, h .B-counts, h .C-counts, h .D-counts),
+    ));
     total = λ p. rw (accepted p) (let h = q p in omega (
       arith,
       h .total,
@@ -173,86 +197,67 @@ table-formed n s s' s2 s3 all e = rw e refl
 
 -- ---- from the claim sums
 
-sums-number : (k a b c d : ℕ) → claims.answer k a b c d .refusal ≡ k
-unfolding claims.answer
-sums-number k a b c d = refl
-
 sums-kept : (k a b c d : ℕ) → k ≡ 0 → (claims.answer k a b c d .first ≡ a) × (claims.answer k a b c d .second ≡ b)
     × (claims.answer k a b c d .same ≡ c) × (claims.answer k a b c d .different ≡ d)
 unfolding claims.answer ifAccepted
 sums-kept zero a b c d z = (refl, refl, refl, refl)
 sums-kept (suc k) a b c d z = absurd (omega arith)
 
-module _ (t u : Table) (cells : ℕ) (r : ClaimSums) (e : r ≡ claimAnswer t u cells) where
-  pub sums-refusal : r .refusal ≡ refusal (pairOrder t u cells)
+-- the claim sums of a pair
+module _ (t u : Table) (cells : ℕ) (p : PairWithCells t u cells) (r : ClaimSums) (e : r ≡ claimAnswer t u cells)
+    (n : ℕ) (en : n ≡ tips t) where
+  h : QuartetTheorem t u
+  h = q t u cells p
+
+  sums-are : (r .first ≡ S t) × (r .second ≡ S u) × (r .same ≡ S2 t u) × (r .different ≡ S3 t u)
   unfolding claimAnswer
-  sums-refusal = ap (λ (x : ClaimSums). x .refusal) e ∙ sums-number _ _ _ _ _
+  sums-are =
+      let k = sums-kept (refusal (pairOrder t u cells)) (S t) (S u) (S2 t u) (S3 t u) (pair-check t u cells .1 p) in (
+        ap (λ (x : ClaimSums). x .first) e ∙ k .0,
+        ap (λ (x : ClaimSums). x .second) e ∙ k .1,
+        ap (λ (x : ClaimSums). x .same) e ∙ k .2,
+        ap (λ (x : ClaimSums). x .different) e ∙ k .3,
+      )
 
-  module _ (z : r .refusal ≡ 0) where
-    pub sums-pair : IsPair t u cells
-    sums-pair = pair-check t u cells .0 (sym sums-refusal ∙ z)
-
-    sums-are : (r .first ≡ S t) × (r .second ≡ S u) × (r .same ≡ S2 t u) × (r .different ≡ S3 t u)
-    unfolding claimAnswer
-    sums-are =
-        let k = sums-kept (refusal (pairOrder t u cells)) (S t) (S u) (S2 t u) (S3 t u) (sym sums-refusal ∙ z) in (
-          ap (λ (x : ClaimSums). x .first) e ∙ k .0,
-          ap (λ (x : ClaimSums). x .second) e ∙ k .1,
-          ap (λ (x : ClaimSums). x .same) e ∙ k .2,
-          ap (λ (x : ClaimSums). x .different) e ∙ k .3,
-        )
-
-    pub sums-fit : (n : ℕ) → n ≡ word t 0 → TableFits n (r .first) (r .second) (r .same) (r .different)
-    unfolding tips
-    sums-fit n en =
-        let h = quartet-theorem t u (sums-pair .first) (sums-pair .second) (sums-pair .same-tips) in
-        let k = sums-are in
-        rw (en, k .0, k .1, k .2, k .3) (own h)
-      where
-        own : QuartetTheorem t u → TableFits (tips t) (S t) (S u) (S2 t u) (S3 t u)
-        own h = unfold formulaA formulaB formulaC in record {
-          tips-few = sums-pair .first .tips-range .1;
-          S-most = h .S-most;
-          S'-most = h .S'-most;
-          C-fits = h .C-fits;
-          D-fits = h .D-fits;
-          E-fits = h .E-fits;
-        }
-
-    -- the table that the formulas give is the table of counts
-    pub table-counts : (n : ℕ) → n ≡ word t 0
-        → formed n (r .first) (r .second) (r .same) (r .different) ≡ quartetAnswer t u cells
-    unfolding tips formed
-    table-counts n en =
-        let h = quartet-theorem t u (sums-pair .first) (sums-pair .second) (sums-pair .same-tips) in
-        let k = sums-are in
-        rw (en, k .0, k .1, k .2, k .3) (counted h)
-      where
-        counted : QuartetTheorem t u → formed (tips t) (S t) (S u) (S2 t u) (S3 t u) ≡ quartetAnswer t u cells
-        counted h =
-            rw (h .A-counts, h .B-counts, h .C-counts, h .D-counts, h .E-counts, h .distance-counts)
-            (sym (accepted t u cells sums-pair))
-
-  -- a refused pair
-  pub table-refused : (k : ℕ) → k ≡ r .refusal → k ≢ 0
-      → record { refusal = k; a = 0; b = 0; c = 0; d = 0; e = 0; distance = 0 } ≡ quartetAnswer t u cells
-  unfolding quartetAnswer
-  table-refused k ek d = go k d ∙ ap counted (ek ∙ sums-refusal)
+  pub sums-fit : TableFits n (r .first) (r .second) (r .same) (r .different)
+  sums-fit = let k = sums-are in rw (en, k .0, k .1, k .2, k .3) own
     where
-      counted : ℕ → QuartetTable
-      counted x = answer x
-          (quartets t u A) (quartets t u B) (quartets t u C) (quartets t u D) (quartets t u E)
-          (quartets t u B + quartets t u C + quartets t u D)
+      own : TableFits (tips t) (S t) (S u) (S2 t u) (S3 t u)
+      own = unfold formulaA formulaB formulaC in record {
+        tips-few = p .pair .first .tips-range .1;
+        S-most = h .S-most;
+        S'-most = h .S'-most;
+        C-fits = h .C-fits;
+        D-fits = h .D-fits;
+        E-fits = h .E-fits;
+      }
 
-      go : (k : ℕ) → k ≢ 0
-          → record { refusal = k; a = 0; b = 0; c = 0; d = 0; e = 0; distance = 0 } ≡ counted k
-      go zero d = absurd (d refl)
-      go (suc k) d = unfold answer ifAccepted in refl
+  -- the table that the formulas give is the table of counts
+  pub table-counts : formed n (r .first) (r .second) (r .same) (r .different) ≡ quartetAnswer t u cells
+  unfolding formed
+  table-counts = let k = sums-are in rw (en, k .0, k .1, k .2, k .3) counted
+    where
+      counted : formed (tips t) (S t) (S u) (S2 t u) (S3 t u) ≡ quartetAnswer t u cells
+      counted =
+          rw (h .A-counts, h .B-counts, h .C-counts, h .D-counts, h .E-counts, h .distance-counts)
+          (sym (accepted t u cells p))
+
+-- a refused pair
+pub table-refused : (t u : Table) (cells k : ℕ) → k ≡ refusal (pairOrder t u cells) → k ≢ 0
+    → record { refusal = k; a = 0; b = 0; c = 0; d = 0; e = 0; distance = 0 } ≡ quartetAnswer t u cells
+unfolding quartetAnswer
+table-refused t u cells k ek d = go k d ∙ ap counted ek
+  where
+    counted : ℕ → QuartetTable
+    counted x = answer x
+        (quartets t u A) (quartets t u B) (quartets t u C) (quartets t u D) (quartets t u E)
+        (quartets t u B + quartets t u C + quartets t u D)
+
+    go : (k : ℕ) → k ≢ 0
+        → record { refusal = k; a = 0; b = 0; c = 0; d = 0; e = 0; distance = 0 } ≡ counted k
+    go zero d = absurd (d refl)
+    go (suc k) d = unfold answer ifAccepted in refl
 
 -- whatever is the answer has all of demand 3
 pub answer-has : (t u : Table) (cells : ℕ) (r : QuartetTable) → r ≡ quartetAnswer t u cells → DemandThree t u cells r
 answer-has t u cells r e = subst (DemandThree t u cells) (sym e) (demand-three t u cells)
-
--- an accepted table has a first word
-pub first-word : (t u : Table) (cells : ℕ) → IsPair t u cells → 1 ≤ length t
-first-word t u cells p = omega (arith, p .first .words)

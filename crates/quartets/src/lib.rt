@@ -5,6 +5,10 @@ mod tables; // tables.rt: the quartet table of two trees
 
 pub use claims::ClaimSums;
 pub use claims::claim_sums;
+pub use pair_check::CheckedPair;
+pub use pair_check::check_pair;
+pub use pair_check::check_work;
+pub use pair_check::pair_refusal;
 pub use tables::QuartetTable;
 pub use tables::quartet_table;
 pub use tree_pairs::SplitCounts;

@@ -1,6 +1,9 @@
 // The quartet table of two trees.
 use super::fours::sets_of_four;
 use claims::claim_sums;
+use pair_check::CheckedPair;
+use pair_check::check_work;
+use pair_check::pair_refusal;
 ghost use mathlib.Core.Path.{_≡_};
 ghost use lib.ListN.{length};
 ghost use Rattle.tree_pairs.specs.Crossings.{afterCrossings};
@@ -63,11 +66,15 @@ pub fn quartet_table(first: &[u16], second: &[u16], work: &mut [u16]) -> Quartet
         × (now (work .exit) ≡ afterCrossings (now (first .entry)) (now (second .entry)) (now (work .entry)))
         ⌝ }
 {
-    let sums = claim_sums(first, second, work);
-    let number = sums.refusal;
-    if number != 0 {
+    let answer = check_work(first, second, work.len());
+    let CheckedPair::Pair {
+        tips,
+        rows: _,
+        columns: _,
+    } = answer
+    else {
         return QuartetTable {
-            refusal: number,
+            refusal: pair_refusal(answer),
             a: 0,
             b: 0,
             c: 0,
@@ -75,6 +82,7 @@ pub fn quartet_table(first: &[u16], second: &[u16], work: &mut [u16]) -> Quartet
             e: 0,
             distance: 0,
         };
-    }
-    form_table(sums.first, sums.second, sums.same, sums.different, first[0])
+    };
+    let sums = claim_sums(first, second, work);
+    form_table(sums.first, sums.second, sums.same, sums.different, tips)
 }

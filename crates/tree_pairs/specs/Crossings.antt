@@ -12,7 +12,7 @@ use lib.Seq.{ext-getD, getD-drop, getD-append-add}
 use Rattle.sums.specs.Counts.{count}
 use Rattle.trees.specs.Table.{Table, word, tips, nodes, beyond}
 use Rattle.trees.specs.Refusals.{refusal, ifAccepted}
-use Rattle.tree_pairs.specs.PairOrder.{cellsNeeded, pairOrder}
+use Rattle.pair_check.specs.PairOrder.{cellsNeeded, pairOrder}
 
 -- 'how many labels lie beyond both edge i of the first tree and edge j of the second'
 unfoldable pub edgeCrossing : Table → Table → ℕ → ℕ → ℕ
@@ -85,6 +85,16 @@ remainder i j w l =
 pub cell-inside : (i j m w : ℕ) → i < m → j < w → i * w + j < m * w
 cell-inside i j m w li lj =
     div-lt-iff-lt-mul {k = w} {x = i * w + j} {y = m} (omega arith) .0 (rw (quotient i j w lj) li)
+
+-- as many cells as before
+pub crossed-length : (t u : Table) (work : List ℕ) → cellsNeeded t u ≤ length work → length (crossed t u work) ≡ length work
+unfolding crossed
+crossed-length t u work l = omega (
+  arith,
+  length-append (inOrder (cellsNeeded t u) (cellOf t u)) (drop (cellsNeeded t u) work),
+  in-order-length (cellsNeeded t u) (cellOf t u),
+  length-drop (cellsNeeded t u) work,
+)
 
 -- ---- what a reader finds in the cells
 

@@ -1,4 +1,3 @@
-pub mod PairOrder
 pub mod Crossings
 pub mod PairExamples
 pub mod CrossingTotals

@@ -11,7 +11,7 @@ use Rattle.trees.specs.Refusals.{refusal}
 use Rattle.trees.specs.TreeCheck.{tipsFit, nodesFit, parentFits, labelFits, standing, labelsFit}
 use Rattle.trees.specs.TreeCheck.{isChild, children, misplaced, arraysOrder, treeOrder}
 use Rattle.trees.specs.Examples.{P, Q, TwoTips}
-use Rattle.tree_pairs.specs.PairOrder.{plus, bothOrder, pairOrder, cellsNeeded}
+use Rattle.pair_check.specs.PairOrder.{plus, tipsOrder, tablesOrder, workOrder, pairOrder, cellsNeeded}
 use Rattle.tree_pairs.specs.Crossings.{edgeCrossing, inOrder, cellOf}
 
 -- 'Work for P and Q: 41 cells give 9, 42 pass.' Then 8, a refused second table, and a refused first one
@@ -20,8 +20,8 @@ pub edges-of-a-pair :
     ∷ refusal (pairOrder P [] 0) ∷ refusal (pairOrder [] [] 0) ∷ []
     ≡ 9 ∷ 0 ∷ 8 ∷ 101 ∷ 1 ∷ []
 unfolding
-    refusal pairOrder bothOrder plus treeOrder arraysOrder tipsFit nodesFit parentFits labelFits standing labelsFit
-    isChild children misplaced sum bit some every tips nodes parents labels parent label
+    refusal pairOrder tablesOrder tipsOrder workOrder plus treeOrder arraysOrder tipsFit nodesFit parentFits
+    labelFits standing labelsFit isChild children misplaced sum bit some every tips nodes parents labels parent label
 edges-of-a-pair = refl
 
 -- P's edges have {1 2 3 4}, {1}, {2 3 4}, {2}, {3 4}, {3}, {4} beyond them, Q's {1 2 3 4}, {1}, {2 3 4}, {2}, {3},

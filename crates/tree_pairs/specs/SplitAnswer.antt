@@ -5,7 +5,7 @@ use mathlib.Core.Logic.{_≢_}
 use mathlib.Core.List.{List}
 use Prim.Native.Nat.{ℕ, zero, suc, _+_, _*_, _-_, _≤_}
 use native.Mathlib.Omega.{arith}
-use lib.ListN.{length, drop, length-append, length-drop}
+use lib.ListN.{length}
 use Rattle.sums.specs.Counts.{count-le}
 use Rattle.counting.specs.SplitCounts.{splits, commonSplits, robinsonFoulds}
 use Rattle.counting.specs.TreeSplits.{robinson-foulds-fits}
@@ -13,9 +13,9 @@ use Rattle.trees.specs.Table.{Table, word, tips, nodes}
 use Rattle.trees.specs.Refusals.{refusal, ifAccepted}
 use Rattle.trees.specs.IsTree.{IsTree}
 use Rattle.tree_pairs.specs.declared.counts.SplitCounts.{SplitCounts}
-use Rattle.tree_pairs.specs.PairOrder.{IsPair, pairOrder, cellsNeeded}
-use Rattle.tree_pairs.specs.Crossings.{crossed, inOrder, cellOf, in-order-length}
-use Rattle.tree_pairs.specs.LentTables.{lent-tips, lent-nodes}
+use Rattle.pair_check.specs.PairOrder.{PairWithCells, pairOrder}
+use Rattle.pair_check.specs.PairCheck.{pair-check}
+use Rattle.tree_pairs.specs.Crossings.{crossed, crossed-length}
 use Rattle.tree_pairs.specs.SplitCells.{rowSplits, columnSplits, commonRows}
 use Rattle.tree_pairs.specs.SplitCells.{row-splits, column-splits, common-rows}
 use Rattle.tree_pairs.specs.SplitLoops.{SplitRoom}
@@ -93,74 +93,56 @@ pub counted-is : (work : List ℕ) (rows width n a b c : ℕ) → a ≡ rowSplit
 unfolding counted
 counted-is work rows width n a b c ea eb ec = rw (ea, eb, ec)
 
--- a tree table has its two first words, and a node but node 0
-pub first-words : (t : Table) → IsTree t → (2 ≤ length t) × (2 ≤ word t 1)
-unfolding nodes
-first-words t g =
-    let n = g .tips-range in
-    let m = g .nodes-range in
-    (omega (arith, g .words), omega arith)
+-- the cells of a pair, and what the pair check tells of it
+module _ (t u : Table) (work : List ℕ) (h : PairWithCells t u (length work)) (n rows columns : ℕ)
+    (n-is : n ≡ tips t) (rows-is : rows ≡ nodes t - 1) (columns-is : columns ≡ nodes u - 1) where
+  g : IsTree t
+  g = h .pair .first
 
-module _ (t u : Table) (work : List ℕ) (h : IsPair t u (length work)) (n m k : ℕ)
-    (en : n ≡ word t 0) (em : m ≡ word t 1) (ek : k ≡ word u 1) where
-  n-is : n ≡ tips t
-  n-is = lent-tips t n en
+  k : IsTree u
+  k = h .pair .second
 
-  m-is : m ≡ nodes t
-  m-is = lent-nodes t m em
+  e : tips t ≡ tips u
+  e = h .pair .same-tips
 
-  k-is : k ≡ nodes u
-  k-is = lent-nodes u k ek
+  first-is : rowSplits n rows columns (crossed t u work) ≡ splits t
+  first-is = rw (n-is, rows-is, columns-is) (row-splits t u g k e work)
 
-  first-is : rowSplits n (m - 1) (k - 1) (crossed t u work) ≡ splits t
-  first-is = rw (n-is, m-is, k-is) (row-splits t u (h .first) (h .second) (h .same-tips) work)
+  second-is : columnSplits n columns (crossed t u work) ≡ splits u
+  second-is = rw (n-is, columns-is) (column-splits t u g k e work)
 
-  second-is : columnSplits n (k - 1) (crossed t u work) ≡ splits u
-  second-is = rw (n-is, k-is) (column-splits t u (h .first) (h .second) (h .same-tips) work)
+  common-is : commonRows n rows columns (crossed t u work) ≡ commonSplits t u
+  common-is = rw (n-is, rows-is, columns-is) (common-rows t u g k e work)
 
-  common-is : commonRows n (m - 1) (k - 1) (crossed t u work) ≡ commonSplits t u
-  common-is = rw (n-is, m-is, k-is) (common-rows t u (h .first) (h .second) (h .same-tips) work)
-
-  long : length (crossed t u work) ≡ length work
-  unfolding crossed
-  long = omega (
-    arith,
-    length-append (inOrder (cellsNeeded t u) (cellOf t u)) (drop (cellsNeeded t u) work),
-    in-order-length (cellsNeeded t u) (cellOf t u),
-    length-drop (cellsNeeded t u) work,
-    h .room,
-  )
-
-  pub split-cells : SplitsCountable (crossed t u work) (m - 1) (k - 1) n
+  pub split-cells : SplitsCountable (crossed t u work) rows columns n
   split-cells =
-      let few = h .first .tips-range in
-      let rows = h .first .nodes-range in
-      let columns = h .second .nodes-range in
-      let more = h .second .tips-range in
+      let few = g .tips-range in
+      let some-rows = g .nodes-range in
+      let some-columns = k .nodes-range in
+      let more = k .tips-range in
       record {
         room = record {
-          few = omega (arith, m-is);
-          narrow = omega (arith, k-is);
-          some = omega (arith, k-is);
-          inside = rw (m-is, k-is, long) (h .room);
+          few = omega (arith, rows-is);
+          narrow = omega (arith, columns-is);
+          some = omega (arith, columns-is);
+          inside = rw (rows-is, columns-is, crossed-length t u work (h .room)) (h .room);
           tips = omega (arith, n-is);
         };
-        some = omega (arith, m-is);
+        some = omega (arith, rows-is);
         few = omega (
           arith,
-          row-splits-most n (m - 1) (k - 1) (crossed t u work),
-          column-splits-most n (k - 1) (crossed t u work),
-          m-is,
-          k-is,
+          row-splits-most n rows columns (crossed t u work),
+          column-splits-most n columns (crossed t u work),
+          rows-is,
+          columns-is,
         );
-        fits = rw (first-is, second-is, common-is) (robinson-foulds-fits t u (h .first) (h .second) (h .same-tips));
+        fits = rw (first-is, second-is, common-is) (robinson-foulds-fits t u g k e);
       }
 
-  pub split-accepted : refusal (pairOrder t u (length work)) ≡ 0
-      → counted (crossed t u work) (m - 1) (k - 1) n ≡ splitAnswer t u (length work)
+  pub split-accepted : counted (crossed t u work) rows columns n ≡ splitAnswer t u (length work)
   unfolding counted splitAnswer robinsonFoulds
-  split-accepted z =
+  split-accepted =
       let d = splits t + splits u - 2 * commonSplits t u in
       rw (first-is, second-is, common-is) (
       accepted-answer (splits t) (splits u) (commonSplits t u) d
-      ∙ ap (λ (x : ℕ). answer x (splits t) (splits u) (commonSplits t u) d) (sym z))
+      ∙ ap (λ (x : ℕ). answer x (splits t) (splits u) (commonSplits t u) d) (sym (pair-check t u (length work) .1 h)))

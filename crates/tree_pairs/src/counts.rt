@@ -1,10 +1,11 @@
 // The split counts of two trees.
-use super::crosses::fill;
-use super::pairs::pair_refusal;
+use super::crosses::cross_pair;
 use super::splits::column_splits;
 use super::splits::common_rows;
 use super::splits::row_splits;
 use super::words::wide;
+use pair_check::CheckedPair;
+use pair_check::pair_refusal;
 ghost use mathlib.Core.Path.{_≡_};
 ghost use lib.ListN.{length};
 ghost use Rattle.tree_pairs.specs.Crossings.{afterCrossings};
@@ -43,21 +44,20 @@ pub fn split_counts(first: &[u16], second: &[u16], work: &mut [u16]) -> SplitCou
         × (now (work .exit) ≡ afterCrossings (now (first .entry)) (now (second .entry)) (now (work .entry)))
         ⌝ }
 {
-    let number = pair_refusal(first, second, work.len());
-    if number != 0 {
+    let answer = cross_pair(first, second, work);
+    let CheckedPair::Pair {
+        tips,
+        rows,
+        columns,
+    } = answer
+    else {
         return SplitCounts {
-            refusal: number,
+            refusal: pair_refusal(answer),
             first: 0,
             second: 0,
             common: 0,
             distance: 0,
         };
-    }
-    fill(first, second, work);
-    count_splits(
-        work,
-        wide(first[1]) - 1,
-        wide(second[1]) - 1,
-        wide(first[0]),
-    )
+    };
+    count_splits(work, rows, columns, wide(tips))
 }

@@ -2,14 +2,17 @@
 use super::marks::clear;
 use super::marks::nodes_of;
 use super::marks::tip_rows;
-use super::pairs::pair_refusal;
 use super::rows::add_rows;
 use super::words::wide;
+use pair_check::CheckedPair;
+use pair_check::check_work;
+use pair_check::pair_refusal;
 ghost use mathlib.Core.Path.{_≡_};
 ghost use lib.ListN.{length};
 ghost use Rattle.trees.specs.Table.{tableOf};
 ghost use Rattle.trees.specs.Refusals.{refusal};
-ghost use Rattle.tree_pairs.specs.PairOrder.{IsPair, pairOrder};
+ghost use Rattle.pair_check.specs.PairOrder.{PairWithCells, pairOrder};
+ghost use Rattle.pair_check.specs.CheckedPair.{checkedWork, Told};
 ghost use Rattle.tree_pairs.specs.Crossings.{crossed, afterCrossings};
 ghost use Rattle.tree_pairs.specs.Filling.{PairArrays};
 
@@ -39,7 +42,7 @@ fn fill_arrays(
 
 // The crossings of two tables that were checked, into their cells.
 pub(crate) fn fill(first: &[u16], second: &[u16], work: &mut [u16])
-    requires { ⌜ IsPair (now first) (now second) (length (now work)) ⌝ }
+    requires { ⌜ PairWithCells (now first) (now second) (length (now work)) ⌝ }
     ensures { λ _. ⌜
         now (work .exit) ≡ crossed (now (first .entry)) (now (second .entry)) (now (work .entry))
         ⌝ }
@@ -57,6 +60,22 @@ pub(crate) fn fill(first: &[u16], second: &[u16], work: &mut [u16])
     );
 }
 
+// The crossings in the lent cells, and the pair that they are of: a pair call with work goes on from here.
+pub fn cross_pair(first: &[u16], second: &[u16], work: &mut [u16]) -> CheckedPair
+    ensures { λ r. ⌜
+        (r ≡ checkedWork (now (first .entry)) (now (second .entry)) (length (now (work .entry))))
+        × Told (refusal (pairOrder (now (first .entry)) (now (second .entry)) (length (now (work .entry)))))
+        (now (first .entry)) (now (second .entry)) r
+        × (now (work .exit) ≡ afterCrossings (now (first .entry)) (now (second .entry)) (now (work .entry)))
+        ⌝ }
+{
+    let answer = check_work(first, second, work.len());
+    if pair_refusal(answer) == 0 {
+        fill(first, second, work);
+    }
+    answer
+}
+
 // How many labels lie beyond both edge i of the first tree and edge j of the second, in cell
 // (i - 1)(m' - 1) + (j - 1). The two trees may be one slice.
 pub fn crossings(first: &[u16], second: &[u16], work: &mut [u16]) -> u16
@@ -65,9 +84,14 @@ pub fn crossings(first: &[u16], second: &[u16], work: &mut [u16]) -> u16
         × (now (work .exit) ≡ afterCrossings (now (first .entry)) (now (second .entry)) (now (work .entry)))
         ⌝ }
 {
-    let number = pair_refusal(first, second, work.len());
-    if number == 0 {
-        fill(first, second, work);
-    }
-    number
+    let answer = cross_pair(first, second, work);
+    let CheckedPair::Pair {
+        tips: _,
+        rows: _,
+        columns: _,
+    } = answer
+    else {
+        return pair_refusal(answer);
+    };
+    0
 }

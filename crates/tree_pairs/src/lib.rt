@@ -1,7 +1,6 @@
 // Two tree tables: crossings and split counts. Every public function takes any words in slices of any length, and
 // answers in full or refuses with one number.
 mod words; // words.rt: words as indices
-mod pairs; // pairs.rt: two tables and the lent work cells, checked
 mod marks; // marks.rt: the rows of the first tree's tips
 mod rows; // rows.rt: rows added up the first tree
 mod crosses; // crosses.rt: the crossing counts of two trees
@@ -10,4 +9,5 @@ mod counts; // counts.rt: the split counts of two trees
 
 pub use counts::SplitCounts;
 pub use counts::split_counts;
+pub use crosses::cross_pair;
 pub use crosses::crossings;

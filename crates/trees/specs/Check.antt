@@ -1,13 +1,13 @@
 -- What the tree check answers.
 -- Assumes nothing.
-use mathlib.Core.Path.{_≡_, refl, sym, _∙_, ap}
+use mathlib.Core.Path.{_≡_, refl, sym, _∙_, ap, subst}
 use mathlib.Core.Logic.{_≢_}
 use Prim.Native.Nat.{ℕ, zero, suc}
 use native.Mathlib.Omega.{arith}
 use Rattle.trees.specs.declared.table.Checked.{Checked}
 use Rattle.trees.specs.declared.table.Checked.the-variants.{Tree, Refused}
 use Rattle.trees.specs.Table.{Table, word, tips, nodes}
-use Rattle.trees.specs.Refusals.{refusal}
+use Rattle.trees.specs.Refusals.{refusal, ifAccepted}
 use Rattle.trees.specs.IsTree.{IsTree}
 use Rattle.trees.specs.TreeCheck.{treeOrder, tree-check}
 
@@ -32,7 +32,28 @@ abbrev pub nodesOf : Checked → ℕ
 nodesOf (Tree n m) = m
 nodesOf (Refused k) = 0
 
+-- an answer tells the tree check's number, and n and m or zeros
+pub record Told (t : Table) (r : Checked) : Type 0 where
+  pub number-told : numberOf r ≡ refusal (treeOrder t)
+  pub tips-told : tipsOf r ≡ ifAccepted (refusal (treeOrder t)) (tips t) 0
+  pub nodes-told : nodesOf r ≡ ifAccepted (refusal (treeOrder t)) (nodes t) 0
+
 -- ---- the two answers
+
+verdict-told : (k : ℕ) (t : Table)
+    → (numberOf (verdict k t) ≡ k) × (tipsOf (verdict k t) ≡ ifAccepted k (tips t) 0)
+    × (nodesOf (verdict k t) ≡ ifAccepted k (nodes t) 0)
+unfolding verdict ifAccepted
+verdict-told zero t = (refl, refl, refl)
+verdict-told (suc k) t = (refl, refl, refl)
+
+-- an answer, and what it tells
+pub answered : (t : Table) (r : Checked) → r ≡ checked t → (r ≡ checked t) × Told t r
+answered t r e = (e, subst (Told t) (sym e) own)
+  where
+    own : Told t (checked t)
+    own = unfold checked in let h = verdict-told (refusal (treeOrder t)) t in
+        record { number-told = h .0; tips-told = h .1; nodes-told = h .2 }
 
 pub number-of-checked : (t : Table) → numberOf (checked t) ≡ refusal (treeOrder t)
 unfolding checked verdict

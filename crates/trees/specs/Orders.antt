@@ -15,13 +15,17 @@ use Rattle.trees.specs.Refusals.{refusal-first, refusal-kept}
 use Rattle.trees.specs.IsTree.{IsTree}
 use Rattle.trees.specs.TreeCheck.{treeOrder, tree-numbered, tree-kept, kept-tree}
 
--- 'Tree, then 12: the lent walk is shorter than n.'
+-- '12: the lent walk is shorter than n'
+abbrev pub roomOrder : ℕ → ℕ → List Rule
+roomOrder cells n = (12, ltb cells n) ∷ []
+
+-- 'Tree, then 12'
 unfoldable pub walkOrder : Table → ℕ → List Rule
-walkOrder t cells = treeOrder t ++ (12, ltb cells (tips t)) ∷ []
+walkOrder t cells = treeOrder t ++ roomOrder cells (tips t)
 
 -- 'Tree, then 13: the edge is 0 or at least m; then 12.'
 unfoldable pub edgeOrder : Table → ℕ → ℕ → List Rule
-edgeOrder t i cells = treeOrder t ++ (13, eqb i 0 || leb (nodes t) i) ∷ (12, ltb cells (tips t)) ∷ []
+edgeOrder t i cells = treeOrder t ++ (13, eqb i 0 || leb (nodes t) i) ∷ roomOrder cells (tips t)
 
 -- '10: a label is n or more'
 unfoldable pub tooLarge : ℕ → List ℕ → Bool
@@ -82,6 +86,12 @@ module _ (t : Table) (rs : List Rule) where
   -- an accepted tree goes on to the rules that follow
   pub tree-accepted : IsTree t → refusal (treeOrder t ++ rs) ≡ refusal rs
   tree-accepted g = refusal-kept (treeOrder t) rs (tree-kept t g)
+
+pub room-check : (cells n : ℕ) → (refusal (roomOrder cells n) ≡ 0) ↔ (n ≤ cells)
+room-check cells n =
+    let a = accepted (roomOrder cells n) (omega arith, tt) in
+    let s = not-lt-iff cells n in
+    (λ e. s .0 (a .0 e .0), λ l. a .1 (s .1 l, tt))
 
 pub walk-check : (t : Table) (cells : ℕ) → (refusal (walkOrder t cells) ≡ 0) ↔ (IsTree t × (tips t ≤ cells))
 unfolding walkOrder

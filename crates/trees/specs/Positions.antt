@@ -15,7 +15,7 @@ use Rattle.shapes.specs.Ancestors.{Rooted, parent-lt}
 use Rattle.shapes.specs.Totals.{total, Added, total-ext, added-none, added-all, added-le, added-next}
 use Rattle.trees.specs.Table.{Table, word, tips, nodes, parent, label, tableOf, tips-of, nodes-of}
 use Rattle.trees.specs.Arrays.{TreeArrays, parent-is, label-is, few-tips, few-nodes, rooted-parents}
-use Rattle.trees.specs.Walk.{below, start, own, part}
+use Rattle.trees.specs.Walk.{below, start, own, placed}
 use Rattle.trees.specs.Subtrees.{own-length, below-total}
 use Rattle.trees.specs.WalkLaws.{start-zero, part-fits}
 use Rattle.trees.specs.Reach.{reach, reach-start, reach-new, reach-hit, reach-other, reach-end, reach-le}
@@ -275,12 +275,11 @@ module _ (n : ℕ) (ps ls : List ℕ) (a : TreeArrays n ps ls) (size end : List 
     tips-of n ps ls,
   )
 
-  pub part-between : (w : List ℕ) → take (word end i - (word end i - word size i)) (drop (word end i - word size i) w)
-      ≡ part (tableOf n ps ls) i w
-  unfolding part
-  part-between w =
-      let s : word end i - (word end i - word size i) ≡ below (tableOf n ps ls) i =
-      omega (arith, part-bounds, z .sizes i node) in
-      let f : word end i - word size i ≡ start (tableOf n ps ls) i =
-      omega (arith, z .sizes i node, e .ends i node) in
-      ap₂ (λ (x y : ℕ). take x (drop y w)) s f
+  -- the place, from the size and the end
+  pub place-between : (k from : ℕ) → k ≡ word size i → from ≡ word end i - k
+      → record { refusal = 0; start = from; labels = k } ≡ placed (tableOf n ps ls) i
+  unfolding placed
+  place-between k from ek ef =
+      let s : k ≡ below (tableOf n ps ls) i = ek ∙ z .sizes i node in
+      let f : from ≡ start (tableOf n ps ls) i = omega (arith, s, e .ends i node) in
+      rw (f, s) refl

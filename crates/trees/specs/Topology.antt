@@ -1,10 +1,12 @@
 -- The topology of four labels in a tree table.
 -- Assumes nothing.
+use mathlib.Core.Path.{_≡_}
 use mathlib.Core.Bool.{Bool, true, false}
+use mathlib.Core.Logic.{_≢_}
 use mathlib.Core.List.{[], _∷_}
 use Prim.Native.Nat.{ℕ, _-_, min, max}
 use lib.Dec.{ltb}
-use Rattle.shapes.specs.Quartets.{parted}
+use Rattle.shapes.specs.Quartets.{Parted, parted}
 use Rattle.trees.specs.declared.quartet.Topology.{Topology}
 use Rattle.trees.specs.declared.quartet.Topology.the-variants.{Butterfly, Star}
 use Rattle.trees.specs.declared.quartet.TopologyAnswer.{TopologyAnswer}
@@ -37,3 +39,35 @@ unfoldable pub topologyAnswer : Table → ℕ → ℕ → ℕ → ℕ → Topolo
 topologyAnswer t a b c d =
     let number = refusal (labelOrder t (a ∷ b ∷ c ∷ d ∷ [])) in
     record { refusal = number; topology = ifAccepted number (topology t a b c d) Star }
+
+-- ---- document 01's numbers and values of each case
+
+-- 1 for a butterfly, 0 for a star
+abbrev pub butterflyOf : Topology → ℕ
+butterflyOf (Butterfly p) = 1
+butterflyOf Star = 0
+
+-- 'A butterfly names the partner of the smallest label; a star names nobody': 0
+abbrev pub partnerOf : Topology → ℕ
+partnerOf (Butterfly p) = p
+partnerOf Star = 0
+
+-- some edge has a, b on one side and c, d on the other
+abbrev pub PartedIn : Table → ℕ → ℕ → ℕ → ℕ → Type 0
+PartedIn t a b c d = Parted (parent t) (nodes t - 1) (nodeOf t a) (nodeOf t b) (nodeOf t c) (nodeOf t d)
+
+-- what an answer tells of the edges
+pub record Told (t : Table) (a b c d : ℕ) (r : TopologyAnswer) : Type 0 where
+  pub number-told : r .refusal ≡ refusal (labelOrder t (a ∷ b ∷ c ∷ d ∷ []))
+  -- 'A refused call gives .. star for a topology'
+  pub refused : r .refusal ≢ 0 → (butterflyOf (r .topology) ≡ 0) × (partnerOf (r .topology) ≡ 0)
+  -- 'the butterfly ab|cd if some edge has a, b on one side and c, d on the other'
+  pub with-b : r .refusal ≡ 0 → PartedIn t a b c d
+      → (butterflyOf (r .topology) ≡ 1) × (partnerOf (r .topology) ≡ partner a b c d)
+  pub with-c : r .refusal ≡ 0 → PartedIn t a c b d
+      → (butterflyOf (r .topology) ≡ 1) × (partnerOf (r .topology) ≡ partner a c b d)
+  pub with-d : r .refusal ≡ 0 → PartedIn t a d b c
+      → (butterflyOf (r .topology) ≡ 1) × (partnerOf (r .topology) ≡ partner a d b c)
+  -- 'They are a star if no edge parts them two and two.'
+  pub star : r .refusal ≡ 0 → (PartedIn t a b c d → ⊥) → (PartedIn t a c b d → ⊥) → (PartedIn t a d b c → ⊥)
+      → (butterflyOf (r .topology) ≡ 0) × (partnerOf (r .topology) ≡ 0)

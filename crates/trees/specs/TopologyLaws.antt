@@ -6,27 +6,15 @@ use mathlib.Core.Logic.{_≢_, Ne·symm, _↔_, Iff·rfl}
 use Prim.Native.Nat.{ℕ, _-_, _≤_, _<_}
 use native.Mathlib.Omega.{arith}
 use lib.Dec.{T}
-use Rattle.shapes.specs.Quartets.{Parted, parted-iff, parted-swap-left, parted-swap-right, parted-turn}
+use Rattle.shapes.specs.FourLabels.{Four}
+use Rattle.shapes.specs.Quartets.{parted-iff, parted-swap-left, parted-swap-right, parted-turn}
 use Rattle.shapes.specs.Quartets.{AtMostOne, none, first, second, third, one-pairing}
 use Rattle.trees.specs.declared.quartet.Topology.the-variants.{Butterfly, Star}
 use Rattle.trees.specs.Table.{Table, tips, nodes, parent, nodeOf}
 use Rattle.trees.specs.IsTree.{IsTree, rooted}
-use Rattle.trees.specs.Topology.{butterfly, partner, named, topology}
+use Rattle.trees.specs.Topology.{butterfly, partner, named, topology, PartedIn}
 use Rattle.trees.specs.Partners.{partner-swap-left, partner-swap-right, partner-turn, partner-apart}
 use Rattle.trees.specs.Sides.{sides, pairing, apart-shown}
-
--- four different labels
-pub record Four (n a b c d : ℕ) : Type 0 where
-  pub la : a < n
-  pub lb : b < n
-  pub lc : c < n
-  pub ld : d < n
-  pub ab : a ≢ b
-  pub ac : a ≢ c
-  pub ad : a ≢ d
-  pub bc : b ≢ c
-  pub bd : b ≢ d
-  pub cd : c ≢ d
 
 -- ---- the three tests
 
@@ -36,10 +24,6 @@ pub one-butterfly : (t : Table) → IsTree t → (a b c d : ℕ)
 unfolding butterfly
 one-butterfly t g a b c d =
     one-pairing (parent t) (rooted t g) (nodes t - 1) (nodeOf t a) (nodeOf t b) (nodeOf t c) (nodeOf t d)
-
--- some edge has a, b on one side and c, d on the other
-abbrev pub PartedIn : Table → ℕ → ℕ → ℕ → ℕ → Type 0
-PartedIn t a b c d = Parted (parent t) (nodes t - 1) (nodeOf t a) (nodeOf t b) (nodeOf t c) (nodeOf t d)
 
 butterfly-parted : (t : Table) (a b c d : ℕ) → T (butterfly t a b c d) ↔ PartedIn t a b c d
 unfolding butterfly
@@ -89,7 +73,7 @@ passed-named false true z p q r pq pr e = pq (cc)
 passed-named false false true p q r pq pr e = pr (cc)
 passed-named false false false p q r pq pr e = not-star p (sym e)
 
-parted-butterfly : (t : Table) (a b c d : ℕ) → PartedIn t a b c d
+pub parted-butterfly : (t : Table) (a b c d : ℕ) → PartedIn t a b c d
     → topology t a b c d ≡ Butterfly (partner a b c d)
 unfolding topology
 parted-butterfly t a b c d h = named-passed _ _ _ _ _ _ (butterfly-parted t a b c d .1 h)
@@ -171,6 +155,18 @@ any-order t g a b c d f (first-two r) =
 any-order t g a b c d f (middle r) = order-middle t g _ _ _ _ ∙ any-order t g a b c d f r
 any-order t g a b c d f (last-two r) = order-last-two t g _ _ _ _ ∙ any-order t g a b c d f r
 
+-- ---- what an answer tells
+
+-- the second pairing is parted, and the third
+pub parted-with-c : (t : Table) → IsTree t → (a b c d : ℕ) → PartedIn t a c b d
+    → topology t a b c d ≡ Butterfly (partner a c b d)
+parted-with-c t g a b c d h = order-middle t g a c b d ∙ parted-butterfly t a c b d h
+
+pub parted-with-d : (t : Table) → IsTree t → (a b c d : ℕ) → PartedIn t a d b c
+    → topology t a b c d ≡ Butterfly (partner a d b c)
+parted-with-d t g a b c d h =
+    order-last-two t g a b d c ∙ order-middle t g a d b c ∙ parted-butterfly t a d b c h
+
 -- ---- edge by edge
 
 -- an edge that shows a pairing settles the topology
@@ -182,15 +178,12 @@ shown-first t g a b c d i l m e =
 pub shown-second : (t : Table) → IsTree t → (a b c d i : ℕ) → 1 ≤ i → i < nodes t
     → pairing (sides t i a b c d) ≡ 2 → topology t a b c d ≡ Butterfly (partner a c b d)
 shown-second t g a b c d i l m e =
-    order-middle t g a c b d
-    ∙ parted-butterfly t a c b d (i, l, omega arith, apart-shown t i a b c d .1 .0 e)
+    parted-with-c t g a b c d (i, l, omega arith, apart-shown t i a b c d .1 .0 e)
 
 pub shown-third : (t : Table) → IsTree t → (a b c d i : ℕ) → 1 ≤ i → i < nodes t
     → pairing (sides t i a b c d) ≡ 3 → topology t a b c d ≡ Butterfly (partner a d b c)
 shown-third t g a b c d i l m e =
-    order-last-two t g a b d c
-    ∙ order-middle t g a d b c
-    ∙ parted-butterfly t a d b c (i, l, omega arith, apart-shown t i a b c d .2 .0 e)
+    parted-with-d t g a b c d (i, l, omega arith, apart-shown t i a b c d .2 .0 e)
 
 -- edges that show none leave a star
 pub shown-none : (t : Table) (a b c d : ℕ)

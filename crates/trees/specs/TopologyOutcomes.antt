@@ -1,6 +1,6 @@
 -- What the topology's answer is, as its code finds it.
 -- Assumes nothing.
-use mathlib.Core.Path.{_≡_, refl, sym, _∙_, ap}
+use mathlib.Core.Path.{_≡_, refl, sym, _∙_, ap, subst}
 use mathlib.Core.List.{List, [], _∷_}
 use mathlib.Core.Logic.{_≢_}
 use Prim.Native.Nat.{ℕ, zero, suc, _<_}
@@ -13,9 +13,10 @@ use Rattle.trees.specs.Table.{parents-length, labels-length}
 use Rattle.trees.specs.Refusals.{refusal, ifAccepted, if-accepted, if-refused}
 use Rattle.trees.specs.IsTree.{IsTree}
 use Rattle.trees.specs.TreeCheck.{treeOrder}
-use Rattle.trees.specs.Orders.{askedOrder, labelOrder, tree-refused, tree-accepted}
-use Rattle.trees.specs.Topology.{topology, topologyAnswer}
+use Rattle.trees.specs.Orders.{askedOrder, labelOrder, tree-refused, tree-accepted, label-check}
+use Rattle.trees.specs.Topology.{topology, topologyAnswer, butterflyOf, partnerOf, Told}
 use Rattle.trees.specs.Sides.{sides, pairing, pairing-le, SidesAre, Shown, topologyShown}
+use Rattle.trees.specs.TopologyLaws.{star-iff, parted-butterfly, parted-with-c, parted-with-d}
 use Rattle.trees.specs.TopologyLaws.{shown-first, shown-second, shown-third, shown-none}
 
 abbrev told : ℕ → Topology → TopologyAnswer
@@ -78,3 +79,36 @@ module _ (t : Table) (a b c d : ℕ) where
       topology-found e k s =
           answered 0 (topologyShown k a b c d) (tree-accepted t _ g ∙ e)
           (if-accepted 0 (topology t a b c d) Star refl ∙ sym (topology-shown k s))
+
+-- ---- what the answer tells
+
+module _ (t : Table) (a b c d : ℕ) where
+  number : ℕ
+  number = refusal (labelOrder t (a ∷ b ∷ c ∷ d ∷ []))
+
+  told-refused : (k : ℕ) (x : Topology) → k ≢ 0
+      → (butterflyOf (ifAccepted k x Star) ≡ 0) × (partnerOf (ifAccepted k x Star) ≡ 0)
+  told-refused k x n = rw (if-refused k x Star n) (refl, refl)
+
+  told-as : (k p q : ℕ) (x y : Topology) → k ≡ 0 → x ≡ y → butterflyOf y ≡ p → partnerOf y ≡ q
+      → (butterflyOf (ifAccepted k x Star) ≡ p) × (partnerOf (ifAccepted k x Star) ≡ q)
+  told-as k p q x y z e f g = rw (if-accepted k x Star z, e) (f, g)
+
+  own-told : Told t a b c d (topologyAnswer t a b c d)
+  unfolding topologyAnswer number
+  own-told = record {
+    number-told = refl;
+    refused = λ n. told-refused number (topology t a b c d) n;
+    with-b = λ z h. told-as number 1 _ _ _ z (parted-butterfly t a b c d h) refl refl;
+    with-c = λ z h. told-as number 1 _ _ _ z (parted-with-c t (tree z) a b c d h) refl refl;
+    with-d = λ z h. told-as number 1 _ _ _ z (parted-with-d t (tree z) a b c d h) refl refl;
+    star = λ z nb nc nd. told-as number 0 0 _ _ z (star-iff t a b c d .1 (nb, nc, nd)) refl refl;
+  }
+    where
+      tree : refusal (labelOrder t (a ∷ b ∷ c ∷ d ∷ [])) ≡ 0 → IsTree t
+      tree z = label-check t (a ∷ b ∷ c ∷ d ∷ []) .0 z .0
+
+  -- an answer, and what it tells
+  pub topology-told : (r : TopologyAnswer) → r ≡ topologyAnswer t a b c d
+      → (r ≡ topologyAnswer t a b c d) × Told t a b c d r
+  topology-told r e = (e, subst (Told t a b c d) (sym e) own-told)

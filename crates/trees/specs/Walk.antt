@@ -8,6 +8,7 @@ use lib.ListN.{length, take, drop}
 use Rattle.sums.specs.Sum.{sum}
 use Rattle.sums.specs.Bits.{bit}
 use Rattle.sums.specs.Counts.{count}
+use Rattle.trees.specs.declared.edges.PartBeyond.{PartBeyond}
 use Rattle.trees.specs.Table.{Table, tips, nodes, parent, label, beyond}
 use Rattle.trees.specs.Refusals.{refusal, ifAccepted}
 use Rattle.trees.specs.TreeCheck.{isChild}
@@ -62,6 +63,16 @@ startIn t (suc f) v = elim (eqb v 0) [
 unfoldable pub start : Table → ℕ → ℕ
 start t v = startIn t v v
 
+-- where those labels stand in a walk: the first cell, and how many. No word of a walk plays a part
+unfoldable pub placed : Table → ℕ → PartBeyond
+placed t i = record { refusal = 0; start = start t i; labels = below t i }
+
+-- the number with zeros, or 0 with the place in a walk of so many cells
+unfoldable pub placeBeyond : Table → ℕ → ℕ → PartBeyond
+placeBeyond t i cells =
+    let number = refusal (edgeOrder t i cells) in
+    record { refusal = number; start = ifAccepted number (start t i) 0; labels = ifAccepted number (below t i) 0 }
+
 -- 'handed back as that part of the lent walk, chosen by position alone'
 unfoldable pub part : Table → ℕ → List ℕ → List ℕ
 part t i w = take (below t i) (drop (start t i) w)
@@ -69,3 +80,7 @@ part t i w = take (below t i) (drop (start t i) w)
 -- 'A refusal hands back an empty part.'
 unfoldable pub partBeyond : Table → ℕ → List ℕ → List ℕ
 partBeyond t i w = ifAccepted (refusal (edgeOrder t i (length w))) (part t i w) []
+
+-- the place of a word, so many words of two bytes after another: a block, and an offset in it
+abbrev pub wordsOn : ℕ → ℕ × ℕ → ℕ × ℕ
+wordsOn k p = (p .0, p .1 + 2 * k)

@@ -4,19 +4,20 @@ use mathlib.Core.Path.{_≡_, refl, sym, _∙_, ap}
 use mathlib.Core.Bool.{true, false, _||_}
 use mathlib.Core.List.{List, [], _∷_}
 use mathlib.Core.Logic.{_≢_}
-use Prim.Native.Nat.{ℕ, _≤_, _<_}
+use Prim.Native.Nat.{ℕ, zero, suc, _+_, _-_, _≤_, _<_}
 use native.Mathlib.Omega.{arith}
 use borrow.Author.Tests.{lt-ltb, le-ltb}
 use lib.Dec.{eqb, leb, ltb}
 use lib.ListN.{length, take, drop, length-drop, length-append}
 use lib.Seq.{take-append-le, drop-append-le}
 use Rattle.trees.specs.Table.{Table, tips, nodes}
-use Rattle.trees.specs.Refusals.{refusal, refusal-none, refusal-here, refusal-next, if-accepted}
+use Rattle.trees.specs.Refusals.{refusal, ifAccepted, refusal-none, refusal-here, refusal-next, if-accepted}
 use Rattle.trees.specs.Refusals.{if-refused}
 use Rattle.trees.specs.IsTree.{IsTree}
 use Rattle.trees.specs.TreeCheck.{treeOrder}
-use Rattle.trees.specs.Orders.{walkOrder, edgeOrder, edge-check, tree-refused, tree-accepted}
-use Rattle.trees.specs.Walk.{walk, walked, afterWalk, subtree, below, start, part, partBeyond}
+use Rattle.trees.specs.Orders.{roomOrder, walkOrder, edgeOrder, edge-check, tree-refused, tree-accepted}
+use Rattle.trees.specs.declared.edges.PartBeyond.{PartBeyond}
+use Rattle.trees.specs.Walk.{walk, walked, afterWalk, subtree, below, start, part, placed, placeBeyond, partBeyond}
 use Rattle.trees.specs.WalkLaws.{walk-length, part-fits, part-walk}
 
 -- ---- the walk: its number, and the cells afterwards
@@ -33,10 +34,9 @@ module _ (t : Table) (cells : List ℕ) where
   unfolding walkOrder
   walk-tree-refused k e d = refused k d (sym (tree-refused t _ k e d))
 
-  pub walk-too-short : IsTree t → length cells < tips t → Walked t cells 12 cells
+  pub walk-too-short : IsTree t → (k : ℕ) → k ≡ refusal (roomOrder (length cells) (tips t)) → k ≢ 0 → Walked t cells k cells
   unfolding walkOrder
-  walk-too-short g l =
-      refused 12 (λ z. omega arith) (sym (tree-accepted t _ g ∙ refusal-here 12 _ _ (lt-ltb (length cells) (tips t) l)))
+  walk-too-short g k e d = refused k d (e ∙ sym (tree-accepted t _ g))
 
   pub walk-accepted : IsTree t → tips t ≤ length cells → Walked t cells 0 (walked t cells)
   unfolding walkOrder afterWalk
@@ -78,6 +78,62 @@ module _ (t : Table) (i : ℕ) (w : List ℕ) where
   pub part-accepted : (k : ℕ) → k ≡ refusal (edgeOrder t i (length w)) → k ≡ 0 → partBeyond t i w ≡ part t i w
   unfolding partBeyond
   part-accepted k e z = if-accepted _ (part t i w) [] (sym e ∙ z)
+
+-- ---- its place
+
+-- of a number k, refused or not
+place : Table → ℕ → ℕ → PartBeyond
+place t i k = record { refusal = k; start = ifAccepted k (start t i) 0; labels = ifAccepted k (below t i) 0 }
+
+module _ (t : Table) (i cells : ℕ) where
+  placed-by : placeBeyond t i cells ≡ place t i (refusal (edgeOrder t i cells))
+  unfolding placeBeyond place
+  placed-by = refl
+
+  pub place-number : (r : PartBeyond) → r ≡ placeBeyond t i cells → r .refusal ≡ refusal (edgeOrder t i cells)
+  unfolding placeBeyond
+  place-number r e = ap (λ (x : PartBeyond). x .refusal) e
+
+  pub place-refused : (k : ℕ) → refusal (edgeOrder t i cells) ≡ k → k ≢ 0
+      → record { refusal = k; start = 0; labels = 0 } ≡ placeBeyond t i cells
+  place-refused k e d = go k d ∙ sym (placed-by ∙ ap (place t i) e)
+    where
+      go : (k : ℕ) → k ≢ 0 → record { refusal = k; start = 0; labels = 0 } ≡ place t i k
+      go zero d = absurd (d refl)
+      go (suc k) d = unfold place ifAccepted in refl
+
+  pub place-accepted : refusal (edgeOrder t i cells) ≡ 0 → placed t i ≡ placeBeyond t i cells
+  place-accepted e = at-zero ∙ sym (placed-by ∙ ap (place t i) e)
+    where
+      at-zero : placed t i ≡ place t i 0
+      at-zero = unfold placed place ifAccepted in refl
+
+-- the words from the start on, as many as there are labels, are the part
+module _ (t : Table) (i : ℕ) (w : List ℕ) where
+  -- of a number k, refused or not
+  cut : (k : ℕ) → take (ifAccepted k (below t i) 0) (drop (ifAccepted k (start t i) 0) w) ≡ ifAccepted k (part t i w) []
+  unfolding ifAccepted part
+  cut zero = refl
+  cut (suc k) = refl
+
+  fits : (k : ℕ) → (k ≡ 0 → start t i + below t i ≤ length w)
+      → ifAccepted k (start t i) 0 + ifAccepted k (below t i) 0 ≤ length w
+  unfolding ifAccepted
+  fits zero h = h refl
+  fits (suc k) h = omega arith
+
+  module _ (r : PartBeyond) (e : r ≡ placeBeyond t i (length w)) where
+    pub place-fits : r .start + r .labels ≤ length w
+    unfolding placeBeyond
+    place-fits = rw e (fits (refusal (edgeOrder t i (length w))) (λ z.
+        let g = edge-check t i (length w) .0 z in omega (arith, part-fits t (g .0) i (g .2), g .3)))
+
+    pub part-cut : (from to : ℕ) → from ≡ r .start → to ≡ from + r .labels
+        → take (to - from) (drop from w) ≡ partBeyond t i w
+    unfolding partBeyond
+    part-cut from to ef et =
+        let q : to - from ≡ r .labels = omega arith in
+        rw (q, ef, e) (unfold placeBeyond in cut (refusal (edgeOrder t i (length w))))
 
 -- ---- the part on the walk that `walk` writes
 

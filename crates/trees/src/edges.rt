@@ -4,9 +4,11 @@ use super::sizes::sizes;
 use super::table::Checked;
 use super::table::check;
 use super::table::refusal_of;
+use super::words::narrow;
 use super::words::wide;
 ghost use mathlib.Core.Path.{_≡_};
-ghost use Prim.Native.Nat.{_≤_, _<_};
+ghost use Prim.Native.Nat.{_<_};
+ghost use denote.Ref.{ptr};
 ghost use mathlib.Core.Bool.{_||_};
 ghost use lib.Dec.{eqb, leb};
 ghost use lib.ListN.{length};
@@ -14,7 +16,7 @@ ghost use Rattle.trees.specs.Table.{tableOf};
 ghost use Rattle.trees.specs.Refusals.{refusal};
 ghost use Rattle.trees.specs.Orders.{edgeOrder};
 ghost use Rattle.trees.specs.Arrays.{TreeArrays};
-ghost use Rattle.trees.specs.Walk.{part, partBeyond};
+ghost use Rattle.trees.specs.Walk.{placed, placeBeyond, partBeyond, wordsOn};
 
 // Whether a table of that many nodes has no such edge.
 fn no_edge(edge: u16, nodes: u16) -> bool
@@ -26,43 +28,77 @@ fn no_edge(edge: u16, nodes: u16) -> bool
     nodes <= edge
 }
 
+// The number of the refusal with zeros, or 0 with the first cell of the labels beyond an edge and how many they are.
+pub struct PartBeyond {
+    pub refusal: u16,
+    pub start: u16,
+    pub labels: u16,
+}
+
+// Where the labels beyond node i stand in a walk, from its size and its end.
+fn part_of(parents: &[u16], labels: &[u16], n: usize, i: usize) -> PartBeyond
+    requires { ⌜ TreeArrays n (now parents) (now labels) × (i < length (now parents)) ⌝ }
+    ensures { λ r. ⌜ r ≡ placed (tableOf n (now (parents .entry)) (now (labels .entry))) i ⌝ }
+{
+    let size = sizes(parents, labels, n);
+    let end = ends(parents, labels, n, &size);
+    let count = size[i];
+    let from = end[i] - count;
+    PartBeyond {
+        refusal: 0,
+        start: narrow(from),
+        labels: narrow(count),
+    }
+}
+
+// Where the labels beyond an edge stand in a walk of so many cells, by position alone.
+pub fn part_beyond(table: &[u16], edge: u16, cells: usize) -> PartBeyond
+    ensures { λ r. ⌜ r ≡ placeBeyond (now (table .entry)) edge cells ⌝ }
+{
+    let answer = check(table);
+    let Checked::Tree { tips, nodes } = answer else {
+        return PartBeyond {
+            refusal: refusal_of(answer),
+            start: 0,
+            labels: 0,
+        };
+    };
+    if no_edge(edge, nodes) {
+        return PartBeyond {
+            refusal: 13,
+            start: 0,
+            labels: 0,
+        };
+    }
+    let n = wide(tips);
+    if cells < n {
+        return PartBeyond {
+            refusal: 12,
+            start: 0,
+            labels: 0,
+        };
+    }
+    let m = wide(nodes);
+    part_of(&table[2..2 + m], &table[2 + m..], n, wide(edge))
+}
+
 // The number of a refusal of `beyond` on the same input, or 0.
 pub fn beyond_refusal(table: &[u16], edge: u16, walk: &[u16]) -> u16
     ensures { λ r. ⌜ r ≡ refusal (edgeOrder (now (table .entry)) edge (length (now (walk .entry)))) ⌝ }
 {
-    let answer = check(table);
-    let Checked::Tree { tips, nodes } = answer else {
-        return refusal_of(answer);
-    };
-    if no_edge(edge, nodes) {
-        return 13;
-    }
-    if walk.len() < wide(tips) {
-        return 12;
-    }
-    0
-}
-
-// The part of a walk that holds the labels beyond node i, from where they start to where they end.
-fn part_of<'a>(parents: &[u16], labels: &[u16], n: usize, i: usize, walk: &'a [u16]) -> &'a [u16]
-    requires { ⌜ TreeArrays n (now parents) (now labels) × (i < length (now parents)) × (n ≤ length (now walk)) ⌝ }
-    ensures { λ r. ⌜ now r ≡ part (tableOf n (now (parents .entry)) (now (labels .entry))) i (now (walk .entry)) ⌝ }
-{
-    let size = sizes(parents, labels, n);
-    let end = ends(parents, labels, n, &size);
-    let to = end[i];
-    let from = to - size[i];
-    &walk[from..to]
+    let part = part_beyond(table, edge, walk.len());
+    part.refusal
 }
 
 // The labels beyond an edge, as the part of the caller's walk where they stand; an empty part on refusal.
 pub fn beyond<'a>(table: &[u16], edge: u16, walk: &'a [u16]) -> &'a [u16]
-    ensures { λ r. ⌜ now r ≡ partBeyond (now (table .entry)) edge (now (walk .entry)) ⌝ }
+    ensures { λ r. ⌜
+        (now r ≡ partBeyond (now (table .entry)) edge (now (walk .entry)))
+        × (ptr r ≡ wordsOn (placeBeyond (now (table .entry)) edge (length (now (walk .entry))) .start) (ptr (walk .entry)))
+        ⌝ }
 {
-    if beyond_refusal(table, edge, walk) != 0 {
-        return &walk[0..0];
-    }
-    let n = wide(table[0]);
-    let m = wide(table[1]);
-    part_of(&table[2..2 + m], &table[2 + m..], n, wide(edge), walk)
+    let part = part_beyond(table, edge, walk.len());
+    let from = wide(part.start);
+    let to = from + wide(part.labels);
+    &walk[from..to]
 }

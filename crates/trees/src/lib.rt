@@ -11,8 +11,10 @@ mod quartet; // quartet.rt: the topology of four labels
 
 pub use centres::CentreAnswer;
 pub use centres::centre;
+pub use edges::PartBeyond;
 pub use edges::beyond;
 pub use edges::beyond_refusal;
+pub use edges::part_beyond;
 pub use quartet::Topology;
 pub use quartet::TopologyAnswer;
 pub use quartet::topology_of;

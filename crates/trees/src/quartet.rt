@@ -8,7 +8,7 @@ use super::table::refusal_of;
 use super::words::wide;
 ghost use mathlib.Core.Path.{_≡_};
 ghost use Prim.Native.Nat.{_≤_, min, max};
-ghost use Rattle.trees.specs.Topology.{partner, topologyAnswer};
+ghost use Rattle.trees.specs.Topology.{partner, topologyAnswer, Told};
 ghost use Rattle.trees.specs.Arrays.{RootedArrays};
 ghost use Rattle.trees.specs.Sides.{pairing, SidesAre, Shown, topologyShown};
 
@@ -130,7 +130,9 @@ fn named_pairing(k: usize, a: u16, b: u16, c: u16, d: u16) -> Topology
 
 // The topology of four labels, by looking at the edges one by one.
 pub fn topology_of(table: &[u16], a: u16, b: u16, c: u16, d: u16) -> TopologyAnswer
-    ensures { λ r. ⌜ r ≡ topologyAnswer (now (table .entry)) a b c d ⌝ }
+    ensures { λ r. ⌜
+        (r ≡ topologyAnswer (now (table .entry)) a b c d) × Told (now (table .entry)) a b c d r
+        ⌝ }
 {
     let answer = check(table);
     let Checked::Tree { tips, nodes } = answer else {

@@ -10,7 +10,7 @@ ghost use Rattle.trees.specs.Table.{word};
 ghost use Rattle.trees.specs.Refusals.{refusal};
 ghost use Rattle.trees.specs.TreeCheck.{tipsFit, nodesFit, parentFits, labelFits, labelsFit, misplaced};
 ghost use Rattle.trees.specs.TreeCheck.{arraysOrder, ArraysFit, treeOrder};
-ghost use Rattle.trees.specs.Check.{checked, numberOf};
+ghost use Rattle.trees.specs.Check.{checked, numberOf, Told};
 
 // What the check finds: a tree with its tips and nodes, or the number of the refusal.
 pub enum Checked {
@@ -203,7 +203,7 @@ fn tree_refusal(table: &[u16]) -> u16
 
 // Whether the words are a tree table. The smallest number decides where several rules are broken.
 pub fn check(table: &[u16]) -> Checked
-    ensures { λ r. ⌜ r ≡ checked (now (table .entry)) ⌝ }
+    ensures { λ r. ⌜ (r ≡ checked (now (table .entry))) × Told (now (table .entry)) r ⌝ }
 {
     let number = tree_refusal(table);
     if number != 0 {

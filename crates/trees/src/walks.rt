@@ -10,7 +10,7 @@ ghost use Prim.Native.Nat.{_≤_};
 ghost use lib.ListN.{length};
 ghost use Rattle.trees.specs.Table.{tableOf};
 ghost use Rattle.trees.specs.Refusals.{refusal};
-ghost use Rattle.trees.specs.Orders.{walkOrder};
+ghost use Rattle.trees.specs.Orders.{roomOrder, walkOrder};
 ghost use Rattle.trees.specs.Arrays.{TreeArrays};
 ghost use Rattle.trees.specs.Walk.{walked, afterWalk};
 
@@ -34,6 +34,16 @@ fn write_walk(parents: &[u16], labels: &[u16], n: usize, cells: &mut [u16])
     }
 }
 
+// 12 or 0: whether so many cells hold a walk of n labels.
+fn room_refusal(cells: usize, n: usize) -> u16
+    ensures { λ r. ⌜ r ≡ refusal (roomOrder cells n) ⌝ }
+{
+    if cells < n {
+        return 12;
+    }
+    0
+}
+
 // The labels depth first from node 0, children in rising node number, into the first n lent cells.
 pub fn walk(table: &[u16], cells: &mut [u16]) -> u16
     ensures { λ r. ⌜
@@ -46,10 +56,10 @@ pub fn walk(table: &[u16], cells: &mut [u16]) -> u16
         return refusal_of(answer);
     };
     let n = wide(tips);
-    if cells.len() < n {
-        return 12;
+    let number = room_refusal(cells.len(), n);
+    if number == 0 {
+        let m = wide(nodes);
+        write_walk(&table[2..2 + m], &table[2 + m..], n, cells);
     }
-    let m = wide(nodes);
-    write_walk(&table[2..2 + m], &table[2 + m..], n, cells);
-    0
+    number
 }

@@ -13,7 +13,7 @@ refusal-of-requires : tie.Need-refusal-of-requires
 refusal-of-requires c κs = search needs
 
 returns : tie.Need-returns
-returns c = c .refusal-of .ensures ∙ ap numberOf (c .before .check .ensures) ∙ number-of-checked _
+returns c = c .refusal-of .ensures ∙ ap numberOf (c .before .check .ensures .0) ∙ number-of-checked _
 
 pub leskwyn-check-spec : {M : Type 1} → statement M
 leskwyn-check-spec = tie.close (tie.spec check-requires refusal-of-requires returns)

@@ -18,12 +18,12 @@ enum-told c = search needs
 returns : tie.Need-returns
 returns c =
     let t = c .before .before .before in
-    butterfly-plain (t .topology-of .result) _ (c .before .topology .given .1) ∙ ap plainTopology (t .topology-of .ensures)
+    butterfly-plain (t .topology-of .result) _ (c .before .topology .given .1) ∙ ap plainTopology (t .topology-of .ensures .0)
 
 returns-2 : tie.Need-returns-2
 returns-2 c =
     let t = c .before .before in
-    star-plain (t .topology-of .result) (c .enum-told .given .1) ∙ ap plainTopology (t .topology-of .ensures)
+    star-plain (t .topology-of .result) (c .enum-told .given .1) ∙ ap plainTopology (t .topology-of .ensures .0)
 
 pub leskwyn-topology-spec : {M : Type 1} → statement M
 leskwyn-topology-spec =

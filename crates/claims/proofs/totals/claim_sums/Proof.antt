@@ -1,47 +1,75 @@
 -- The crossings, then the sums over the two trees' parents.
 -- Assumes nothing.
-use mathlib.Core.Path.{refl}
+use mathlib.Core.Path.{_≡_, sym, _∙_}
+use Prim.Native.Nat.{_+_, _≤_}
 use native.Mathlib.Omega.{arith}
-use Rattle.claims.specs.LentSums.{lent-words, lent-summable, lent-claims}
+use lib.ListN.{length}
+use Rattle.trees.specs.Table.{tips, nodes}
+use Rattle.pair_check.specs.PairOrder.{PairWithCells}
+use Rattle.pair_check.specs.PairOutcomes.{work-says, work-passed, edges-some}
+use Rattle.claims.specs.LentSums.{nodes-are, lent-words, lent-summable, lent-claims}
 use Rattle.claims.specs.SumsOf.{claims-refused}
 use borrow.Author.Needs.{needs}
 use Rattle.claims.proofs.totals.claim_sums.Statement.{statement}
 use Rattle.claims.proofs.totals.claim_sums.Tie as tie
 
-crossings-requires : tie.Need-crossings-requires
-crossings-requires c κs = search needs
+-- a pair with cells enough, with n and the edges of both trees as told
+record Told (c : tie.After-known-told) : Type 0 where
+  pair : PairWithCells (c .before .before .before .before .before .before .before .before .before .before .args .first .now)
+      (c .before .before .before .before .before .before .before .before .before .before .args .second .now)
+      (length (c .before .before .before .before .before .before .before .before .before .before .args .work .now))
+  n-is : c .before .answer .given .0 .0
+      ≡ tips (c .before .before .before .before .before .before .before .before .before .before .args .first .now)
+  m-is : c .before .answer .given .0 .1 .0 + 1
+      ≡ nodes (c .before .before .before .before .before .before .before .before .before .before .args .first .now)
+  k-is : c .before .answer .given .0 .1 .1 .0 + 1
+      ≡ nodes (c .before .before .before .before .before .before .before .before .before .before .args .second .now)
+
+told : (c : tie.After-known-told) → Told c
+told c =
+    let x = c .before .before .before .before .before in
+    let p = work-says _ _ _ _ _ _ (sym (x .cross-pair .ensures .0) ∙ c .before .answer .given .1) in
+    let q = nodes-are _ _ _ (p .0) _ _ (p .2) (p .3) in
+    record { pair = p .0; n-is = p .1; m-is = q .0; k-is = q .1 }
+
+-- each has at most 510 nodes, and its parents among its words
+few : (c : tie.After-known-told)
+    → (c .before .answer .given .0 .1 .0 ≤ 509) × (c .before .answer .given .0 .1 .1 .0 ≤ 509)
+few c =
+    let t = told c in (
+      omega (arith, t .m-is, edges-some _ (t .pair .pair .first)),
+      omega (arith, t .k-is, edges-some _ (t .pair .pair .second)),
+    )
+
+cross-pair-requires : tie.Need-cross-pair-requires
+cross-pair-requires c κs = search needs
+
+enum-known-answer : tie.Need-enum-known-answer
+enum-known-answer c = search needs
+
+enum-told : tie.Need-enum-told
+enum-told c = search needs
+
+pair-refusal-requires : tie.Need-pair-refusal-requires
+pair-refusal-requires c κs = search needs
 
 same-length : tie.Need-same-length
 same-length c = search needs
 
 returns : tie.Need-returns
 returns c =
-    let x = c .before .before .before .crossings .ensures in
-    (claims-refused _ _ _ _ (x .0) (c .if1 .taken), x .1)
+    let x = c .before .before .before .before .before .cross-pair .ensures in
+    let h = work-passed _ _ _ _ _ _ (x .0) (c .before .enum-told .given .1) (c .pair-refusal .ensures) in
+    (claims-refused _ _ _ _ (h .0) (h .1), x .2)
 
-shared-slice-read-wide : tie.Need-shared-slice-read-wide
-shared-slice-read-wide c =
-    let i = c .before in
-    let x = i .before .before .before .crossings .ensures in
-    omega (arith, lent-words _ _ _ _ _ (x .0) (x .1) (i .if1 .left) _ _ refl refl .0)
+add-m : tie.Need-add-m
+add-m c = omega (arith, few c)
 
-wide-requires : tie.Need-wide-requires
-wide-requires c κs = search needs
-
-shared-slice-read-wide-2 : tie.Need-shared-slice-read-wide-2
-shared-slice-read-wide-2 c =
-    let i = c .before .before .before in
-    let x = i .before .before .before .crossings .ensures in
-    omega (arith, lent-words _ _ _ _ _ (x .0) (x .1) (i .if1 .left) _ _ refl refl .1)
-
-wide-requires-2 : tie.Need-wide-requires-2
-wide-requires-2 c κs = search needs
+add-k : tie.Need-add-k
+add-k c = omega (arith, few c)
 
 add-sums-of : tie.Need-add-sums-of
-add-sums-of c =
-    let w = c in
-    let v = w .before .before in
-    omega (arith, w .wide2 .ensures .1, v .wide .ensures .1)
+add-sums-of c = omega (arith, few c)
 
 sub-sums-of : tie.Need-sub-sums-of
 sub-sums-of c = search needs
@@ -50,15 +78,10 @@ part-sums-of-start : tie.Need-part-sums-of-start
 part-sums-of-start c = search needs
 
 part-sums-of-end : tie.Need-part-sums-of-end
-part-sums-of-end c =
-    let w = c in
-    let v = w .before .before in
-    let i = v .before .before in
-    let x = i .before .before .before .crossings .ensures in
-    lent-words _ _ _ _ _ (x .0) (x .1) (i .if1 .left) _ _ (v .wide .ensures .0) (w .wide2 .ensures .0) .2
+part-sums-of-end c = let t = told c in lent-words _ _ _ (t .pair) _ _ (t .m-is) (t .k-is) .0
 
 add-sums-of-2 : tie.Need-add-sums-of-2
-add-sums-of-2 c = search needs
+add-sums-of-2 c = omega (arith, few (c .before))
 
 sub-sums-of-2 : tie.Need-sub-sums-of-2
 sub-sums-of-2 c = search needs
@@ -67,54 +90,37 @@ part-sums-of-start-2 : tie.Need-part-sums-of-start-2
 part-sums-of-start-2 c = search needs
 
 part-sums-of-end-2 : tie.Need-part-sums-of-end-2
-part-sums-of-end-2 c =
-    let w = c .before in
-    let v = w .before .before in
-    let i = v .before .before in
-    let x = i .before .before .before .crossings .ensures in
-    lent-words _ _ _ _ _ (x .0) (x .1) (i .if1 .left) _ _ (v .wide .ensures .0) (w .wide2 .ensures .0) .3
-
-shared-slice-read-sums-of : tie.Need-shared-slice-read-sums-of
-shared-slice-read-sums-of c =
-    let w = c .before .before .before .before in
-    let v = w .before .before in
-    let i = v .before .before in
-    let x = i .before .before .before .crossings .ensures in
-    omega (arith, lent-words _ _ _ _ _ (x .0) (x .1) (i .if1 .left) _ _ (v .wide .ensures .0) (w .wide2 .ensures .0) .0)
+part-sums-of-end-2 c = let t = told (c .before) in lent-words _ _ _ (t .pair) _ _ (t .m-is) (t .k-is) .1
 
 sums-of-requires : tie.Need-sums-of-requires
 sums-of-requires c κs =
-    let w = c .before .before .before .before in
-    let v = w .before .before in
-    let i = v .before .before in
-    let x = i .before .before .before .crossings .ensures in
-    lent-summable _ _ _ _ _ (x .0) (x .1) (i .if1 .left) _ _ _ refl (v .wide .ensures .0) (w .wide2 .ensures .0)
+    let k = c .before .before .before in
+    let t = told k in
+    lent-summable _ _ _ _ (t .pair) (k .before .before .before .before .before .cross-pair .ensures .2)
+    _ _ _ (t .n-is) (t .m-is) (t .k-is)
 
 same-length-2 : tie.Need-same-length-2
 same-length-2 c = search needs
 
 returns-2 : tie.Need-returns-2
 returns-2 c =
-    let w = c .before .before .before .before .before in
-    let v = w .before .before in
-    let i = v .before .before in
-    let x = i .before .before .before .crossings .ensures in (
-      lent-claims _ _ _ _ _ (x .0) (x .1) (i .if1 .left) _ _ _ refl (v .wide .ensures .0) (w .wide2 .ensures .0)
-          _ (c .sums-of .ensures),
-      x .1,
-    )
+    let k = c .before .before .before .before in
+    let t = told k in
+    let x = k .before .before .before .before .before .cross-pair .ensures .2 in
+    (lent-claims _ _ _ _ (t .pair) x _ _ _ (t .n-is) (t .m-is) (t .k-is) _ (c .sums-of .ensures), x)
 
 pub claim-sums-spec : {M : Type 1} → statement M
 claim-sums-spec =
     tie.close
     (tie.spec
-    crossings-requires
+    cross-pair-requires
+    enum-known-answer
+    enum-told
+    pair-refusal-requires
     same-length
     returns
-    shared-slice-read-wide
-    wide-requires
-    shared-slice-read-wide-2
-    wide-requires-2
+    add-m
+    add-k
     add-sums-of
     sub-sums-of
     part-sums-of-start
@@ -123,7 +129,6 @@ claim-sums-spec =
     sub-sums-of-2
     part-sums-of-start-2
     part-sums-of-end-2
-    shared-slice-read-sums-of
     sums-of-requires
     same-length-2
     returns-2)

@@ -1,53 +1,73 @@
 -- The claim sums, then the five formulas; what comes out is the table of counts.
 -- Assumes nothing.
-use mathlib.Core.Path.{refl, _∙_}
-use Rattle.quartets.specs.QuartetAnswer.{sums-pair, sums-fit, table-counts, table-refused, answer-has, first-word}
+use mathlib.Core.Path.{_≡_, sym, _∙_}
+use lib.ListN.{length}
+use Rattle.trees.specs.Table.{tips}
+use Rattle.pair_check.specs.PairOrder.{PairWithCells}
+use Rattle.pair_check.specs.PairOutcomes.{work-says, work-passed}
+use Rattle.tree_pairs.specs.LentTables.{crossings-refused}
+use Rattle.quartets.specs.QuartetAnswer.{sums-fit, table-counts, table-refused, answer-has}
 use borrow.Author.Needs.{needs}
 use Rattle.quartets.proofs.tables.quartet_table.Statement.{statement}
 use Rattle.quartets.proofs.tables.quartet_table.Tie as tie
 
+-- a pair with cells enough, with n as told
+pair : (c : tie.After-known-told)
+    → let s = c .before .before .before .before .before .before .before .args in
+    PairWithCells (s .first .now) (s .second .now) (length (s .work .now))
+    × (c .before .answer .given .0 .0 ≡ tips (s .first .now))
+pair c =
+    let p = work-says _ _ _ _ _ _ (sym (c .before .before .before .check-work .ensures .0) ∙ c .before .answer .given .1) in
+    (p .0, p .1)
+
+check-work-requires : tie.Need-check-work-requires
+check-work-requires c κs = search needs
+
+enum-known-answer : tie.Need-enum-known-answer
+enum-known-answer c = search needs
+
+enum-told : tie.Need-enum-told
+enum-told c = search needs
+
+pair-refusal-requires : tie.Need-pair-refusal-requires
+pair-refusal-requires c κs = search needs
+
+returns : tie.Need-returns
+returns c =
+    let h = work-passed _ _ _ _ _ _ (c .before .before .before .check-work .ensures .0) (c .before .enum-told .given .1)
+    (c .pair-refusal .ensures) in
+    let r = table-refused _ _ _ _ (h .0) (h .1) in
+    (r, answer-has _ _ _ _ r, crossings-refused _ _ _ _ (h .0) (h .1))
+
 claim-sums-requires : tie.Need-claim-sums-requires
 claim-sums-requires c κs = search needs
+
+form-table-requires : tie.Need-form-table-requires
+form-table-requires c κs =
+    let x = c .before .before in
+    let p = pair (x .before .before) in
+    sums-fit _ _ _ (p .0) _ (x .claim-sums .ensures .0) _ (p .1)
 
 same-length : tie.Need-same-length
 same-length c = search needs
 
-returns : tie.Need-returns
-returns c =
-    let x = c .before .before .before .claim-sums .ensures in
-    let r = table-refused _ _ _ _ (x .0) _ refl (c .if1 .taken) in
-    (r, answer-has _ _ _ _ r, x .1)
-
-shared-slice-read-form-table : tie.Need-shared-slice-read-form-table
-shared-slice-read-form-table c =
-    let i = c .before in
-    let x = i .before .before .before .claim-sums .ensures in
-    first-word _ _ _ (sums-pair _ _ _ _ (x .0) (i .if1 .left))
-
-form-table-requires : tie.Need-form-table-requires
-form-table-requires c κs =
-    let i = c .before in
-    let x = i .before .before .before .claim-sums .ensures in
-    sums-fit _ _ _ _ (x .0) (i .if1 .left) _ refl
-
-same-length-2 : tie.Need-same-length-2
-same-length-2 c = search needs
-
 returns-2 : tie.Need-returns-2
 returns-2 c =
-    let i = c .before .before in
-    let x = i .before .before .before .claim-sums .ensures in
-    let r = c .form-table .ensures ∙ table-counts _ _ _ _ (x .0) (i .if1 .left) _ refl in
-    (r, answer-has _ _ _ _ r, x .1)
+    let x = c .before .before .before in
+    let p = pair (x .before .before) in
+    let r = c .form-table .ensures ∙ table-counts _ _ _ (p .0) _ (x .claim-sums .ensures .0) _ (p .1) in
+    (r, answer-has _ _ _ _ r, x .claim-sums .ensures .1)
 
 pub quartet-table-spec : {M : Type 1} → statement M
 quartet-table-spec =
     tie.close
     (tie.spec
-    claim-sums-requires
-    same-length
+    check-work-requires
+    enum-known-answer
+    enum-told
+    pair-refusal-requires
     returns
-    shared-slice-read-form-table
+    claim-sums-requires
     form-table-requires
-    same-length-2
+    same-length
     returns-2)

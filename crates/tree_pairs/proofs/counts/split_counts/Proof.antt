@@ -3,117 +3,87 @@
 use mathlib.Core.Path.{_≡_, sym, _∙_, ap, subst}
 use mathlib.Core.List.{List}
 use Prim.Native.Nat.{ℕ, _-_}
-use native.Mathlib.Omega.{arith}
 use lib.ListN.{length}
-use Rattle.tree_pairs.specs.PairOrder.{IsPair}
-use Rattle.tree_pairs.specs.LentTables.{pair-accepted, crossings-accepted, crossings-refused}
-use Rattle.tree_pairs.specs.SplitAnswer.{SplitsCountable, counted, first-words}
-use Rattle.tree_pairs.specs.SplitAnswer.{split-refused, split-cells, split-accepted}
+use Rattle.trees.specs.Table.{tips, nodes}
+use Rattle.pair_check.specs.PairOrder.{PairWithCells}
+use Rattle.pair_check.specs.PairOutcomes.{work-says, work-passed}
+use Rattle.tree_pairs.specs.LentTables.{crossings-are}
+use Rattle.tree_pairs.specs.SplitAnswer.{SplitsCountable, counted, split-refused, split-cells, split-accepted}
 use borrow.Author.Needs.{needs}
 use Rattle.tree_pairs.proofs.counts.split_counts.Statement.{statement}
 use Rattle.tree_pairs.proofs.counts.split_counts.Tie as tie
 
--- the number is 0, so the two are a pair
-record Accepted (c : tie.After-fill) : Type 0 where
-  zero : c .before .before .before .pair-refusal .result ≡ 0
-  pair : IsPair (c .before .before .before .before .before .before .before .args .first .now)
-      (c .before .before .before .before .before .before .before .args .second .now)
-      (length (c .before .before .before .before .before .before .before .args .work .now))
+-- a pair with cells enough, with n, rows and columns as told
+pair : (c : tie.After-known-told)
+    → let s = c .before .before .before .before .before .before .before .before .before .before .args in
+    let told = c .before .answer .given .0 in
+    PairWithCells (s .first .now) (s .second .now) (length (s .work .now)) × (told .0 ≡ tips (s .first .now))
+    × (told .1 .0 ≡ nodes (s .first .now) - 1) × (told .1 .1 .0 ≡ nodes (s .second .now) - 1)
+pair c =
+    let x = c .before .before .before .before .before in
+    work-says _ _ _ _ _ _ (sym (x .cross-pair .ensures .0) ∙ c .before .answer .given .1)
 
-accepted : (c : tie.After-fill) → Accepted c
-accepted c =
-    let z : c .before .before .before .pair-refusal .result ≡ 0 = omega (arith, c .before .before .if1 .left) in
-    record { zero = z; pair = pair-accepted _ _ _ _ (c .before .before .before .pair-refusal .ensures) z }
+cross-pair-requires : tie.Need-cross-pair-requires
+cross-pair-requires c κs = search needs
+
+enum-known-answer : tie.Need-enum-known-answer
+enum-known-answer c = search needs
+
+enum-told : tie.Need-enum-told
+enum-told c = search needs
 
 pair-refusal-requires : tie.Need-pair-refusal-requires
 pair-refusal-requires c κs = search needs
 
+same-length : tie.Need-same-length
+same-length c = search needs
+
 returns : tie.Need-returns
 returns c =
-    let e = c .before .pair-refusal .ensures in
-    (split-refused _ _ _ _ e (c .if1 .taken), crossings-refused _ _ _ _ e (c .if1 .taken))
-
-fill-requires : tie.Need-fill-requires
-fill-requires c κs =
-    pair-accepted _ _ _ _ (c .before .before .pair-refusal .ensures) (omega (arith, c .before .if1 .left))
-
-shared-slice-read-wide : tie.Need-shared-slice-read-wide
-shared-slice-read-wide c =
-    let f = c .before .before .before .before in
-    omega (arith, first-words _ (accepted f .pair .first))
+    let x = c .before .before .before .before .before .cross-pair .ensures in
+    let h = work-passed _ _ _ _ _ _ (x .0) (c .before .enum-told .given .1) (c .pair-refusal .ensures) in
+    (split-refused _ _ _ _ (h .0) (h .1), x .2)
 
 wide-requires : tie.Need-wide-requires
 wide-requires c κs = search needs
 
-sub-count-splits : tie.Need-sub-count-splits
-sub-count-splits c =
-    let f = c .before .before .before .before .before in
-    omega (arith, c .wide .ensures .0, first-words _ (accepted f .pair .first))
-
-shared-slice-read-wide-2 : tie.Need-shared-slice-read-wide-2
-shared-slice-read-wide-2 c =
-    let f = c .before .before .before .before .before .before in
-    omega (arith, first-words _ (accepted f .pair .second))
-
-wide-requires-2 : tie.Need-wide-requires-2
-wide-requires-2 c κs = search needs
-
-sub-count-splits-2 : tie.Need-sub-count-splits-2
-sub-count-splits-2 c =
-    let f = c .before .before .before .before .before .before .before in
-    omega (arith, c .wide2 .ensures .0, first-words _ (accepted f .pair .second))
-
-shared-slice-read-wide-3 : tie.Need-shared-slice-read-wide-3
-shared-slice-read-wide-3 c =
-    let f = c .before .before .before .before .before .before .before .before in
-    omega (arith, first-words _ (accepted f .pair .first))
-
-wide-requires-3 : tie.Need-wide-requires-3
-wide-requires-3 c κs = search needs
-
 count-splits-requires : tie.Need-count-splits-requires
 count-splits-requires c κs =
-    let b = c .before .before in
-    let a = b .before .before in
-    let f = a .before .before .before .before .before in
-    subst (λ (cells : List ℕ). SplitsCountable cells (a .wide .result - 1) (b .wide2 .result - 1) (c .wide3 .result))
-    (sym (f .fill .ensures))
-    (split-cells _ _ _ (accepted f .pair) _ _ _ (c .wide3 .ensures .0) (a .wide .ensures .0) (b .wide2 .ensures .0))
+    let k = c .before .before in
+    let p = pair k in
+    let told = k .before .answer .given .0 in
+    let x = k .before .before .before .before .before .cross-pair .ensures in
+    subst (λ (cells : List ℕ). SplitsCountable cells (told .1 .0) (told .1 .1 .0) (c .wide .result))
+    (sym (crossings-are _ _ _ _ (p .0) (x .2)))
+    (split-cells _ _ _ (p .0) _ _ _ (c .wide .ensures .0 ∙ p .1) (p .2) (p .3))
 
-same-length : tie.Need-same-length
-same-length c = search needs
+same-length-2 : tie.Need-same-length-2
+same-length-2 c = search needs
 
 returns-2 : tie.Need-returns-2
 returns-2 c =
-    let w = c .before in
-    let b = w .before .before in
-    let a = b .before .before in
-    let f = a .before .before .before .before .before in
-    let p = accepted f in
-    let e = f .before .before .before .pair-refusal .ensures in (
+    let k = c .before .before .before in
+    let p = pair k in
+    let told = k .before .answer .given .0 in
+    let x = k .before .before .before .before .before .cross-pair .ensures in (
       c .count-splits .ensures
-          ∙ ap (λ (cells : List ℕ). counted cells (a .wide .result - 1) (b .wide2 .result - 1) (w .wide3 .result))
-          (f .fill .ensures)
-          ∙ split-accepted _ _ _ (p .pair) _ _ _ (w .wide3 .ensures .0) (a .wide .ensures .0) (b .wide2 .ensures .0)
-          (sym e ∙ p .zero),
-      crossings-accepted _ _ _ _ _ e (p .zero) (f .fill .ensures),
+          ∙ ap (λ (cells : List ℕ). counted cells (told .1 .0) (told .1 .1 .0) (c .before .wide .result))
+          (crossings-are _ _ _ _ (p .0) (x .2))
+          ∙ split-accepted _ _ _ (p .0) _ _ _ (c .before .wide .ensures .0 ∙ p .1) (p .2) (p .3),
+      x .2,
     )
 
 pub split-counts-spec : {M : Type 1} → statement M
 split-counts-spec =
     tie.close
     (tie.spec
+    cross-pair-requires
+    enum-known-answer
+    enum-told
     pair-refusal-requires
-    returns
-    fill-requires
-    shared-slice-read-wide
-    wide-requires
-    sub-count-splits
-    shared-slice-read-wide-2
-    wide-requires-2
-    sub-count-splits-2
-    shared-slice-read-wide-3
-    wide-requires-3
-    count-splits-requires
     same-length
+    returns
+    wide-requires
+    count-splits-requires
+    same-length-2
     returns-2)

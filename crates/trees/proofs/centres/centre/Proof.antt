@@ -22,7 +22,7 @@ use Rattle.trees.proofs.centres.centre.Tie as tie
 known : (c : tie.After-answer)
     → let t = c .before .before .before .before .args .table .now in
     IsTree t × (c .answer .given .0 .0 ≡ tips t) × (c .answer .given .0 .1 .0 ≡ nodes t)
-known c = checked-accepted _ _ _ (sym (c .before .before .check .ensures) ∙ c .answer .given .1)
+known c = checked-accepted _ _ _ (sym (c .before .before .check .ensures .0) ∙ c .answer .given .1)
 
 check-requires : tie.Need-check-requires
 check-requires c κs = search needs
@@ -39,7 +39,7 @@ refusal-of-requires c κs = search needs
 returns : tie.Need-returns
 returns c =
     let e = c .before .enum-told .given .1 in
-    let r = checked-refusal _ _ (sym (c .before .before .before .check .ensures) ∙ e) in
+    let r = checked-refusal _ _ (sym (c .before .before .before .check .ensures .0) ∙ e) in
     ap (λ (k : ℕ). answer k 0) (c .refusal-of .ensures ∙ ap numberOf e)
     ∙ centre-refused _ _ _ _ _ (r .0) (r .1)
 

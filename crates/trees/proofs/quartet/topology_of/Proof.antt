@@ -11,7 +11,7 @@ use Rattle.trees.specs.Check.{numberOf, checked-accepted, checked-refusa
 use Rattle.trees.specs.Sides.{SidesAre}
 use Rattle.trees.specs.Arrays.{RootedArrays, rooted-arrays}
 use Rattle.trees.specs.TopologyOutcomes.{topology-refused, topology-asked-refused}
-use Rattle.trees.specs.TopologyOutcomes.{topology-found}
+use Rattle.trees.specs.TopologyOutcomes.{topology-found, topology-told}
 use borrow.Author.Needs.{needs}
 use Rattle.trees.proofs.quartet.topology_of.Statement.{statement}
 use Rattle.trees.proofs.quartet.topology_of.Tie as tie
@@ -20,7 +20,7 @@ use Rattle.trees.proofs.quartet.topology_of.Tie as tie
 tree : (c : tie.After-answer)
     → let t = c .before .before .before .before .args .table .now in
     IsTree t × (c .answer .given .0 .0 ≡ tips t) × (c .answer .given .0 .1 .0 ≡ nodes t)
-tree c = checked-accepted _ _ _ (sym (c .before .before .check .ensures) ∙ c .answer .given .1)
+tree c = checked-accepted _ _ _ (sym (c .before .before .check .ensures .0) ∙ c .answer .given .1)
 
 -- what is known of the labels
 asked : (c : tie.After-asked-refusal)
@@ -54,8 +54,9 @@ refusal-of-requires c κs = search needs
 returns : tie.Need-returns
 returns c =
     let q = c .before .enum-told .given .1 in
-    let r = checked-refusal _ _ (sym (c .before .before .before .check .ensures) ∙ q) in
-    rw (c .refusal-of .ensures ∙ ap numberOf q) (sym (topology-refused _ _ _ _ _ _ (r .0) (r .1)))
+    let r = checked-refusal _ _ (sym (c .before .before .before .check .ensures .0) ∙ q) in
+    topology-told _ _ _ _ _ _
+    (rw (c .refusal-of .ensures ∙ ap numberOf q) (sym (topology-refused _ _ _ _ _ _ (r .0) (r .1))))
 
 slice-aggregate-asked-refusal : tie.Need-slice-aggregate-asked-refusal
 slice-aggregate-asked-refusal c = search needs
@@ -69,7 +70,7 @@ asked-refusal-requires c κs = search needs
 returns-2 : tie.Need-returns-2
 returns-2 c =
     let g = tree (c .before .before .before .before .before) in
-    sym (topology-asked-refused _ _ _ _ _ (g .0) _ (asked (c .before)) (c .if1 .taken))
+    topology-told _ _ _ _ _ _ (sym (topology-asked-refused _ _ _ _ _ (g .0) _ (asked (c .before)) (c .if1 .taken)))
 
 wide-requires-2 : tie.Need-wide-requires-2
 wide-requires-2 c κs = search needs
@@ -126,12 +127,12 @@ returns-3 c =
     let s = b .before .before .before .before .before .before .before .before .before .before .args in
     let h = c .before .before .before .sides-of in
     let k = table b in
-    rw (c .named-pairing .ensures)
+    topology-told _ _ _ _ _ _ (rw (c .named-pairing .ensures)
     (sym (topology-found _ _ _ _ _ (k .0) _
     (of-parts (λ n ps ls. SidesAre ps ls (s .a) (s .b) (s .c) (s .d) (h .result))
     _ _ _ (k .0 .words) refl (k .1) (h .ensures))
     (asked (b .before .before) ∙ b .before .if1 .left) _
-    (rw (k .1) at (c .before .shown-pairing .ensures))))
+    (rw (k .1) at (c .before .shown-pairing .ensures)))))
 
 pub topology-of-spec : {M : Type 1} → statement M
 topology-of-spec =

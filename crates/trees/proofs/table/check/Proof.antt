@@ -3,7 +3,7 @@
 use mathlib.Core.Path.{sym, _∙_}
 use native.Mathlib.Omega.{arith}
 use Rattle.trees.specs.TreeCheck.{tree-check}
-use Rattle.trees.specs.Check.{checked-tree, checked-refused}
+use Rattle.trees.specs.Check.{answered, checked-tree, checked-refused}
 use borrow.Author.Needs.{needs}
 use Rattle.trees.proofs.table.check.Statement.{statement}
 use Rattle.trees.proofs.table.check.Tie as tie
@@ -12,7 +12,7 @@ tree-refusal-requires : tie.Need-tree-refusal-requires
 tree-refusal-requires c κs = search needs
 
 returns : tie.Need-returns
-returns c = sym (checked-refused _ _ (sym (c .before .tree-refusal .ensures)) (c .if1 .taken))
+returns c = answered _ _ (sym (checked-refused _ _ (sym (c .before .tree-refusal .ensures)) (c .if1 .taken)))
 
 shared-slice-read-t5 : tie.Need-shared-slice-read-t5
 shared-slice-read-t5 c =
@@ -26,7 +26,8 @@ shared-slice-read-t7 c =
 
 returns-2 : tie.Need-returns-2
 returns-2 c =
-    sym (checked-tree _ (sym (c .before .before .before .tree-refusal .ensures) ∙ c .before .before .if1 .left))
+    answered _ _
+    (sym (checked-tree _ (sym (c .before .before .before .tree-refusal .ensures) ∙ c .before .before .if1 .left)))
 
 pub check-spec : {M : Type 1} → statement M
 check-spec =

@@ -1,10 +1,14 @@
 -- Each return is an outcome of the walk's order; the cells are those of the table made of its parts.
 -- Assumes nothing.
 use mathlib.Core.Path.{_≡_, sym, _∙_, ap}
+use Prim.Native.Nat.{ℕ, _≤_}
 use native.Mathlib.Omega.{arith}
+use lib.ListN.{length}
 use Rattle.trees.specs.Table.{Table, tips, nodes, tableOf, to-parts, of-parts, table-of-parts}
+use Rattle.trees.specs.Refusals.{refusal}
 use Rattle.trees.specs.IsTree.{IsTree}
 use Rattle.trees.specs.Check.{checked-accepted, refusal-passed}
+use Rattle.trees.specs.Orders.{roomOrder, room-check}
 use Rattle.trees.specs.Arrays.{TreeArrays, tree-arrays}
 use Rattle.trees.specs.Walk.{walked}
 use Rattle.trees.specs.WalkOutcomes.{walk-tree-refused, walk-too-short, walk-accepted}
@@ -12,19 +16,34 @@ use borrow.Author.Needs.{needs}
 use Rattle.trees.proofs.walks.walk.Statement.{statement}
 use Rattle.trees.proofs.walks.walk.Tie as tie
 
--- the table is a tree table, and n and m are its own
-record Known (c : tie.After-wide2) : Type 0 where
-  tree : IsTree (c .before .before .before .before .before .before .before .before .before .args .table .now)
-  n-is : c .before .before .wide .result
-      ≡ tips (c .before .before .before .before .before .before .before .before .before .args .table .now)
-  m-is : c .wide2 .result
-      ≡ nodes (c .before .before .before .before .before .before .before .before .before .args .table .now)
+-- the table is a tree table, n and m are its own, and the number tells whether the cells are enough
+record Known (c : tie.After-room-refusal) : Type 0 where
+  tree : IsTree (c .before .before .before .before .before .before .before .before .args .table .now)
+  n-is : c .before .wide .result ≡ tips (c .before .before .before .before .before .before .before .before .args .table .now)
+  m-is : c .before .before .before .answer .given .0 .1 .0
+      ≡ nodes (c .before .before .before .before .before .before .before .before .args .table .now)
+  number-is : c .room-refusal .result
+      ≡ refusal (roomOrder (length (c .before .before .before .before .before .before .before .before .args .cells .now))
+      (tips (c .before .before .before .before .before .before .before .before .args .table .now)))
 
-known : (c : tie.After-wide2) → Known c
+known : (c : tie.After-room-refusal) → Known c
 known c =
-    let b = c .before .before .before .before in
-    let a = checked-accepted _ _ _ (sym (b .before .before .check .ensures) ∙ b .answer .given .1) in
-    record { tree = a .0; n-is = c .before .before .wide .ensures .0 ∙ a .1; m-is = c .wide2 .ensures .0 ∙ a .2 }
+    let k = c .before .before in
+    let s = k .before .before .before .before .before .before in
+    let a = checked-accepted _ _ _ (sym (k .before .before .before .check .ensures .0) ∙ k .before .answer .given .1) in
+    let n = c .before .wide .ensures .0 ∙ a .1 in
+    record {
+      tree = a .0;
+      n-is = n;
+      m-is = a .2;
+      number-is = c .room-refusal .ensures ∙ ap (λ (x : ℕ). refusal (roomOrder (length (s .args .cells .now)) x)) n;
+    }
+
+-- where it is 0, they are
+room : (c : tie.After-room-refusal) → c .room-refusal .result ≡ 0
+    → let s = c .before .before .before .before .before .before .before .before in
+    tips (s .args .table .now) ≤ length (s .args .cells .now)
+room c z = room-check _ _ .0 (sym (known c .number-is) ∙ z)
 
 check-requires : tie.Need-check-requires
 check-requires c κs = search needs
@@ -40,18 +59,15 @@ refusal-of-requires c κs = search needs
 
 returns : tie.Need-returns
 returns c =
-    let h = refusal-passed _ _ _ _ (c .before .before .before .check .ensures) (c .before .enum-told .given .1)
+    let h = refusal-passed _ _ _ _ (c .before .before .before .check .ensures .0) (c .before .enum-told .given .1)
     (c .refusal-of .ensures) in
     walk-tree-refused _ _ _ (h .0) (h .1)
 
 wide-requires : tie.Need-wide-requires
 wide-requires c κs = search needs
 
-returns-2 : tie.Need-returns-2
-returns-2 c =
-    let b = c .before .before .before in
-    let a = checked-accepted _ _ _ (sym (b .before .before .check .ensures) ∙ b .answer .given .1) in
-    walk-too-short _ _ (a .0) (omega (arith, c .if1 .taken, c .before .wide .ensures .0, a .1))
+room-refusal-requires : tie.Need-room-refusal-requires
+room-refusal-requires c κs = search needs
 
 wide-requires-2 : tie.Need-wide-requires-2
 wide-requires-2 c κs = search needs
@@ -66,7 +82,7 @@ part-write-walk-start : tie.Need-part-write-walk-start
 part-write-walk-start c = search needs
 
 part-write-walk-end : tie.Need-part-write-walk-end
-part-write-walk-end c = omega (arith, known c .m-is, known c .tree .words)
+part-write-walk-end c = let k = known (c .before .before) in omega (arith, c .wide2 .ensures .0, k .m-is, k .tree .words)
 
 add-write-walk-2 : tie.Need-add-write-walk-2
 add-write-walk-2 c = search needs
@@ -75,36 +91,44 @@ mul-write-walk : tie.Need-mul-write-walk
 mul-write-walk c = search needs
 
 sub-write-walk-2 : tie.Need-sub-write-walk-2
-sub-write-walk-2 c = omega (arith, known (c .before) .m-is, known (c .before) .tree .words)
+sub-write-walk-2 c =
+    let k = known (c .before .before .before) in omega (arith, c .before .wide2 .ensures .0, k .m-is, k .tree .words)
 
 part-write-walk-start-2 : tie.Need-part-write-walk-start-2
-part-write-walk-start-2 c = omega (arith, known (c .before) .m-is, known (c .before) .tree .words)
+part-write-walk-start-2 c =
+    let k = known (c .before .before .before) in omega (arith, c .before .wide2 .ensures .0, k .m-is, k .tree .words)
 
 part-write-walk-end-2 : tie.Need-part-write-walk-end-2
 part-write-walk-end-2 c = search needs
 
 write-walk-requires : tie.Need-write-walk-requires
 write-walk-requires c κs =
-    let k = known (c .before .before .before) in (
-      to-parts TreeArrays _ _ _ (k .tree .words) (k .n-is) (k .m-is) (tree-arrays _ (k .tree)),
-      c .before .before .before .before .if1 .left,
+    let m = c .before .before .before in
+    let r = m .before .before in
+    let k = known r in (
+      to-parts TreeArrays _ _ _ (k .tree .words) (k .n-is) (m .wide2 .ensures .0 ∙ k .m-is) (tree-arrays _ (k .tree)),
+      omega (arith, k .n-is, room r (m .before .if1 .taken)),
     )
 
 same-length : tie.Need-same-length
 same-length c = search needs
 
-returns-3 : tie.Need-returns-3
-returns-3 c =
-    let d = c .before .before .before .before .before .before in
-    let k = known d in
-    let cells = d .before .before .before .before .before .before .before .before .before .args .cells .now in
-    let w = walk-accepted _ cells (k .tree) (omega (arith, d .before .if1 .left, k .n-is)) in (
-      w .0,
+returns-2 : tie.Need-returns-2
+returns-2 c =
+    let m = c .before .before .before .before .before .before in
+    let r = m .before .before in
+    let k = known r in
+    let cells = r .before .before .before .before .before .before .before .before .args .cells .now in
+    let w = walk-accepted _ cells (k .tree) (room r (m .before .if1 .taken)) in (
+      m .before .if1 .taken ∙ w .0,
       of-parts (λ n ps ls. c .before .before .write-walk .last .1 .1 .1 .0 ≡ walked (tableOf n ps ls) cells)
-          _ _ _ (k .tree .words) (k .n-is) (k .m-is) (c .before .before .write-walk .ensures)
+          _ _ _ (k .tree .words) (k .n-is) (m .wide2 .ensures .0 ∙ k .m-is) (c .before .before .write-walk .ensures)
           ∙ ap (λ (t : Table). walked t cells) (table-of-parts _ (k .tree .words))
           ∙ w .1,
     )
+
+returns-3 : tie.Need-returns-3
+returns-3 c = let k = known (c .before) in walk-too-short _ _ (k .tree) _ (k .number-is) (c .if1 .left)
 
 pub walk-spec : {M : Type 1} → statement M
 walk-spec =
@@ -116,7 +140,7 @@ walk-spec =
     refusal-of-requires
     returns
     wide-requires
-    returns-2
+    room-refusal-requires
     wide-requires-2
     add-write-walk
     sub-write-walk
@@ -129,4 +153,5 @@ walk-spec =
     part-write-walk-end-2
     write-walk-requires
     same-length
+    returns-2
     returns-3)

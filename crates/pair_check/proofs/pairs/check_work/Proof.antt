@@ -1,0 +1,64 @@
+-- The tables, then the number of cells.
+-- Assumes nothing.
+use mathlib.Core.Path.{_≡_, sym, _∙_}
+use Prim.Native.Nat.{_-_}
+use native.Mathlib.Omega.{arith}
+use Rattle.trees.specs.Table.{tips, nodes}
+use Rattle.pair_check.specs.PairOrder.{IsPair}
+use Rattle.pair_check.specs.PairOutcomes.{pair-passed, check-says, tables-refused, cells-short, pair-kept}
+use Rattle.pair_check.specs.PairOutcomes.{work-found, work-turned-away, product-fits}
+use borrow.Author.Needs.{needs}
+use Rattle.pair_check.proofs.pairs.check_work.Statement.{statement}
+use Rattle.pair_check.proofs.pairs.check_work.Tie as tie
+
+-- the tables are a pair, with n, rows and columns as told
+tables : (c : tie.After-known-told)
+    → let s = c .before .before .before .before .before .before .args in
+    let g = c .before .answer .given .0 in
+    IsPair (s .first .now) (s .second .now) × (g .0 ≡ tips (s .first .now))
+    × (g .1 .0 ≡ nodes (s .first .now) - 1) × (g .1 .1 .0 ≡ nodes (s .second .now) - 1)
+tables c = check-says _ _ _ _ _ (sym (c .before .before .before .check-pair .ensures .0) ∙ c .before .answer .given .1)
+
+check-pair-requires : tie.Need-check-pair-requires
+check-pair-requires c κs = search needs
+
+enum-known-answer : tie.Need-enum-known-answer
+enum-known-answer c = search needs
+
+enum-told : tie.Need-enum-told
+enum-told c = search needs
+
+pair-refusal-requires : tie.Need-pair-refusal-requires
+pair-refusal-requires c κs = search needs
+
+returns : tie.Need-returns
+returns c =
+    let h = pair-passed _ _ _ _ _ (c .before .before .before .check-pair .ensures .0) (c .before .enum-told .given .1)
+    (c .pair-refusal .ensures) in
+    work-turned-away _ _ _ _ (tables-refused _ _ _ _ (sym (h .0)) (h .1)) (h .1)
+
+mul-if1 : tie.Need-mul-if1
+mul-if1 c = let p = tables c in omega (arith, product-fits _ _ _ _ (p .0) (p .2) (p .3))
+
+returns-2 : tie.Need-returns-2
+returns-2 c =
+    let p = tables (c .before) in
+    work-turned-away _ _ _ _ (cells-short _ _ _ (p .0) (rw (← (p .2), ← (p .3)) (c .if1 .taken))) (λ z. omega arith)
+
+returns-3 : tie.Need-returns-3
+returns-3 c =
+    let p = tables (c .before) in
+    work-found _ _ _ _ _ _ (pair-kept _ _ _ (p .0) (rw (← (p .2), ← (p .3)) (c .if1 .left))) (p .1) (p .2) (p .3)
+
+pub check-work-spec : {M : Type 1} → statement M
+check-work-spec =
+    tie.close
+    (tie.spec
+    check-pair-requires
+    enum-known-answer
+    enum-told
+    pair-refusal-requires
+    returns
+    mul-if1
+    returns-2
+    returns-3)

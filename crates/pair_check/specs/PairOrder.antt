@@ -1,0 +1,47 @@
+-- The order of refusals of a pair of tables, and the pairs that it accepts.
+-- Assumes nothing.
+use mathlib.Core.Path.{_≡_}
+use mathlib.Core.Bool.{not}
+use mathlib.Core.List.{List, [], _∷_, _++_}
+use Prim.Native.Nat.{ℕ, _+_, _*_, _-_, _≤_}
+use lib.Dec.{eqb, ltb}
+use Rattle.trees.specs.Table.{Table, tips, nodes}
+use Rattle.trees.specs.Refusals.{Rule}
+use Rattle.trees.specs.IsTree.{IsTree}
+use Rattle.trees.specs.TreeCheck.{treeOrder}
+
+-- 'by the same numbers plus 100'
+unfoldable pub plus : ℕ → List Rule → List Rule
+plus k [] = []
+plus k (r ∷ rs) = (k + r .0, r .1) ∷ plus k rs
+
+-- 'Then 8: the two n differ.'
+unfoldable pub tipsOrder : Table → Table → List Rule
+tipsOrder t u = (8, not (eqb (tips t) (tips u))) ∷ []
+
+-- 'First tree by 1 to 7 .. Second tree by the same numbers plus 100. Then 8': what two tables alone are held to
+unfoldable pub tablesOrder : Table → Table → List Rule
+tablesOrder t u = treeOrder t ++ (plus 100 (treeOrder u) ++ tipsOrder t u)
+
+-- one cell for each pair of edges
+abbrev pub cellsNeeded : Table → Table → ℕ
+cellsNeeded t u = (nodes t - 1) * (nodes u - 1)
+
+-- 'Then 9: the work slice .. has fewer than (m − 1)(m′ − 1) cells'
+unfoldable pub workOrder : Table → Table → ℕ → List Rule
+workOrder t u cells = (9, ltb cells (cellsNeeded t u)) ∷ []
+
+-- the order of a pair call with so many work cells
+unfoldable pub pairOrder : Table → Table → ℕ → List Rule
+pairOrder t u cells = tablesOrder t u ++ workOrder t u cells
+
+-- two tree tables on the same tips
+pub record IsPair (t u : Table) : Type 0 where
+  pub first : IsTree t
+  pub second : IsTree u
+  pub same-tips : tips t ≡ tips u
+
+-- .. and a cell for each pair of edges
+pub record PairWithCells (t u : Table) (cells : ℕ) : Type 0 where
+  pub pair : IsPair t u
+  pub room : cellsNeeded t u ≤ cells
