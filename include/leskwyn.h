@@ -37,6 +37,7 @@
  *                7   a tip other than node 0 has a child, or an inner node has fewer than two
  *   of labels   10   a label is n or more
  *               11   two of the labels are equal
+ *   of an edge  13   the edge is 0, or m or more
  *   of a walk   12   the lent walk is shorter than n
  *   of a pair    1 to 7 of the first table; then 101 to 107, the same of the second; then
  *                8   the two n differ
@@ -57,6 +58,9 @@ extern "C" {
 
 /* Cells that are enough for the work of every pair: (510 - 1)(510 - 1), for two binary trees of 256 tips. */
 #define LESKWYN_WORK_CELLS 259081
+
+/* The refusal, or 0; the first cell of the labels beyond an edge in a walk, and how many they are. */
+typedef struct { uint16_t refusal, start, labels; } leskwyn_beyond_answer;
 
 /* The refusal, or 0; the node where the paths join. */
 typedef struct { uint16_t refusal, node; } leskwyn_centre_answer;
@@ -87,6 +91,13 @@ uint16_t leskwyn_check(const uint16_t *table, size_t words);
  * stay. Answers 0, or 1 to 7, then 12.
  */
 uint16_t leskwyn_walk(const uint16_t *table, size_t words, uint16_t *walk, size_t cells);
+
+/*
+ * The labels beyond an edge, as a part of the caller's walk of so many cells: its `labels` cells from cell `start` on.
+ * On a walk that leskwyn_walk wrote these are exactly the labels beyond the edge. The part is chosen by position alone,
+ * so that a walk filled with other words gives other words. Refuses by 1 to 7, then 13, then 12.
+ */
+leskwyn_beyond_answer leskwyn_beyond(const uint16_t *table, size_t words, uint16_t edge, size_t cells);
 
 /* The centre of three tips: the node where the paths between them join. Refuses by 1 to 7, then 10, then 11. */
 leskwyn_centre_answer leskwyn_centre(const uint16_t *table, size_t words, uint16_t a, uint16_t b, uint16_t c);

@@ -1,12 +1,15 @@
 //! The exported functions against figures that were counted some other way: every number, every figure, every lent
 //! cell before and after, and the cells on either side of those that are lent.
 
-use leskwyn::raw::{self, CentreAnswer, ClaimSumsAnswer, QuartetTableAnswer, SplitCountsAnswer, TopologyAnswer};
+use leskwyn::raw::{
+    self, BeyondAnswer, CentreAnswer, ClaimSumsAnswer, QuartetTableAnswer, SplitCountsAnswer, TopologyAnswer,
+};
 use leskwyn::{ClaimSums, QuartetTable, Refusal, SplitCounts};
 
 use crate::cubic;
 use crate::enumerate::{self, Topology, Tree};
 use crate::random::Random;
+use crate::reference::X;
 
 /// Pairs of claims that are summed one by one; for more, S2 and S3 are read from the cases.
 const MOST_CLAIM_PAIRS: usize = 500_000;
@@ -73,7 +76,8 @@ fn unchanged<T>(table: &[u16], call: impl FnOnce(&[u16]) -> T) -> T {
     answer
 }
 
-/// The check, the walk, and centres and topologies of labels good and bad, of any words.
+/// The check, the walk, the part of it beyond every edge, and centres and topologies of labels good and bad, of any
+/// words.
 pub fn tree_agrees(table: &[u16], random: &mut Random) {
     let expected = enumerate::tree_refusal(table);
     unchanged(table, |table| {
@@ -83,6 +87,7 @@ pub fn tree_agrees(table: &[u16], random: &mut Random) {
     });
     let tree = (expected == 0).then(|| Tree::of(table));
     walk_agrees(table, expected, tree.as_ref(), random);
+    beyond_agrees(table, expected, tree.as_ref(), random);
     let n = table.first().copied().unwrap_or(0).min(300);
     for _ in 0..4 {
         let mut labels = [0; 4].map(|_: u16| random.below(usize::from(n) + 1) as u16);
@@ -108,6 +113,40 @@ fn walk_agrees(table: &[u16], expected: u16, tree: Option<&Tree>, random: &mut R
         assert_eq!(after[labels.len()..], before[labels.len()..], "later cells of the walk");
         let (wrapped, _, filled) = lend(cells, random, |walk| leskwyn::walk(table, walk));
         assert_eq!((number(&wrapped), &filled[..labels.len()]), (refusal, &labels[..]));
+    }
+}
+
+/// The part of a walk beyond each edge from 0 to m + 1, and 65535: its labels on the walk that the library writes, and
+/// the same cells on another.
+fn beyond_agrees(table: &[u16], expected: u16, tree: Option<&Tree>, random: &mut Random) {
+    let n = table.first().map_or(0, |&n| usize::from(n).min(300));
+    let m = table.get(1).map_or(0, |&m| m.min(600));
+    let places = tree.map(Tree::places_beyond).unwrap_or_default();
+    for cells in [n.saturating_sub(1), n, n + 3] {
+        let other = random.words(cells);
+        let mut walk = other.clone();
+        let is_written = leskwyn::walk(table, &mut walk).is_ok();
+        for edge in (0..=m + 1).chain([X]) {
+            let refusal = tree.map_or(expected, |tree| tree.edge_refusal(edge, cells));
+            let place = if refusal == 0 { places[usize::from(edge)].clone() } else { 0..0 };
+            let [start, labels] = [place.start, place.len()].map(|count| count as u16);
+            // SAFETY: the pointer and the length are those of one slice.
+            let answer = unsafe { raw::leskwyn_beyond(table.as_ptr(), table.len(), edge, cells) };
+            assert_eq!(answer, BeyondAnswer { refusal, start, labels }, "beyond {edge} of {table:?} in {cells} cells");
+            for lent in [&walk, &other] {
+                let part = leskwyn::beyond(table, edge, lent);
+                assert_eq!(number(&part), refusal);
+                if let Ok(part) = part {
+                    assert_eq!(part.as_ptr_range(), lent[place.clone()].as_ptr_range(), "cells of the lent walk");
+                }
+            }
+            if let Some(tree) = tree.filter(|_| refusal == 0) {
+                assert!(is_written);
+                let mut part = walk[place].to_vec();
+                part.sort_unstable();
+                assert_eq!(part, tree.labels_beyond(edge), "labels beyond {edge} of {table:?}");
+            }
+        }
     }
 }
 

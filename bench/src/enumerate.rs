@@ -2,6 +2,8 @@
 //! from sets of labels, topologies by looking at every edge, claims one by one, splits as pairs of tip sets. It is slow
 //! and means to be.
 
+use std::ops::Range;
+
 use crate::reference::X;
 
 /// The number of the tree check, 0 for accepted.
@@ -163,7 +165,7 @@ impl Tree {
         Tree { n, m, parents, labels, beyond }
     }
 
-    fn edges(&self) -> std::ops::Range<usize> {
+    fn edges(&self) -> Range<usize> {
         1..self.m
     }
 
@@ -193,6 +195,36 @@ impl Tree {
         for child in self.edges().filter(|&edge| self.parents[edge] == node) {
             self.walk_from(child, labels);
         }
+    }
+
+    /// The number of a question about an edge and a walk of so many cells, 0 for accepted.
+    pub fn edge_refusal(&self, edge: u16, cells: usize) -> u16 {
+        if !self.edges().contains(&usize::from(edge)) {
+            return 13;
+        }
+        if cells < self.n {
+            return 12;
+        }
+        0
+    }
+
+    /// The labels beyond an edge, in rising order.
+    pub fn labels_beyond(&self, edge: u16) -> Vec<u16> {
+        let tips = self.beyond[usize::from(edge)];
+        (0..self.n).filter(|&label| tips.contains(label)).map(|label| label as u16).collect()
+    }
+
+    /// Where the labels beyond each edge stand in the walk: side by side. Place 0 is of no edge.
+    pub fn places_beyond(&self) -> Vec<Range<usize>> {
+        let walk = self.walk();
+        let place = |tips: &Tips| {
+            let is_beyond = |&&label: &&u16| tips.contains(usize::from(label));
+            let before = walk.iter().take_while(|label| !is_beyond(label)).count();
+            let labels = walk[before..].iter().take_while(is_beyond).count();
+            assert_eq!(labels as u64, tips.count(), "side by side");
+            before..before + labels
+        };
+        self.beyond.iter().map(place).collect()
     }
 
     /// The nodes of the path between two labels: those above one and not the other, and the highest common one.

@@ -3,7 +3,7 @@
 use bench::agree::{centre_agrees, pair_agrees, topology_agrees, tree_agrees, Expected};
 use bench::enumerate::Tree;
 use bench::random::Random;
-use bench::reference::{P, PAIRS, Q, TABLES, THREE, TWO, X};
+use bench::reference::{P, PAIRS, Q, R, TABLES, THREE, TWO, X};
 use bench::{cubic, expanded, straight};
 
 #[test]
@@ -40,6 +40,24 @@ fn every_three_and_four_labels_of_the_tables() {
                 topology_agrees(table, Some(&tree), [a, b, c, d]);
             }
         }
+    }
+}
+
+#[test]
+fn the_labels_beyond_the_edges_of_p_and_r() {
+    let beyond = |table: &[u16], edge: u16, cells: usize| {
+        let mut walk = [0; 5];
+        leskwyn::walk(table, &mut walk).expect("accepted");
+        leskwyn::beyond(table, edge, &walk[..cells]).map(<[u16]>::to_vec).map_err(|refusal| refusal.number())
+    };
+    let of_p = [vec![1, 2, 3, 4], vec![1], vec![2, 3, 4], vec![2], vec![3, 4], vec![3], vec![4]];
+    let of_r = [vec![2, 1, 3, 4], vec![2], vec![1, 3, 4], vec![1], vec![3, 4], vec![3], vec![4]];
+    for (table, parts) in [(P, of_p), (R, of_r)] {
+        for (edge, part) in (1..).zip(parts) {
+            assert_eq!(beyond(table, edge, 5), Ok(part));
+            assert_eq!(beyond(table, edge, 4), Err(12));
+        }
+        assert_eq!([0, 8, X].map(|edge| beyond(table, edge, 4)), [Err(13), Err(13), Err(13)]);
     }
 }
 

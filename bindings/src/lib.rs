@@ -112,6 +112,28 @@ pub fn walk(table: &[u16], cells: &mut [u16]) -> Result<(), Refusal> {
     Refusal::from_number(unsafe { raw::leskwyn_walk(table.as_ptr(), table.len(), cells.as_mut_ptr(), cells.len()) })
 }
 
+/// The labels beyond an edge, as a part of the caller's walk. On a walk that [`walk`] wrote these are exactly the
+/// labels beyond the edge. The part is chosen by position alone, so that a walk filled with other words gives other
+/// words. Refuses by 1 to 7, then 13, then 12.
+///
+/// ```
+/// use leskwyn::{beyond, walk, INNER as X};
+/// let p = [5, 8, 0, 0, 1, 1, 3, 3, 5, 5, 0, X, 1, X, 2, X, 3, 4];
+/// let mut cells = [0; 5];
+/// walk(&p, &mut cells)?;
+/// assert_eq!(beyond(&p, 3, &cells)?, [2, 3, 4]);
+/// assert_eq!(beyond(&p, 3, &[10, 11, 12, 13, 14])?, [12, 13, 14]);
+/// assert_eq!(beyond(&p, 8, &cells).unwrap_err().number(), 13);
+/// # Ok::<(), leskwyn::Refusal>(())
+/// ```
+pub fn beyond<'a>(table: &[u16], edge: u16, walk: &'a [u16]) -> Result<&'a [u16], Refusal> {
+    // SAFETY: the pointer and the length are those of one live slice.
+    let answer = unsafe { raw::leskwyn_beyond(table.as_ptr(), table.len(), edge, walk.len()) };
+    Refusal::from_number(answer.refusal)?;
+    let start = usize::from(answer.start);
+    Ok(&walk[start..start + usize::from(answer.labels)])
+}
+
 /// The centre of three tips: the node where the paths between them join. Refuses by 1 to 7, then 10, then 11.
 ///
 /// ```

@@ -1,6 +1,15 @@
 //! The functions of the static library as they are exported, and their answers as they are laid out in C. The header
 //! `include/leskwyn.h` says what each takes, refuses and promises; the functions of the crate's root wrap them.
 
+/// The refusal, or 0; the first cell of the labels beyond an edge in a walk, and how many they are.
+#[repr(C)]
+#[derive(Clone, Copy, Debug, PartialEq, Eq)]
+pub struct BeyondAnswer {
+    pub refusal: u16,
+    pub start: u16,
+    pub labels: u16,
+}
+
 /// The refusal, or 0; the node.
 #[repr(C)]
 #[derive(Clone, Copy, Debug, PartialEq, Eq)]
@@ -59,6 +68,8 @@ extern "C" {
     pub fn leskwyn_check(table: *const u16, words: usize) -> u16;
 
     pub fn leskwyn_walk(table: *const u16, words: usize, walk: *mut u16, cells: usize) -> u16;
+
+    pub fn leskwyn_beyond(table: *const u16, words: usize, edge: u16, cells: usize) -> BeyondAnswer;
 
     pub fn leskwyn_centre(table: *const u16, words: usize, a: u16, b: u16, c: u16) -> CentreAnswer;
 

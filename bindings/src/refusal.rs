@@ -20,7 +20,7 @@ impl Refusal {
         NonZeroU16::new(number).map_or(Ok(()), |number| Err(Refusal(number)))
     }
 
-    /// The number: 1 to 7 of a table or of the first of two; 101 to 107 of the second; 8 to 12; or 15 of a file.
+    /// The number: 1 to 7 of a table or of the first of two; 101 to 107 of the second; 8 to 13; or 15 of a file.
     pub fn number(self) -> u16 {
         self.0.get()
     }
@@ -40,6 +40,7 @@ impl Refusal {
             10 => "a label asked about is n or more",
             11 => "two labels asked about are equal",
             12 => "the lent walk is shorter than n",
+            13 => "the edge is 0, or m or more",
             15 => "an odd number of bytes",
             _ => "a rule is broken",
         }
