@@ -1,0 +1,61 @@
+#!/usr/bin/env python3
+"""Tests of what the documents point to.
+
+    python3 tests/docs_tests.py
+
+docs/DECISIONS.md points to the lines that have each form of document 01; docs/PROMISES.md names the clauses and theorems
+of each sentence of the demands, and every must-fail edit. A pointer that leads nowhere fails here.
+"""
+import pathlib
+import re
+import unittest
+
+ROOT = pathlib.Path(__file__).resolve().parent.parent
+CODE = sorted(ROOT.glob("crates/*/*/**/*.antt")) + sorted(ROOT.glob("crates/*/src/**/*.rt"))
+WORD = re.compile(r"[A-Za-z_'′][\w'′-]*", re.UNICODE)
+
+
+def text(name):
+    return (ROOT / "docs" / name).read_text(encoding="utf-8")
+
+
+def section(content, heading):
+    """The lines below a heading, up to the next one of its level."""
+    return re.split(r"^## ", content.split(f"## {heading}\n", 1)[1], maxsplit=1, flags=re.M)[0]
+
+
+class Lines(unittest.TestCase):
+    """`FILE:LINE` `CODE` in docs/DECISIONS.md: that line holds that code."""
+
+    def test_pointers(self):
+        pointers = re.findall(r"`(crates/[^`:]+):(\d+)` `([^`]+)`", text("DECISIONS.md"))
+        self.assertGreater(len(pointers), 20)
+        for path, number, code in pointers:
+            with self.subTest(path=path, line=number):
+                lines = (ROOT / path).read_text(encoding="utf-8").split("\n")
+                self.assertEqual(lines[int(number) - 1].strip(), code)
+
+
+class Names(unittest.TestCase):
+    """Names in docs/PROMISES.md stand in the crates."""
+
+    def setUp(self):
+        self.promises = text("PROMISES.md")
+
+    def test_demands(self):
+        known = {word for path in CODE for word in WORD.findall(path.read_text(encoding="utf-8"))}
+        for demand in (1, 2, 3):
+            rows = section(self.promises, f"Demand {demand}, sentence by sentence")
+            names = {WORD.findall(name)[0] for name in re.findall(r"`([^`]+)`", rows) if WORD.findall(name)}
+            self.assertGreater(len(names), 10)
+            self.assertEqual(names - known, set())
+
+    def test_edits(self):
+        tried = {path.stem for path in ROOT.glob("crates/*/must-fail/*.edit")}
+        told = set(re.findall(r"^\| (?:\w+ )?`(\w+)` \| [^|]+\|(?: [^|]+\|)?$", self.promises, re.M))
+        self.assertEqual(tried - told, set())
+        self.assertEqual({name for name in told if "_" in name} - tried, set())
+
+
+if __name__ == "__main__":
+    unittest.main()
