@@ -8,7 +8,7 @@ use native.Mathlib.Omega.{arith}
 use lib.ListN.{length}
 use Rattle.sums.specs.Sum.{sum, sum-ext, sum-cong}
 use Rattle.shapes.specs.Claims.{choose2}
-use Rattle.trees.specs.Table.{word}
+use Rattle.tree_check.specs.Table.{word}
 use Rattle.node_pairs.specs.Aggregates.{rowSum, columnSum, whole, squares, rowSquares, columnSquares}
 use Rattle.node_pairs.specs.Aggregates.{rowWithout, columnWithout, down, along, rest, rest-cell}
 use Rattle.node_pairs.specs.CellForms.{pairsOff}

@@ -6,7 +6,7 @@ use Prim.Native.Nat.{ℕ, _+_, _*_, _-_, _≤_, _<_}
 use native.Mathlib.Omega.{arith}
 use lib.ListN.{length}
 use Rattle.sums.specs.Sum.{sum, sum-ext, sum-cong}
-use Rattle.trees.specs.Table.{word}
+use Rattle.tree_check.specs.Table.{word}
 use Rattle.node_pairs.specs.Cells.{pairS2, pairS3}
 use Rattle.node_pairs.specs.Aggregates.{transposed, rowSum, columnSum, down, along}
 use Rattle.node_pairs.specs.Transposed.{pairS2-transposed, pairS3-transposed}

@@ -7,7 +7,7 @@ use native.Mathlib.Nat.{mul-le-mul-right}
 use native.Mathlib.Omega.{arith}
 use lib.ListN.{length}
 use Rattle.sums.specs.Products.{product-le}
-use Rattle.trees.specs.Table.{word}
+use Rattle.tree_check.specs.Table.{word}
 
 -- In rows of w cells, edge r of the first tree and edge c of the second (counted from 0) meet in cell r * w + c. The
 -- first cell of a row and the first row are the sizes. `base` is where a row begins; c gives the second node's edges,

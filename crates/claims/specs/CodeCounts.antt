@@ -12,7 +12,7 @@ use Rattle.sums.specs.Sum.{sum}
 use Rattle.sums.specs.Bits.{is-eq, is-other}
 use Rattle.shapes.specs.Directions.{head, head-even, head-odd}
 use Rattle.node_pairs.specs.CodeLists.{degreeOf, degree-suc}
-use Rattle.trees.specs.Table.{word}
+use Rattle.tree_check.specs.Table.{word}
 use Rattle.claims.specs.CodesAt.{codesOf, degreeAt, codesBefore, Parents}
 use Rattle.claims.specs.CodesAt.{degree-mono, starts-inside, starts-suc}
 

@@ -7,7 +7,7 @@ use native.Mathlib.Numerals.{add-one}
 use native.Mathlib.Omega.{arith}
 use lib.ListN.{length, take, drop, length-drop}
 use lib.Seq.{getD-take, getD-drop, length-take-le}
-use Rattle.trees.specs.Table.{word}
+use Rattle.tree_check.specs.Table.{word}
 use Rattle.claims.specs.CodesAt.{Parents, Starts, EdgeList, degreeAt, codesBefore}
 use Rattle.claims.specs.CodesAt.{starts-inside, starts-suc, code-inside}
 use Rattle.claims.specs.NodeSums.{edgeInto}

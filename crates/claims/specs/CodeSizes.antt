@@ -5,7 +5,7 @@ use mathlib.Core.List.{List}
 use Prim.Native.Nat.{ℕ, zero, suc, _*_, _-_, _≤_, _<_}
 use native.Mathlib.Omega.{arith}
 use lib.ListN.{length}
-use Rattle.trees.specs.Table.{word}
+use Rattle.tree_check.specs.Table.{word}
 
 -- Edge r has its size in cell r * step. The i-th code into a node belongs to edge r i: the node's own edge first, which
 -- points away from tip 0, then its children's, which point towards it; n is the number of tips.

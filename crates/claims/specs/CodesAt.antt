@@ -11,7 +11,7 @@ use Rattle.sums.specs.Sum.{sum, sum-suc, sum-none, sum-swap, sum-mono, sum-cons
 use Rattle.sums.specs.Bits.{is, ne, is-eq, is-other, alike}
 use Rattle.shapes.specs.Directions.{head, head-even, head-odd, code-cases}
 use Rattle.node_pairs.specs.CodeLists.{degreeOf, codeAt, code-before, code-last, degree-suc, lists-codes, distinct}
-use Rattle.trees.specs.Table.{word}
+use Rattle.tree_check.specs.Table.{word}
 
 -- how many codes there are: two for each edge
 abbrev pub codesOf : List ℕ → ℕ

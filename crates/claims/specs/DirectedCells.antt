@@ -11,7 +11,7 @@ use Rattle.sums.specs.Sum.{sum-cong, sum-add, sum-const}
 use Rattle.sums.specs.Bits.{bit, bit-not}
 use Rattle.sums.specs.Counts.{count, count-le}
 use Rattle.shapes.specs.Directions.{behind-even, behind-odd}
-use Rattle.trees.specs.Table.{Table, word, tips, nodes, parent, nodeOf, beyond}
+use Rattle.tree_check.specs.Table.{Table, word, tips, nodes, parent, nodeOf, beyond}
 use Rattle.counting.specs.ClaimSums.{behindEdge, size, crossing}
 use Rattle.pair_check.specs.PairOrder.{PairWithCells}
 use Rattle.tree_pairs.specs.Crossings.{edgeCrossing, crossed, crossed-length, cell-of-edges}

@@ -13,7 +13,7 @@ use Rattle.sums.specs.Sum.{sum, sum-part}
 use Rattle.sums.specs.Bits.{is-eq, is-other}
 use Rattle.shapes.specs.Directions.{head}
 use Rattle.node_pairs.specs.CodeLists.{degreeOf, codeAt, code-before, code-last, degree-suc}
-use Rattle.trees.specs.Table.{word}
+use Rattle.tree_check.specs.Table.{word}
 use Rattle.claims.specs.CodesAt.{codesOf, degreeAt, codesBefore, Parents, Starts, EdgeList}
 use Rattle.claims.specs.CodesAt.{degree-mono, starts-inside, starts-suc}
 use Rattle.claims.specs.CodeCounts.{Counted, counted-start, counted-next}

@@ -5,7 +5,7 @@ use mathlib.Core.List.{List}
 use Prim.Native.Nat.{ℕ, _+_, _-_, _≤_}
 use native.Mathlib.Omega.{arith}
 use lib.ListN.{length}
-use Rattle.trees.specs.Table.{Table, tips, nodes, parents, to-parts, of-parts}
+use Rattle.tree_check.specs.Table.{Table, tips, nodes, parents, to-parts, of-parts}
 use Rattle.pair_check.specs.PairOrder.{PairWithCells}
 use Rattle.pair_check.specs.PairOutcomes.{edges-some}
 use Rattle.tree_pairs.specs.Crossings.{crossed, afterCrossings}

@@ -8,7 +8,7 @@ use native.Mathlib.Omega.{arith}
 use lib.ListN.{length}
 use Rattle.sums.specs.Sum.{sum, sum-ext, sum-cong, sum-swap, sum-mono, sum-const, sum-none}
 use Rattle.sums.specs.SetsOfFour.{sets2}
-use Rattle.trees.specs.Table.{word}
+use Rattle.tree_check.specs.Table.{word}
 use Rattle.node_pairs.specs.ClosedForms.{dot, dotSquares, termSquares}
 use Rattle.sums.specs.Products.{product-le}
 use Rattle.claims.specs.Lines.{Line, Low, lineCell, squared, sum-next, sum-step}

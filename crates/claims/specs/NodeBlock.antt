@@ -9,7 +9,7 @@ use native.Mathlib.Omega.{arith}
 use lib.ListN.{length, set, length-set}
 use lib.Seq.{getD-set-same, getD-set-other}
 use Rattle.sums.specs.Products.{product-le}
-use Rattle.trees.specs.Table.{word}
+use Rattle.tree_check.specs.Table.{word}
 use Rattle.claims.specs.CodeCells.{CellRoom, Crossed, cell-room, codeCell, ownCell, childCell}
 
 -- ---- one row

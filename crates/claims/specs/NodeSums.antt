@@ -11,8 +11,8 @@ use Rattle.shapes.specs.Claims.{choose2}
 use Rattle.node_pairs.specs.Cells.{sumApart, pairS2, pairS3}
 use Rattle.node_pairs.specs.CellTotals.{apart-few, pairS2-few, pairS3-few}
 use Rattle.node_pairs.specs.CellsAlike.{apart-ext, pairS2-ext, pairS3-ext}
-use Rattle.trees.specs.Table.{Table, tips, nodes, parents, parents-length}
-use Rattle.trees.specs.IsTree.{IsTree}
+use Rattle.tree_check.specs.Table.{Table, tips, nodes, parents, parents-length}
+use Rattle.tree_check.specs.IsTree.{IsTree}
 use Rattle.counting.specs.ClaimSums.{size, crossing, S, S2, S3}
 use Rattle.counting.specs.Degrees.{sizes-most}
 use Rattle.counting.specs.NodePairSums.{nodeTerm, pairTermS2, pairTermS3}

@@ -12,7 +12,7 @@ use Rattle.sums.specs.Products.{product-le}
 use Rattle.node_pairs.specs.Cells.{pairS2, pairS3}
 use Rattle.node_pairs.specs.CellTotals.{pairS2-few, pairS3-few}
 use Rattle.node_pairs.specs.CellsAlike.{pairS2-ext, pairS3-ext}
-use Rattle.trees.specs.Table.{word}
+use Rattle.tree_check.specs.Table.{word}
 use Rattle.claims.specs.Block.{Block, blockCell}
 use Rattle.claims.specs.CodeCells.{Crossed, codeCell, ownCell, childCell}
 use Rattle.claims.specs.CodeLists.{CodeLists, nodePart, part-length, part-edge, edge-inside}

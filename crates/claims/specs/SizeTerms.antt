@@ -9,7 +9,7 @@ use Rattle.sums.specs.Sum.{sum, sum-cong, sum-ge, sum-mul-right}
 use Rattle.sums.specs.Products.{product-le}
 use Rattle.shapes.specs.Claims.{choose2}
 use Rattle.node_pairs.specs.NodeSums.{others, others-and-own, node-closed}
-use Rattle.trees.specs.Table.{word}
+use Rattle.tree_check.specs.Table.{word}
 use Rattle.claims.specs.Lines.{Line, lineCell, squared, sum-next}
 use Rattle.claims.specs.NodeSums.{sizesApart}
 

@@ -8,8 +8,8 @@ use native.Mathlib.Omega.{arith}
 use lib.ListN.{length}
 use Rattle.shapes.specs.Directions.{head}
 use Rattle.node_pairs.specs.CodeLists.{Lists, lists-codes, distinct}
-use Rattle.trees.specs.Table.{Table, word, tips, nodes, parents, parent, parents-length}
-use Rattle.trees.specs.IsTree.{IsTree, rooted}
+use Rattle.tree_check.specs.Table.{Table, word, tips, nodes, parents, parent, parents-length}
+use Rattle.tree_check.specs.IsTree.{IsTree, rooted}
 use Rattle.counting.specs.ClaimSums.{codes}
 use Rattle.counting.specs.NodePairSums.{CodesInto}
 use Rattle.counting.specs.Degrees.{degree-most}

@@ -7,7 +7,7 @@ use native.Mathlib.Numerals.{add-one}
 use native.Mathlib.Omega.{arith}
 use lib.ListN.{length}
 use Rattle.sums.specs.Sum.{sum, sum-suc, sum-ext, sum-part}
-use Rattle.trees.specs.Table.{word}
+use Rattle.tree_check.specs.Table.{word}
 use Rattle.claims.specs.CodeLists.{CodeLists, nodePart, part-length, part-edge, edge-inside}
 use Rattle.claims.specs.CodesAt.{degreeAt}
 use Rattle.claims.specs.CodeSizes.{codeSize, SizeCell, SizesRoom}

@@ -2,7 +2,7 @@
 // `c` the column of the second.
 ghost use mathlib.Core.Path.{_≡_};
 ghost use Prim.Native.Nat.{_+_, _-_, _≤_};
-ghost use Rattle.trees.specs.Table.{word};
+ghost use Rattle.tree_check.specs.Table.{word};
 ghost use Rattle.claims.specs.CodeCells.{CellRoom};
 
 // Beyond both edges.

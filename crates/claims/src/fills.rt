@@ -5,7 +5,7 @@ use super::code_cells::neither;
 use super::code_cells::second_only;
 ghost use Prim.Native.Nat.{_+_, _*_, _≤_};
 ghost use lib.ListN.{length};
-ghost use Rattle.trees.specs.Table.{word};
+ghost use Rattle.tree_check.specs.Table.{word};
 ghost use Rattle.claims.specs.CodeCells.{childCell, ownCell};
 ghost use Rattle.claims.specs.NodeBlock.{Written, RowRoom, NodeEdges, RowsFilled};
 

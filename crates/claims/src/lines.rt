@@ -4,7 +4,7 @@ ghost use mathlib.Core.Path.{_≡_};
 ghost use Prim.Native.Nat.{_≤_};
 ghost use lib.ListN.{length};
 ghost use Rattle.sums.specs.Sum.{sum};
-ghost use Rattle.trees.specs.Table.{word};
+ghost use Rattle.tree_check.specs.Table.{word};
 ghost use Rattle.claims.specs.Filled.{filled};
 ghost use Rattle.claims.specs.Lines.{Line, Lines, Totals, AllTotals, Low};
 ghost use Rattle.claims.specs.Lines.{lineCell, restCell, lineSum, lineRest, squared};

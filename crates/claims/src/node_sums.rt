@@ -8,7 +8,7 @@ ghost use Prim.Native.Nat.{_+_, _*_, _-_, _≤_};
 ghost use lib.ListN.{length};
 ghost use Rattle.sums.specs.Sum.{sum};
 ghost use Rattle.shapes.specs.Claims.{choose2};
-ghost use Rattle.trees.specs.Table.{word};
+ghost use Rattle.tree_check.specs.Table.{word};
 ghost use Rattle.claims.specs.CodeSizes.{codeSize};
 ghost use Rattle.claims.specs.NodeSums.{sizesApart, nodeSum};
 ghost use Rattle.claims.specs.SizeTerms.{SizesFew, sizeTerm};

@@ -1,6 +1,6 @@
 // The sizes of the sets of tips behind the codes into a node.
 ghost use lib.ListN.{length};
-ghost use Rattle.trees.specs.Table.{word};
+ghost use Rattle.tree_check.specs.Table.{word};
 ghost use Rattle.claims.specs.CodeSizes.{SizesRoom, codeSize};
 ghost use Rattle.claims.specs.NodeBlock.{Written};
 

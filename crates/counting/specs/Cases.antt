@@ -7,7 +7,7 @@ use Rattle.sums.specs.Bits.{bit}
 use Rattle.sums.specs.SetsOfFour.{sets4}
 use Rattle.trees.specs.declared.quartet.Topology.{Topology}
 use Rattle.trees.specs.declared.quartet.Topology.the-variants.{Butterfly, Star}
-use Rattle.trees.specs.Table.{Table, tips}
+use Rattle.tree_check.specs.Table.{Table, tips}
 use Rattle.trees.specs.Topology.{topology}
 
 -- 'A same butterfly in both; B different butterflies; C butterfly in the first only; D butterfly in the second only;

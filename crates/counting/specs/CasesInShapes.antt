@@ -12,8 +12,8 @@ use Rattle.sums.specs.SetsOfFour.{sets4-ext}
 use Rattle.shapes.specs.Topologies.{firstPassed, topologyIn, caseIn, casesIn}
 use Rattle.trees.specs.declared.quartet.Topology.{Topology}
 use Rattle.trees.specs.declared.quartet.Topology.the-variants.{Butterfly}
-use Rattle.trees.specs.Table.{Table, tips}
-use Rattle.trees.specs.IsTree.{IsTree}
+use Rattle.tree_check.specs.Table.{Table, tips}
+use Rattle.tree_check.specs.IsTree.{IsTree}
 use Rattle.trees.specs.Topology.{butterfly, named, topology}
 use Rattle.trees.specs.Partners.{partner-of-smallest}
 use Rattle.counting.specs.Cases.{Case, A, B, caseOf, caseNumber, isCase, quartets}

@@ -5,7 +5,7 @@ use Prim.Native.Nat.{ℕ, _*_, _-_}
 use Rattle.sums.specs.Counts.{count}
 use Rattle.shapes.specs.Directions.{behind}
 use Rattle.shapes.specs.Claims.{sumClaims, claimTerm, equation1, dcount}
-use Rattle.trees.specs.Table.{Table, tips, nodes, parent, nodeOf}
+use Rattle.tree_check.specs.Table.{Table, tips, nodes, parent, nodeOf}
 
 -- 'A directed edge is an edge with a direction, two for each edge': codes below this number
 unfoldable pub codes : Table → ℕ

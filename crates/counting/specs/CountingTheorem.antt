@@ -9,8 +9,8 @@ use Rattle.shapes.specs.Claims.{sumClaims, claimTerm}
 use Rattle.shapes.specs.Shape.{Shape}
 use Rattle.shapes.specs.Topologies.{casesIn}
 use Rattle.shapes.specs.Counting.{S-in, S2-in, S3-in, Counted, counted}
-use Rattle.trees.specs.Table.{Table, tips, nodes, parent, nodeOf}
-use Rattle.trees.specs.IsTree.{IsTree}
+use Rattle.tree_check.specs.Table.{Table, tips, nodes, parent, nodeOf}
+use Rattle.tree_check.specs.IsTree.{IsTree}
 use Rattle.counting.specs.ClaimSums.{codes, behindEdge, size, crossing, S, S2, S3}
 use Rattle.counting.specs.Cases.{Case, A, B, C, D, E, caseNumber, quartets}
 use Rattle.counting.specs.TreeShape.{shapeOf}

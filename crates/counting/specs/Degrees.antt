@@ -9,8 +9,8 @@ use Rattle.sums.specs.Bits.{bit, bit-not}
 use Rattle.shapes.specs.Directions.{head, behind, behind-even, behind-odd, code-cases}
 use Rattle.node_pairs.specs.CodeLists.{Lists}
 use Rattle.node_pairs.specs.CellTotals.{listed-behind-one}
-use Rattle.trees.specs.Table.{Table, tips, nodes, parent, nodeOf, beyond}
-use Rattle.trees.specs.IsTree.{IsTree, rooted}
+use Rattle.tree_check.specs.Table.{Table, tips, nodes, parent, nodeOf, beyond}
+use Rattle.tree_check.specs.IsTree.{IsTree, rooted}
 use Rattle.trees.specs.Labels.{node-at}
 use Rattle.counting.specs.ClaimSums.{codes, behindEdge, size}
 use Rattle.counting.specs.TreeSplits.{labelled, zero-here}

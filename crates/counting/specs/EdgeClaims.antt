@@ -5,8 +5,8 @@ use Prim.Native.Nat.{ℕ, _*_, _-_, _/_, _<_}
 use Rattle.shapes.specs.Directions.{head}
 use Rattle.shapes.specs.Claims.{sumClaimsOf}
 use Rattle.shapes.specs.ClaimsOfAnEdge.{degree, claims-of-an-edge}
-use Rattle.trees.specs.Table.{Table, nodes, parent}
-use Rattle.trees.specs.IsTree.{IsTree, rooted}
+use Rattle.tree_check.specs.Table.{Table, nodes, parent}
+use Rattle.tree_check.specs.IsTree.{IsTree, rooted}
 use Rattle.counting.specs.ClaimSums.{codes}
 
 -- how many edges the node v has

@@ -14,9 +14,9 @@ use Rattle.shapes.specs.SameSplits.{same-splits-refl}
 use Rattle.trees.specs.declared.quartet.Topology.{Topology}
 use Rattle.trees.specs.declared.quartet.Topology.the-variants.{Star}
 use Rattle.trees.specs.declared.quartet.TopologyAnswer.{TopologyAnswer}
-use Rattle.trees.specs.Table.{Table, tips, beyond}
-use Rattle.trees.specs.IsTree.{IsTree}
-use Rattle.trees.specs.Refusals.{refusal, ifAccepted}
+use Rattle.tree_check.specs.Table.{Table, tips, beyond}
+use Rattle.tree_check.specs.IsTree.{IsTree}
+use Rattle.tree_check.specs.Refusals.{refusal, ifAccepted}
 use Rattle.trees.specs.Orders.{askedOrder, labelOrder, AllBelow, Different, tree-accepted, label-check}
 use Rattle.trees.specs.Topology.{butterfly, topology, topologyAnswer}
 use Rattle.counting.specs.ClaimSums.{S, S2, S3}

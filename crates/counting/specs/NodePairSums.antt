@@ -14,8 +14,8 @@ use Rattle.node_pairs.specs.CodeLists.{Lists, degreeOf, codeAt, lists-codes}
 use Rattle.node_pairs.specs.NodeSums.{S-by-nodes}
 use Rattle.node_pairs.specs.NodePairs.{Listed, S2-by-node-pairs, S3-by-node-pairs}
 use Rattle.node_pairs.specs.CellTotals.{crossings-le}
-use Rattle.trees.specs.Table.{Table, tips, nodes, parent}
-use Rattle.trees.specs.IsTree.{IsTree, rooted}
+use Rattle.tree_check.specs.Table.{Table, tips, nodes, parent}
+use Rattle.tree_check.specs.IsTree.{IsTree, rooted}
 use Rattle.counting.specs.ClaimSums.{codes, behindEdge, size, crossing, S, S2, S3}
 use Rattle.counting.specs.TreeShape.{shapeOf}
 

@@ -6,8 +6,8 @@ use Prim.Native.Nat.{ℕ, _+_, _*_, _-_, _/_, _%_, _≤_}
 use native.Mathlib.Omega.{arith}
 use Rattle.sums.specs.Fours.{fours, fours-exact, fours-of-256, fours-mono}
 use Rattle.shapes.specs.ZeroRule.{zero-rule}
-use Rattle.trees.specs.Table.{Table, tips, beyond}
-use Rattle.trees.specs.IsTree.{IsTree}
+use Rattle.tree_check.specs.Table.{Table, tips, beyond}
+use Rattle.tree_check.specs.IsTree.{IsTree}
 use Rattle.counting.specs.ClaimSums.{S, S2, S3}
 use Rattle.counting.specs.Cases.{Case, A, B, C, D, E, caseNumber, quartets}
 use Rattle.counting.specs.QuartetTable.{formulaA, formulaB, formulaC, formulaD, formulaE, formulaDistance}

@@ -8,8 +8,8 @@ use native.Mathlib.Omega.{arith}
 use Rattle.sums.specs.Bits.{bit, bit-inj, is, is-eq, is-other, alike}
 use Rattle.shapes.specs.Ancestors.{Rooted, anc, up-ind, anc-at-zero, anc-up}
 use Rattle.shapes.specs.Splits.{SameSides, same, AllOccur, split-moves}
-use Rattle.trees.specs.Table.{Table, tips, nodes, parent, label, nodeOf, beyond}
-use Rattle.trees.specs.IsTree.{IsTree, rooted}
+use Rattle.tree_check.specs.Table.{Table, tips, nodes, parent, label, nodeOf, beyond}
+use Rattle.tree_check.specs.IsTree.{IsTree, rooted}
 use Rattle.trees.specs.Labels.{node-at, node-only}
 use Rattle.counting.specs.SplitCounts.{HaveSameSplits}
 use Rattle.counting.specs.LabelsAlone.{LabelsAlone, labels-alone}

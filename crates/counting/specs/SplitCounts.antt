@@ -3,7 +3,7 @@
 use mathlib.Core.Bool.{Bool}
 use Prim.Native.Nat.{ℕ, _+_, _*_, _-_}
 use Rattle.shapes.specs.Splits.{splitsOf, commonOf, sameSplitsOf, SameSplits}
-use Rattle.trees.specs.Table.{Table, tips, nodes, beyond}
+use Rattle.tree_check.specs.Table.{Table, tips, nodes, beyond}
 
 -- 'A split is an edge with at least two tips on each side.' How many a tree has
 unfoldable pub splits : Table → ℕ

@@ -7,8 +7,8 @@ use native.Mathlib.Nat.{eq-zero-or-pos}
 use native.Mathlib.Omega.{arith}
 use Rattle.shapes.specs.Directions.{head, head-even, head-odd, code-cases}
 use Rattle.shapes.specs.Shape.{Leaf, Shape}
-use Rattle.trees.specs.Table.{Table, tips, nodes, parent, label, nodeOf}
-use Rattle.trees.specs.IsTree.{IsTree, Child, rooted}
+use Rattle.tree_check.specs.Table.{Table, tips, nodes, parent, label, nodeOf}
+use Rattle.tree_check.specs.IsTree.{IsTree, Child, rooted}
 use Rattle.trees.specs.Labels.{node-at}
 
 module _ (t : Table) (g : IsTree t) where

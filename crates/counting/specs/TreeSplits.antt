@@ -15,8 +15,8 @@ use Rattle.shapes.specs.Splits.{splitsOf, commonOf, robinsonFouldsOf, Distinct,
 use Rattle.shapes.specs.RobinsonFoulds as rf
 use Rattle.shapes.specs.RobinsonFoulds.{common-turned}
 use Rattle.shapes.specs.SameSplits as ss
-use Rattle.trees.specs.Table.{Table, tips, nodes, parent, label, nodeOf, beyond}
-use Rattle.trees.specs.IsTree.{IsTree, Child, rooted}
+use Rattle.tree_check.specs.Table.{Table, tips, nodes, parent, label, nodeOf, beyond}
+use Rattle.tree_check.specs.IsTree.{IsTree, Child, rooted}
 use Rattle.trees.specs.Labels.{node-only}
 use Rattle.counting.specs.SplitCounts.{splits, commonSplits, robinsonFoulds, sameSplits, HaveSameSplits}
 

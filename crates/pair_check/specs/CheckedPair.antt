@@ -2,8 +2,8 @@
 -- Assumes nothing.
 use mathlib.Core.Path.{_≡_}
 use Prim.Native.Nat.{ℕ, zero, suc, _-_}
-use Rattle.trees.specs.Table.{Table, tips, nodes}
-use Rattle.trees.specs.Refusals.{refusal, ifAccepted}
+use Rattle.tree_check.specs.Table.{Table, tips, nodes}
+use Rattle.tree_check.specs.Refusals.{refusal, ifAccepted}
 use Rattle.pair_check.specs.declared.pairs.CheckedPair.{CheckedPair}
 use Rattle.pair_check.specs.declared.pairs.CheckedPair.the-variants.{Pair, Refused}
 use Rattle.pair_check.specs.PairOrder.{tablesOrder, pairOrder}

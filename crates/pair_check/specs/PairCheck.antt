@@ -8,9 +8,9 @@ use Prim.Native.Nat.{ℕ, _+_, _≤_}
 use native.Mathlib.Omega.{arith}
 use lib.Dec.{eqb}
 use Rattle.sums.specs.Tests.{not-lt-iff, eq-iff, not-not}
-use Rattle.trees.specs.Table.{Table, tips}
-use Rattle.trees.specs.Refusals.{Rule, refusal, Kept, Numbered, accepted, kept-append, numbered-append}
-use Rattle.trees.specs.TreeCheck.{arraysOrder, treeOrder, tree-numbered, tree-kept, kept-tree}
+use Rattle.tree_check.specs.Table.{Table, tips}
+use Rattle.tree_check.specs.Refusals.{Rule, refusal, Kept, Numbered, accepted, kept-append, numbered-append}
+use Rattle.tree_check.specs.TreeCheck.{arraysOrder, treeOrder, tree-numbered, tree-kept, kept-tree}
 use Rattle.pair_check.specs.PairOrder.{plus, tipsOrder, tablesOrder, cellsNeeded, workOrder, pairOrder}
 use Rattle.pair_check.specs.PairOrder.{IsPair, PairWithCells}
 

@@ -5,10 +5,10 @@ use mathlib.Core.Bool.{not}
 use mathlib.Core.List.{List, [], _∷_, _++_}
 use Prim.Native.Nat.{ℕ, _+_, _*_, _-_, _≤_}
 use lib.Dec.{eqb, ltb}
-use Rattle.trees.specs.Table.{Table, tips, nodes}
-use Rattle.trees.specs.Refusals.{Rule}
-use Rattle.trees.specs.IsTree.{IsTree}
-use Rattle.trees.specs.TreeCheck.{treeOrder}
+use Rattle.tree_check.specs.Table.{Table, tips, nodes}
+use Rattle.tree_check.specs.Refusals.{Rule}
+use Rattle.tree_check.specs.IsTree.{IsTree}
+use Rattle.tree_check.specs.TreeCheck.{treeOrder}
 
 -- 'by the same numbers plus 100'
 unfoldable pub plus : ℕ → List Rule → List Rule

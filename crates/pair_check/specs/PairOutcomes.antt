@@ -7,10 +7,10 @@ use Prim.Native.Nat.{ℕ, zero, suc, _+_, _*_, _-_, _≤_, _<_}
 use native.Mathlib.Nat.{mul-le-mul, lt-of-le-of-lt}
 use native.Mathlib.Omega.{arith}
 use borrow.Author.Tests.{lt-ltb, eq-eqb, ne-eqb}
-use Rattle.trees.specs.Table.{Table, tips, nodes}
-use Rattle.trees.specs.Refusals.{refusal, ifAccepted, refusal-here, refusal-first, refusal-kept}
-use Rattle.trees.specs.IsTree.{IsTree}
-use Rattle.trees.specs.TreeCheck.{treeOrder, tree-kept}
+use Rattle.tree_check.specs.Table.{Table, tips, nodes}
+use Rattle.tree_check.specs.Refusals.{refusal, ifAccepted, refusal-here, refusal-first, refusal-kept}
+use Rattle.tree_check.specs.IsTree.{IsTree}
+use Rattle.tree_check.specs.TreeCheck.{treeOrder, tree-kept}
 use Rattle.pair_check.specs.declared.pairs.CheckedPair.{CheckedPair}
 use Rattle.pair_check.specs.declared.pairs.CheckedPair.the-variants.{Pair, Refused}
 use Rattle.pair_check.specs.PairOrder.{plus, tipsOrder, tablesOrder, cellsNeeded, workOrder, pairOrder}

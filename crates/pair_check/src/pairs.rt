@@ -1,10 +1,10 @@
 // The pair check: whether two tables are tree tables on the same tips, and whether the lent work has cells enough.
 use super::words::wide;
-use trees::Checked;
-use trees::check;
-use trees::refusal_of;
+use tree_check::Checked;
+use tree_check::check;
+use tree_check::refusal_of;
 ghost use mathlib.Core.Path.{_≡_};
-ghost use Rattle.trees.specs.Refusals.{refusal};
+ghost use Rattle.tree_check.specs.Refusals.{refusal};
 ghost use Rattle.pair_check.specs.PairOrder.{tablesOrder, pairOrder};
 ghost use Rattle.pair_check.specs.CheckedPair.{checkedPair, checkedWork, numberOf, Told};
 

@@ -13,10 +13,10 @@ use Rattle.shapes.specs.Directions.{edge, rising, head, behind}
 use Rattle.shapes.specs.Quartets.{parts, parted}
 use Rattle.shapes.specs.Claims.{sumIf, meet, sumClaimsOf, sumClaims, choose2}
 use Rattle.shapes.specs.Splits.{isSplit, sameSides, occurs, splitsOf, commonOf}
-use Rattle.trees.specs.Table.{tips, nodes, parents, labels, parent, label, nodeBelow, nodeOf, beyond}
-use Rattle.trees.specs.Refusals.{refusal, ifAccepted}
-use Rattle.trees.specs.TreeCheck.{tipsFit, nodesFit, parentFits, labelFits, standing, labelsFit}
-use Rattle.trees.specs.TreeCheck.{isChild, children, misplaced, arraysOrder, treeOrder}
+use Rattle.tree_check.specs.Table.{tips, nodes, parents, labels, parent, label, nodeBelow, nodeOf, beyond}
+use Rattle.tree_check.specs.Refusals.{refusal, ifAccepted}
+use Rattle.tree_check.specs.TreeCheck.{tipsFit, nodesFit, parentFits, labelFits, standing, labelsFit}
+use Rattle.tree_check.specs.TreeCheck.{isChild, children, misplaced, arraysOrder, treeOrder}
 use Rattle.trees.specs.Topology.{butterfly, partner, named, topology}
 use Rattle.counting.specs.ClaimSums.{codes, behindEdge, size, crossing, S, S2, S3}
 use Rattle.counting.specs.Cases.{caseOf, caseNumber, isCase, quartets}

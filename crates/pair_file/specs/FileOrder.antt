@@ -7,7 +7,7 @@ use mathlib.Core.List.{List}
 use Prim.Native.Nat.{ℕ, _%_, _≤_, _<_}
 use borrow.Author.Tests.{lt-ltb, le-ltb, eq-eqb, ne-eqb}
 use lib.ListN.{length}
-use Rattle.trees.specs.Refusals.{refusal, refusal-here, refusal-next}
+use Rattle.tree_check.specs.Refusals.{refusal, refusal-here, refusal-next}
 use Rattle.pair_file.specs.PairFile.{fileWords, wordsOrder, fileOrder}
 
 module _ (bytes : List ℕ) where

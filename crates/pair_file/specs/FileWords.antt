@@ -9,7 +9,7 @@ use native.Mathlib.Omega.{arith}
 use lib.ListN.{length, take, drop, set, length-drop}
 use lib.Seq.{take-suc, take-suc-set, take-all, length-take-le}
 use borrow.Author.Tests.{lt-ltb, le-ltb}
-use Rattle.trees.specs.Table.{word, nodes, rest, rest-drop}
+use Rattle.tree_check.specs.Table.{word, nodes, rest, rest-drop}
 use Rattle.pair_file.specs.PairFile.{fileWords, firstLength, firstTable, secondTable}
 
 -- ---- the words

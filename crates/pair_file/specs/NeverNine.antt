@@ -8,10 +8,10 @@ use native.Mathlib.Nat.{mul-le-mul-left}
 use native.Mathlib.Decide.{decLe, ℕ-discrete}
 use native.Mathlib.Omega.{arith}
 use lib.ListN.{length}
-use Rattle.trees.specs.Table.{Table, tips}
-use Rattle.trees.specs.Refusals.{refusal}
-use Rattle.trees.specs.IsTree.{IsTree}
-use Rattle.trees.specs.TreeCheck.{treeOrder, tree-check}
+use Rattle.tree_check.specs.Table.{Table, tips}
+use Rattle.tree_check.specs.Refusals.{refusal}
+use Rattle.tree_check.specs.IsTree.{IsTree}
+use Rattle.tree_check.specs.TreeCheck.{treeOrder, tree-check}
 use Rattle.pair_check.specs.PairOrder.{tablesOrder, pairOrder, cellsNeeded}
 use Rattle.pair_check.specs.PairCheck.{tables-check, tree-refusal-most}
 use Rattle.pair_check.specs.PairOutcomes.{first-refused, second-refused, tips-differ, tables-accepted}

@@ -6,8 +6,8 @@ use mathlib.Core.List.{List}
 use Prim.Native.Nat.{ℕ, zero, suc, _+_, _%_, _≤_, _<_}
 use native.Mathlib.Omega.{arith}
 use lib.ListN.{length, take}
-use Rattle.trees.specs.Table.{Table, tips, rest}
-use Rattle.trees.specs.Refusals.{refusal, ifAccepted}
+use Rattle.tree_check.specs.Table.{Table, tips, rest}
+use Rattle.tree_check.specs.Refusals.{refusal, ifAccepted}
 use Rattle.counting.specs.ClaimSums.{S, S2, S3}
 use Rattle.counting.specs.Cases.{A, B, C, D, E, quartets}
 use Rattle.counting.specs.SplitCounts.{splits, commonSplits, robinsonFoulds}

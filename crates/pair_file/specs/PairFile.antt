@@ -5,8 +5,8 @@ use mathlib.Core.List.{List, [], _∷_}
 use Prim.Native.Nat.{ℕ, _+_, _*_, _%_}
 use lib.Dec.{eqb, ltb}
 use lib.ListN.{length, take, drop}
-use Rattle.trees.specs.Table.{Table, tips, nodes}
-use Rattle.trees.specs.Refusals.{Rule, refusal, ifAccepted}
+use Rattle.tree_check.specs.Table.{Table, tips, nodes}
+use Rattle.tree_check.specs.Refusals.{Rule, refusal, ifAccepted}
 use Rattle.counting.specs.ClaimSums.{S, S2, S3}
 use Rattle.counting.specs.Cases.{A, B, C, D, E, quartets}
 use Rattle.counting.specs.SplitCounts.{splits, commonSplits, robinsonFoulds}

@@ -11,8 +11,8 @@ use Rattle.sums.specs.Products.{bit-and}
 use Rattle.sums.specs.Counts.{count-le}
 use Rattle.shapes.specs.Ancestors.{anc, anc-at-zero}
 use Rattle.shapes.specs.Totals.{total}
-use Rattle.trees.specs.Table.{Table, tips, nodes, parent, label, nodeOf, beyond}
-use Rattle.trees.specs.IsTree.{IsTree, rooted}
+use Rattle.tree_check.specs.Table.{Table, tips, nodes, parent, label, nodeOf, beyond}
+use Rattle.tree_check.specs.IsTree.{IsTree, rooted}
 use Rattle.trees.specs.Labels.{node-at, sum-over-tips}
 use Rattle.tree_pairs.specs.Crossings.{edgeCrossing}
 

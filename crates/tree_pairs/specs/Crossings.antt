@@ -10,8 +10,8 @@ use native.Mathlib.Omega.{arith}
 use lib.ListN.{length, drop, length-drop, length-append, List·getD-append}
 use lib.Seq.{ext-getD, getD-drop, getD-append-add}
 use Rattle.sums.specs.Counts.{count}
-use Rattle.trees.specs.Table.{Table, word, tips, nodes, beyond}
-use Rattle.trees.specs.Refusals.{refusal, ifAccepted}
+use Rattle.tree_check.specs.Table.{Table, word, tips, nodes, beyond}
+use Rattle.tree_check.specs.Refusals.{refusal, ifAccepted}
 use Rattle.pair_check.specs.PairOrder.{cellsNeeded, pairOrder}
 
 -- 'how many labels lie beyond both edge i of the first tree and edge j of the second'

@@ -14,7 +14,7 @@ use Rattle.sums.specs.Bits.{bit, bit-no}
 use Rattle.sums.specs.Tests.{lt-iff}
 use Rattle.shapes.specs.Ancestors.{anc}
 use Rattle.shapes.specs.Totals.{total}
-use Rattle.trees.specs.Table.{Table, word, tips, nodes, label, nodeBelow, nodeOf, tableOf, tips-of, nodes-of}
+use Rattle.tree_check.specs.Table.{Table, word, tips, nodes, label, nodeBelow, nodeOf, tableOf, tips-of, nodes-of}
 use Rattle.trees.specs.Labels.{node-at}
 use Rattle.trees.specs.Arrays.{TreeArrays, parent-is, label-is, few-tips, few-nodes, rooted-parents}
 use Rattle.tree_pairs.specs.Grid.{cellAt}

@@ -2,7 +2,7 @@
 -- Assumes nothing.
 use mathlib.Core.List.{List}
 use Prim.Native.Nat.{ℕ, _+_, _*_, _-_}
-use Rattle.trees.specs.Table.{word}
+use Rattle.tree_check.specs.Table.{word}
 
 -- in rows of w cells, the cell of node v of the first tree and column j
 abbrev pub cellAt : List ℕ → ℕ → ℕ → ℕ → ℕ

@@ -6,9 +6,9 @@ use mathlib.Core.List.{List}
 use Prim.Native.Nat.{ℕ, _+_, _*_, _-_}
 use native.Mathlib.Omega.{arith}
 use lib.ListN.{length, take, drop}
-use Rattle.trees.specs.Table.{Table, word, tips, nodes, parents, labels, rest, tableOf, to-parts, of-parts}
-use Rattle.trees.specs.Table.{parents-length, table-of-parts}
-use Rattle.trees.specs.Refusals.{refusal, if-accepted, if-refused}
+use Rattle.tree_check.specs.Table.{Table, word, tips, nodes, parents, labels, rest, tableOf, to-parts, of-parts}
+use Rattle.tree_check.specs.Table.{parents-length, table-of-parts}
+use Rattle.tree_check.specs.Refusals.{refusal, if-accepted, if-refused}
 use Rattle.trees.specs.Arrays.{TreeArrays, tree-arrays}
 use Rattle.pair_check.specs.PairOrder.{PairWithCells, pairOrder}
 use Rattle.pair_check.specs.PairCheck.{pair-check}

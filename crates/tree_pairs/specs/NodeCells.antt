@@ -9,7 +9,7 @@ use native.Mathlib.Omega.{arith}
 use borrow.Author.Tests.{eq-eqb, ne-eqb}
 use lib.ListN.{length, set, replicate, length-set, length-replicate, getD-replicate}
 use lib.Seq.{getD-set-same, getD-set-other}
-use Rattle.trees.specs.Table.{word, nodeBelow}
+use Rattle.tree_check.specs.Table.{word, nodeBelow}
 
 -- in the cell of each label the last node below k that has it
 pub record NodesOf (ls : List ℕ) (k : ℕ) (nodes : List ℕ) : Type 0 where

@@ -6,10 +6,10 @@ use Rattle.sums.specs.Sum.{sum}
 use Rattle.sums.specs.Bits.{bit}
 use Rattle.sums.specs.Tests.{some, every}
 use Rattle.shapes.specs.Ancestors.{ancIn, anc}
-use Rattle.trees.specs.Table.{tips, nodes, parents, labels, parent, label, nodeBelow, nodeOf, beyond}
-use Rattle.trees.specs.Refusals.{refusal}
-use Rattle.trees.specs.TreeCheck.{tipsFit, nodesFit, parentFits, labelFits, standing, labelsFit}
-use Rattle.trees.specs.TreeCheck.{isChild, children, misplaced, arraysOrder, treeOrder}
+use Rattle.tree_check.specs.Table.{tips, nodes, parents, labels, parent, label, nodeBelow, nodeOf, beyond}
+use Rattle.tree_check.specs.Refusals.{refusal}
+use Rattle.tree_check.specs.TreeCheck.{tipsFit, nodesFit, parentFits, labelFits, standing, labelsFit}
+use Rattle.tree_check.specs.TreeCheck.{isChild, children, misplaced, arraysOrder, treeOrder}
 use Rattle.trees.specs.Examples.{P, Q, TwoTips}
 use Rattle.pair_check.specs.PairOrder.{plus, tipsOrder, tablesOrder, workOrder, pairOrder, cellsNeeded}
 use Rattle.tree_pairs.specs.Crossings.{edgeCrossing, inOrder, cellOf}

@@ -8,7 +8,7 @@ use lib.ListN.{length, set, length-set}
 use lib.Seq.{getD-set-same, getD-set-other}
 use Rattle.shapes.specs.Ancestors.{Rooted, parent-lt}
 use Rattle.shapes.specs.Totals.{total, Added, added-none, added-all-from, added-le, added-next}
-use Rattle.trees.specs.Table.{word}
+use Rattle.tree_check.specs.Table.{word}
 
 -- what the loop asks: only node 1 hangs from node 0, the row is inside, and the totals fit
 pub record RowFits (ps work : List ℕ) (base : ℕ) : Type 0 where

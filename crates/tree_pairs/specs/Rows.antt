@@ -7,7 +7,7 @@ use native.Mathlib.Decide.{ℕ-discrete}
 use native.Mathlib.Omega.{arith}
 use lib.ListN.{length, set, length-set}
 use lib.Seq.{getD-set-same, getD-set-other}
-use Rattle.trees.specs.Table.{word}
+use Rattle.tree_check.specs.Table.{word}
 
 -- the rows of w cells that begin at `to` and `from` lie apart and inside, and their sums fit a word
 pub record RowsFit (work : List ℕ) (to from w : ℕ) : Type 0 where

@@ -12,7 +12,7 @@ use Rattle.sums.specs.Products.{product-le}
 use Rattle.shapes.specs.Ancestors.{Rooted, parent-lt}
 use Rattle.shapes.specs.Totals.{total, AddedFrom, added-from-none, added-from-all}
 use Rattle.shapes.specs.Totals.{added-from-next, added-from-le}
-use Rattle.trees.specs.Table.{word}
+use Rattle.tree_check.specs.Table.{word}
 use Rattle.tree_pairs.specs.Grid.{cellAt}
 use Rattle.tree_pairs.specs.Rows.{RowsFit, RowAdded}
 

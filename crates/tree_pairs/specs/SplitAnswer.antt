@@ -9,9 +9,9 @@ use lib.ListN.{length}
 use Rattle.sums.specs.Counts.{count-le}
 use Rattle.counting.specs.SplitCounts.{splits, commonSplits, robinsonFoulds}
 use Rattle.counting.specs.TreeSplits.{robinson-foulds-fits}
-use Rattle.trees.specs.Table.{Table, word, tips, nodes}
-use Rattle.trees.specs.Refusals.{refusal, ifAccepted}
-use Rattle.trees.specs.IsTree.{IsTree}
+use Rattle.tree_check.specs.Table.{Table, word, tips, nodes}
+use Rattle.tree_check.specs.Refusals.{refusal, ifAccepted}
+use Rattle.tree_check.specs.IsTree.{IsTree}
 use Rattle.tree_pairs.specs.declared.counts.SplitCounts.{SplitCounts}
 use Rattle.pair_check.specs.PairOrder.{PairWithCells, pairOrder}
 use Rattle.pair_check.specs.PairCheck.{pair-check}

@@ -15,8 +15,8 @@ use Rattle.sums.specs.Partners.{count-same}
 use Rattle.shapes.specs.Ancestors.{anc, up-ind, anc-self, anc-down}
 use Rattle.shapes.specs.Splits.{Sides, isSplit, sameSides, occurs, splitsOf, commonOf}
 use Rattle.shapes.specs.Splits.{SameSides, same, turned, same-sides-iff}
-use Rattle.trees.specs.Table.{Table, word, tips, nodes, parent, label, nodeOf, beyond}
-use Rattle.trees.specs.IsTree.{IsTree, rooted}
+use Rattle.tree_check.specs.Table.{Table, word, tips, nodes, parent, label, nodeOf, beyond}
+use Rattle.tree_check.specs.IsTree.{IsTree, rooted}
 use Rattle.trees.specs.Labels.{node-at}
 use Rattle.counting.specs.TreeSplits.{zero-here}
 use Rattle.counting.specs.SplitCounts.{splits, commonSplits}

@@ -15,7 +15,7 @@ use Rattle.sums.specs.Bits.{bit, bit-le, bit-T, bit-no, is, is-eq, is-other}
 use Rattle.sums.specs.Tests.{lt-iff}
 use Rattle.shapes.specs.Ancestors.{Rooted, anc, anc-lt}
 use Rattle.shapes.specs.Totals.{total, total-is}
-use Rattle.trees.specs.Table.{word}
+use Rattle.tree_check.specs.Table.{word}
 use Rattle.tree_pairs.specs.Grid.{cellAt}
 use Rattle.tree_pairs.specs.RowTotals.{RowFits, RowUp}
 

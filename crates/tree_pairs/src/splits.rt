@@ -5,7 +5,7 @@ ghost use mathlib.Core.Path.{_≡_};
 ghost use Prim.Native.Nat.{_≤_};
 ghost use lib.Dec.{eqb};
 ghost use lib.ListN.{length};
-ghost use Rattle.trees.specs.Table.{word};
+ghost use Rattle.tree_check.specs.Table.{word};
 ghost use Rattle.tree_pairs.specs.SplitCells.{splitSize, rowSplits, columnSplits, sharedRow, commonRows};
 ghost use Rattle.tree_pairs.specs.SplitLoops.{SplitRoom, RowRoom};
 

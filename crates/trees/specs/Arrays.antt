@@ -6,10 +6,10 @@ use Prim.Native.Nat.{ℕ, _≤_, _<_}
 use native.Mathlib.Omega.{arith}
 use lib.ListN.{length}
 use Rattle.shapes.specs.Ancestors.{Rooted}
-use Rattle.trees.specs.Table.{Table, word, tips, parents, labels, parent, label, nodeBelow, tableOf}
-use Rattle.trees.specs.Table.{tips-of, nodes-of, parents-of, labels-of, parents-length, labels-length}
-use Rattle.trees.specs.Table.{table-of-parts}
-use Rattle.trees.specs.IsTree.{IsTree, rooted}
+use Rattle.tree_check.specs.Table.{Table, word, tips, parents, labels, parent, label, nodeBelow, tableOf}
+use Rattle.tree_check.specs.Table.{tips-of, nodes-of, parents-of, labels-of, parents-length, labels-length}
+use Rattle.tree_check.specs.Table.{table-of-parts}
+use Rattle.tree_check.specs.IsTree.{IsTree, rooted}
 use Rattle.trees.specs.Labels.{node-below}
 
 -- with n: the table made of them is a tree table

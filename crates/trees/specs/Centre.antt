@@ -6,8 +6,8 @@ use lib.ListN.{length}
 use Rattle.shapes.specs.Ancestors.{Rooted}
 use Rattle.shapes.specs.Centres.{centreOf}
 use Rattle.trees.specs.declared.centres.CentreAnswer.{CentreAnswer}
-use Rattle.trees.specs.Table.{Table, word, nodes, parent, nodeBelow, nodeOf}
-use Rattle.trees.specs.Refusals.{refusal, ifAccepted}
+use Rattle.tree_check.specs.Table.{Table, word, nodes, parent, nodeBelow, nodeOf}
+use Rattle.tree_check.specs.Refusals.{refusal, ifAccepted}
 use Rattle.trees.specs.Orders.{labelOrder}
 
 -- 'The centre of three tips is the node where the three paths between them join.'

@@ -22,11 +22,11 @@ use Rattle.shapes.specs.Centres.{
   climb-third,
 }
 use Rattle.trees.specs.declared.centres.CentreAnswer.{CentreAnswer}
-use Rattle.trees.specs.Table.{Table, word, tips, nodes, parents, labels, parent, label, nodeOf}
-use Rattle.trees.specs.Table.{parents-length, labels-length}
-use Rattle.trees.specs.Refusals.{refusal, ifAccepted, if-accepted, if-refused}
-use Rattle.trees.specs.IsTree.{IsTree, rooted}
-use Rattle.trees.specs.TreeCheck.{treeOrder}
+use Rattle.tree_check.specs.Table.{Table, word, tips, nodes, parents, labels, parent, label, nodeOf}
+use Rattle.tree_check.specs.Table.{parents-length, labels-length}
+use Rattle.tree_check.specs.Refusals.{refusal, ifAccepted, if-accepted, if-refused}
+use Rattle.tree_check.specs.IsTree.{IsTree, rooted}
+use Rattle.tree_check.specs.TreeCheck.{treeOrder}
 use Rattle.trees.specs.Orders.{askedOrder, labelOrder, tree-refused, tree-accepted}
 use Rattle.trees.specs.Labels.{node-at}
 use Rattle.trees.specs.Centre.{centre, centreAnswer, Climbable, centreOver}

@@ -12,11 +12,11 @@ use Rattle.shapes.specs.Paths.{onPath}
 use Rattle.shapes.specs.Centres.{onAll, centreBelow, centreOf}
 use Rattle.shapes.specs.Quartets.{parts, parted}
 use Rattle.trees.specs.declared.quartet.Topology.the-variants.{Butterfly, Star}
-use Rattle.trees.specs.Table.{Table, tips, nodes, parents, labels, parent, label}
-use Rattle.trees.specs.Table.{nodeBelow, nodeOf, beyond}
-use Rattle.trees.specs.Refusals.{refusal}
-use Rattle.trees.specs.TreeCheck.{tipsFit, nodesFit, parentFits, labelFits, standing, labelsFit}
-use Rattle.trees.specs.TreeCheck.{isChild, children, misplaced, arraysOrder, treeOrder}
+use Rattle.tree_check.specs.Table.{Table, tips, nodes, parents, labels, parent, label}
+use Rattle.tree_check.specs.Table.{nodeBelow, nodeOf, beyond}
+use Rattle.tree_check.specs.Refusals.{refusal}
+use Rattle.tree_check.specs.TreeCheck.{tipsFit, nodesFit, parentFits, labelFits, standing, labelsFit}
+use Rattle.tree_check.specs.TreeCheck.{isChild, children, misplaced, arraysOrder, treeOrder}
 use Rattle.trees.specs.Orders.{walkOrder, edgeOrder, tooLarge, twoEqual, askedOrder, labelOrder}
 use Rattle.trees.specs.Walk.{own, inTurn, visit, subtree, walk, below, startIn, start, part}
 use Rattle.trees.specs.Centre.{centre}

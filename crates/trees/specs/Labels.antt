@@ -11,8 +11,8 @@ use lib.Dec.{T, eqb, ltb, eqb→eq}
 use Rattle.sums.specs.Sum.{sum, sum-ext, sum-one, sum-none, sum-swap, sum-mul-right}
 use Rattle.sums.specs.Bits.{bit, bit-T, bit-no, is, is-self, is-other, is-eq, alike, sum-is}
 use Rattle.sums.specs.Tests.{eq-iff, lt-iff}
-use Rattle.trees.specs.Table.{Table, tips, nodes, label, nodeBelow, nodeOf}
-use Rattle.trees.specs.IsTree.{IsTree}
+use Rattle.tree_check.specs.Table.{Table, tips, nodes, label, nodeBelow, nodeOf}
+use Rattle.tree_check.specs.IsTree.{IsTree}
 
 either-lt : (b : Bool) {x y k : ℕ} → x < k → y < k → elim b as (λ z. ℕ) [ true ↦ x | false ↦ y ] < k
 either-lt true l m = l

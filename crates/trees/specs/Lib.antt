@@ -1,10 +1,3 @@
-pub mod Table
-pub mod Refusals
-pub mod IsTree
-pub mod TreeCheck
-pub mod Tally
-pub mod CheckOutcomes
-pub mod Check
 pub mod Orders
 pub mod Labels
 pub mod Arrays

@@ -9,11 +9,11 @@ use native.Mathlib.Omega.{arith}
 use lib.Dec.{T, eqb, ltb, leb}
 use lib.ListN.{length}
 use Rattle.sums.specs.Tests.{some, not-some-iff, nor-iff, not-eq-iff, not-le-iff, not-lt-iff}
-use Rattle.trees.specs.Table.{Table, word, tips, nodes}
-use Rattle.trees.specs.Refusals.{Rule, refusal, Kept, Numbered, accepted, kept-append, numbered-append}
-use Rattle.trees.specs.Refusals.{refusal-first, refusal-kept}
-use Rattle.trees.specs.IsTree.{IsTree}
-use Rattle.trees.specs.TreeCheck.{treeOrder, tree-numbered, tree-kept, kept-tree}
+use Rattle.tree_check.specs.Table.{Table, word, tips, nodes}
+use Rattle.tree_check.specs.Refusals.{Rule, refusal, Kept, Numbered, accepted, kept-append, numbered-append}
+use Rattle.tree_check.specs.Refusals.{refusal-first, refusal-kept}
+use Rattle.tree_check.specs.IsTree.{IsTree}
+use Rattle.tree_check.specs.TreeCheck.{treeOrder, tree-numbered, tree-kept, kept-tree}
 
 -- '12: the lent walk is shorter than n'
 abbrev pub roomOrder : ℕ → ℕ → List Rule

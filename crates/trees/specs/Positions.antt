@@ -13,7 +13,7 @@ use Rattle.sums.specs.Bits.{bit, bit-T}
 use Rattle.sums.specs.Tests.{lt-iff}
 use Rattle.shapes.specs.Ancestors.{Rooted, parent-lt}
 use Rattle.shapes.specs.Totals.{total, Added, total-ext, added-none, added-all, added-le, added-next}
-use Rattle.trees.specs.Table.{Table, word, tips, nodes, parent, label, tableOf, tips-of, nodes-of}
+use Rattle.tree_check.specs.Table.{Table, word, tips, nodes, parent, label, tableOf, tips-of, nodes-of}
 use Rattle.trees.specs.Arrays.{TreeArrays, parent-is, label-is, few-tips, few-nodes, rooted-parents}
 use Rattle.trees.specs.Walk.{below, start, own, placed}
 use Rattle.trees.specs.Subtrees.{own-length, below-total}

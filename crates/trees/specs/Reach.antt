@@ -14,9 +14,9 @@ use Rattle.sums.specs.Sum.{sum, sum-suc, sum-none}
 use Rattle.sums.specs.Bits.{bit, bit-T, bit-no}
 use Rattle.sums.specs.Counts.{count-once}
 use Rattle.sums.specs.Tests.{eq-iff, lt-iff}
-use Rattle.trees.specs.Table.{Table, word, tips, nodes, parent, label, nodeOf}
-use Rattle.trees.specs.IsTree.{IsTree}
-use Rattle.trees.specs.TreeCheck.{isChild, child-iff, standing}
+use Rattle.tree_check.specs.Table.{Table, word, tips, nodes, parent, label, nodeOf}
+use Rattle.tree_check.specs.IsTree.{IsTree}
+use Rattle.tree_check.specs.TreeCheck.{isChild, child-iff, standing}
 use Rattle.trees.specs.Walk.{own, walk, below, start, part}
 use Rattle.trees.specs.Labels.{node-at}
 use Rattle.trees.specs.Weights.{onlyIf}

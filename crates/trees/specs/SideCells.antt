@@ -12,7 +12,7 @@ use lib.Seq.{getD-set-same, getD-set-other}
 use Rattle.sums.specs.Bits.{bit, bit-le, is, is-self, alike}
 use Rattle.shapes.specs.Ancestors.{anc}
 use Rattle.shapes.specs.Totals.{total, total-ext, total-none, total-add, total-mul-left, total-is}
-use Rattle.trees.specs.Table.{word, nodeBelow}
+use Rattle.tree_check.specs.Table.{word, nodeBelow}
 use Rattle.trees.specs.Positions.{Addable, AddedUp}
 use Rattle.trees.specs.Sides.{SidesAre}
 use Rattle.trees.specs.Arrays.{RootedArrays, node-found}

@@ -11,7 +11,7 @@ use Rattle.sums.specs.Bits.{bit}
 use Rattle.sums.specs.Tests.{eq-iff}
 use Rattle.shapes.specs.Ancestors.{anc}
 use Rattle.shapes.specs.Quartets.{parts, Apart, parts-iff}
-use Rattle.trees.specs.Table.{Table, word, parent, nodeBelow, nodeOf, beyond}
+use Rattle.tree_check.specs.Table.{Table, word, parent, nodeBelow, nodeOf, beyond}
 use Rattle.trees.specs.declared.quartet.Topology.{Topology}
 use Rattle.trees.specs.declared.quartet.Topology.the-variants.{Butterfly, Star}
 use Rattle.trees.specs.Topology.{partner}

@@ -14,9 +14,9 @@ use Rattle.sums.specs.Bits.{bit, bit-T, bit-not, T-bit, is, alike}
 use Rattle.sums.specs.Tests.{lt-iff}
 use Rattle.shapes.specs.Ancestors.{anc, parent-lt}
 use Rattle.shapes.specs.Totals.{total, total-ext, total-none, total-is, total-children}
-use Rattle.trees.specs.Table.{Table, word, tips, nodes, parent, label, nodeOf, beyond}
-use Rattle.trees.specs.IsTree.{IsTree, rooted}
-use Rattle.trees.specs.TreeCheck.{isChild, child-iff, standing}
+use Rattle.tree_check.specs.Table.{Table, word, tips, nodes, parent, label, nodeOf, beyond}
+use Rattle.tree_check.specs.IsTree.{IsTree, rooted}
+use Rattle.tree_check.specs.TreeCheck.{isChild, child-iff, standing}
 use Rattle.trees.specs.Walk.{own, inTurn, visit, subtree, below}
 use Rattle.trees.specs.Labels.{node-at, node-label, sum-over-tips}
 use Rattle.trees.specs.Weights.{weight, weight-append, weight-sum, weight-length}

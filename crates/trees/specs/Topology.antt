@@ -10,8 +10,8 @@ use Rattle.shapes.specs.Quartets.{Parted, parted}
 use Rattle.trees.specs.declared.quartet.Topology.{Topology}
 use Rattle.trees.specs.declared.quartet.Topology.the-variants.{Butterfly, Star}
 use Rattle.trees.specs.declared.quartet.TopologyAnswer.{TopologyAnswer}
-use Rattle.trees.specs.Table.{Table, nodes, parent, nodeOf}
-use Rattle.trees.specs.Refusals.{refusal, ifAccepted}
+use Rattle.tree_check.specs.Table.{Table, nodes, parent, nodeOf}
+use Rattle.tree_check.specs.Refusals.{refusal, ifAccepted}
 use Rattle.trees.specs.Orders.{labelOrder}
 
 -- 'Four tips a, b, c, d are the butterfly ab|cd if some edge has a, b on one side and c, d on the other.'

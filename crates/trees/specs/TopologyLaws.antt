@@ -10,8 +10,8 @@ use Rattle.shapes.specs.FourLabels.{Four}
 use Rattle.shapes.specs.Quartets.{parted-iff, parted-swap-left, parted-swap-right, parted-turn}
 use Rattle.shapes.specs.Quartets.{AtMostOne, none, first, second, third, one-pairing}
 use Rattle.trees.specs.declared.quartet.Topology.the-variants.{Butterfly, Star}
-use Rattle.trees.specs.Table.{Table, tips, nodes, parent, nodeOf}
-use Rattle.trees.specs.IsTree.{IsTree, rooted}
+use Rattle.tree_check.specs.Table.{Table, tips, nodes, parent, nodeOf}
+use Rattle.tree_check.specs.IsTree.{IsTree, rooted}
 use Rattle.trees.specs.Topology.{butterfly, partner, named, topology, PartedIn}
 use Rattle.trees.specs.Partners.{partner-swap-left, partner-swap-right, partner-turn, partner-apart}
 use Rattle.trees.specs.Sides.{sides, pairing, apart-shown}

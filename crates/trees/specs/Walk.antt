@@ -9,9 +9,9 @@ use Rattle.sums.specs.Sum.{sum}
 use Rattle.sums.specs.Bits.{bit}
 use Rattle.sums.specs.Counts.{count}
 use Rattle.trees.specs.declared.edges.PartBeyond.{PartBeyond}
-use Rattle.trees.specs.Table.{Table, tips, nodes, parent, label, beyond}
-use Rattle.trees.specs.Refusals.{refusal, ifAccepted}
-use Rattle.trees.specs.TreeCheck.{isChild}
+use Rattle.tree_check.specs.Table.{Table, tips, nodes, parent, label, beyond}
+use Rattle.tree_check.specs.Refusals.{refusal, ifAccepted}
+use Rattle.tree_check.specs.TreeCheck.{isChild}
 use Rattle.trees.specs.Orders.{walkOrder, edgeOrder}
 
 -- the label of a tip; an inner node has none

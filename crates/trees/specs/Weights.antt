@@ -11,7 +11,7 @@ use lib.Dec.{T}
 use lib.ListN.{length}
 use Rattle.sums.specs.Sum.{sum, sum-first, sum-const}
 use Rattle.sums.specs.Bits.{bit}
-use Rattle.trees.specs.Table.{word}
+use Rattle.tree_check.specs.Table.{word}
 use Rattle.trees.specs.Walk.{inTurn}
 
 -- the sum of φ over the words of a list

@@ -5,8 +5,8 @@ ghost use Prim.Native.Nat.{_≤_};
 ghost use lib.Dec.{eqb};
 ghost use lib.ListN.{length};
 ghost use Rattle.sums.specs.Tests.{some};
-ghost use Rattle.trees.specs.Table.{word, nodeBelow};
-ghost use Rattle.trees.specs.Refusals.{refusal};
+ghost use Rattle.tree_check.specs.Table.{word, nodeBelow};
+ghost use Rattle.tree_check.specs.Refusals.{refusal};
 ghost use Rattle.trees.specs.Orders.{tooLarge, twoEqual, askedOrder};
 
 // Whether one of the labels is n or more.

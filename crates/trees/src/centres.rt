@@ -1,16 +1,16 @@
 // The centre of three labels.
 use super::asked::asked_refusal;
 use super::asked::node_of;
-use super::table::Checked;
-use super::table::check;
-use super::table::refusal_of;
+use tree_check::Checked;
+use tree_check::check;
+use tree_check::refusal_of;
 use super::words::narrow;
 use super::words::wide;
 ghost use mathlib.Core.Path.{_≡_};
 ghost use Prim.Native.Nat.{_-_, _<_};
 ghost use lib.ListN.{length};
 ghost use Rattle.shapes.specs.Centres.{centreOf};
-ghost use Rattle.trees.specs.Table.{word};
+ghost use Rattle.tree_check.specs.Table.{word};
 ghost use Rattle.trees.specs.Arrays.{RootedArrays};
 ghost use Rattle.trees.specs.Centre.{centreAnswer, centreOver, Climbable};
 

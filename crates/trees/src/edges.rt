@@ -1,9 +1,9 @@
 // The part of a walk that belongs to an edge, by position alone.
 use super::sizes::ends;
 use super::sizes::sizes;
-use super::table::Checked;
-use super::table::check;
-use super::table::refusal_of;
+use tree_check::Checked;
+use tree_check::check;
+use tree_check::refusal_of;
 use super::words::narrow;
 use super::words::wide;
 ghost use mathlib.Core.Path.{_≡_};
@@ -12,8 +12,8 @@ ghost use denote.Ref.{ptr};
 ghost use mathlib.Core.Bool.{_||_};
 ghost use lib.Dec.{eqb, leb};
 ghost use lib.ListN.{length};
-ghost use Rattle.trees.specs.Table.{tableOf};
-ghost use Rattle.trees.specs.Refusals.{refusal};
+ghost use Rattle.tree_check.specs.Table.{tableOf};
+ghost use Rattle.tree_check.specs.Refusals.{refusal};
 ghost use Rattle.trees.specs.Orders.{edgeOrder};
 ghost use Rattle.trees.specs.Arrays.{TreeArrays};
 ghost use Rattle.trees.specs.Walk.{placed, placeBeyond, partBeyond, wordsOn};

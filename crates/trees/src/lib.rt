@@ -1,7 +1,6 @@
 // The tree library: a table of words is checked, walked, and asked for centres and topologies.
 // Every public function takes any words in slices of any length, and answers in full or refuses with one number.
-mod words; // words.rt: words as indices, and counts of equal words
-mod table; // table.rt: the tree check
+mod words; // words.rt: words as indices, and indices as words
 mod sizes; // sizes.rt: how many labels lie beyond each edge, and where they stand in the walk
 mod walks; // walks.rt: the walk
 mod edges; // edges.rt: the part of a walk beyond an edge
@@ -18,7 +17,7 @@ pub use edges::part_beyond;
 pub use quartet::Topology;
 pub use quartet::TopologyAnswer;
 pub use quartet::topology_of;
-pub use table::Checked;
-pub use table::check;
-pub use table::refusal_of;
+pub use tree_check::Checked;
+pub use tree_check::check;
+pub use tree_check::refusal_of;
 pub use walks::walk;

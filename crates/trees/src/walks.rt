@@ -1,15 +1,15 @@
 // The walk of a tree table.
 use super::sizes::ends;
 use super::sizes::sizes;
-use super::table::Checked;
-use super::table::check;
-use super::table::refusal_of;
+use tree_check::Checked;
+use tree_check::check;
+use tree_check::refusal_of;
 use super::words::wide;
 ghost use mathlib.Core.Path.{_≡_};
 ghost use Prim.Native.Nat.{_≤_};
 ghost use lib.ListN.{length};
-ghost use Rattle.trees.specs.Table.{tableOf};
-ghost use Rattle.trees.specs.Refusals.{refusal};
+ghost use Rattle.tree_check.specs.Table.{tableOf};
+ghost use Rattle.tree_check.specs.Refusals.{refusal};
 ghost use Rattle.trees.specs.Orders.{roomOrder, walkOrder};
 ghost use Rattle.trees.specs.Arrays.{TreeArrays};
 ghost use Rattle.trees.specs.Walk.{walked, afterWalk};

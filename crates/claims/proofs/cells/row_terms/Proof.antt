@@ -6,7 +6,7 @@ use mathlib.Core.Logic.{⊎-elim}
 use Prim.Native.Nat.{ℕ, _+_, _*_, _-_, _≤_, _<_}
 use native.Mathlib.Omega.{arith}
 use lib.ListN.{length}
-use Rattle.trees.specs.Table.{word}
+use Rattle.tree_check.specs.Table.{word}
 use Rattle.sums.specs.Products.{product-le}
 use Rattle.claims.specs.Block.{blockCell}
 use Rattle.claims.specs.CellSums.{RowTerms, row-none, row-next, row-skip, row-same}

@@ -4,7 +4,7 @@ use Prim.Native.Nat.{_+_, _*_, _-_, _≤_, _<_}
 use mathlib.Core.Path.{_≡_, sym}
 use native.Mathlib.Omega.{arith}
 use lib.ListN.{length, set}
-use Rattle.trees.specs.Table.{word}
+use Rattle.tree_check.specs.Table.{word}
 use Rattle.claims.specs.CodeCounts.{Counted, counted-none, parent-inside, up-few, down-few, counted-edge}
 use borrow.Author.Needs.{needs}
 use Rattle.claims.proofs.code_lists.code_counts.Statement.{statement}

@@ -4,7 +4,7 @@ use Prim.Native.Nat.{_+_, _*_, _-_, _≤_, _<_}
 use mathlib.Core.Path.{_≡_, sym}
 use native.Mathlib.Omega.{arith}
 use lib.ListN.{length, set}
-use Rattle.trees.specs.Table.{word}
+use Rattle.tree_check.specs.Table.{word}
 use Rattle.claims.specs.CodeCounts.{parent-inside}
 use Rattle.claims.specs.EdgePlaces.{Placed, placed-none, up-fits, down-fits, placed-edge, placed-all}
 use borrow.Author.Needs.{needs}

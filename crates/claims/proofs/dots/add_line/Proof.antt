@@ -7,7 +7,7 @@ use Prim.Native.Nat.{ℕ, _+_, _*_, _-_, _≤_}
 use native.Mathlib.Omega.{arith}
 use lib.ListN.{length, length-set}
 use Rattle.sums.specs.Sum.{sum}
-use Rattle.trees.specs.Table.{word}
+use Rattle.tree_check.specs.Table.{word}
 use Rattle.sums.specs.Products.{product-le}
 use Rattle.claims.specs.Lines.{lineCell, squared, sum-step}
 use Rattle.claims.specs.Filled.{filled, filled-next, filled-later}

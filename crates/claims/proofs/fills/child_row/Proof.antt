@@ -5,7 +5,7 @@ use mathlib.Core.List.{List}
 use mathlib.Core.Path.{_≡_, refl, _∙_}
 use native.Mathlib.Omega.{arith}
 use lib.ListN.{length, length-set}
-use Rattle.trees.specs.Table.{word}
+use Rattle.tree_check.specs.Table.{word}
 use Rattle.claims.specs.CodeCells.{childCell, child-first, child-later}
 use Rattle.claims.specs.NodeBlock.{Written, written-first, written-next}
 use borrow.Author.Needs.{needs}

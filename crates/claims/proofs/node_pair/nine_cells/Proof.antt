@@ -2,7 +2,7 @@
 -- Assumes nothing.
 use mathlib.Core.Path.{_∙_}
 use native.Mathlib.Omega.{arith}
-use Rattle.trees.specs.Table.{word}
+use Rattle.tree_check.specs.Table.{word}
 use Rattle.claims.specs.NinePair.{three-room, own-neither, nine-S2, nine-S3, nine-few}
 use Rattle.claims.proofs.node_pair.nine_cells.Statement.{statement}
 use Rattle.claims.proofs.node_pair.nine_cells.Tie as tie

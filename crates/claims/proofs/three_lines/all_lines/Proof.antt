@@ -5,7 +5,7 @@ use Prim.Native.Nat.{ℕ, _+_, _*_, _-_, _≤_}
 use native.Mathlib.Omega.{arith}
 use Rattle.sums.specs.Sum.{sum}
 use Rattle.sums.specs.Products.{product-le}
-use Rattle.trees.specs.Table.{word}
+use Rattle.tree_check.specs.Table.{word}
 use Rattle.node_pairs.specs.ThreeRows.{products3, weighed3}
 use Rattle.claims.specs.Lines.{lineCell, sum-step}
 use Rattle.claims.specs.NineCells.{product, weighed, pair-le, diagonal-le, weighed-le}

@@ -5,7 +5,7 @@ use Prim.Native.Nat.{ℕ, _+_, _*_, _-_, _≤_}
 use native.Mathlib.Omega.{arith}
 use Rattle.sums.specs.Sum.{sum}
 use Rattle.sums.specs.Products.{product-le}
-use Rattle.trees.specs.Table.{word}
+use Rattle.tree_check.specs.Table.{word}
 use Rattle.node_pairs.specs.ThreeRows.{products, weighed}
 use Rattle.claims.specs.Lines.{lineCell, sum-step}
 use borrow.Author.Needs.{needs}

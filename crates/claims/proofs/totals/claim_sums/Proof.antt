@@ -4,7 +4,7 @@ use mathlib.Core.Path.{_≡_, sym, _∙_}
 use Prim.Native.Nat.{_+_, _≤_}
 use native.Mathlib.Omega.{arith}
 use lib.ListN.{length}
-use Rattle.trees.specs.Table.{tips, nodes}
+use Rattle.tree_check.specs.Table.{tips, nodes}
 use Rattle.pair_check.specs.PairOrder.{PairWithCells}
 use Rattle.pair_check.specs.PairOutcomes.{work-says, work-passed, edges-some}
 use Rattle.claims.specs.LentSums.{nodes-are, lent-words, lent-summable, lent-claims}

@@ -4,9 +4,9 @@ use mathlib.Core.Path.{_≡_, sym, _∙_, ap}
 use mathlib.Core.Logic.{_≢_}
 use Prim.Native.Nat.{ℕ, _-_, _≤_}
 use native.Mathlib.Omega.{arith}
-use Rattle.trees.specs.Table.{tips, nodes}
-use Rattle.trees.specs.IsTree.{IsTree}
-use Rattle.trees.specs.Check.{checked-accepted, refusal-passed}
+use Rattle.tree_check.specs.Table.{tips, nodes}
+use Rattle.tree_check.specs.IsTree.{IsTree}
+use Rattle.tree_check.specs.Check.{checked-accepted, refusal-passed}
 use Rattle.pair_check.specs.PairCheck.{tree-refusal-most}
 use Rattle.pair_check.specs.PairOutcomes.{first-refused, second-refused, tips-differ, tables-accepted}
 use Rattle.pair_check.specs.PairOutcomes.{pair-found, pair-turned-away, edges-some}

@@ -3,7 +3,7 @@
 use mathlib.Core.Path.{_≡_, sym, _∙_}
 use Prim.Native.Nat.{_-_}
 use native.Mathlib.Omega.{arith}
-use Rattle.trees.specs.Table.{tips, nodes}
+use Rattle.tree_check.specs.Table.{tips, nodes}
 use Rattle.pair_check.specs.PairOrder.{IsPair}
 use Rattle.pair_check.specs.PairOutcomes.{pair-passed, check-says, tables-refused, cells-short, pair-kept}
 use Rattle.pair_check.specs.PairOutcomes.{work-found, work-turned-away, product-fits}

@@ -2,7 +2,7 @@
 -- Assumes nothing.
 use mathlib.Core.Path.{_≡_, sym, _∙_}
 use lib.ListN.{length}
-use Rattle.trees.specs.Table.{tips}
+use Rattle.tree_check.specs.Table.{tips}
 use Rattle.pair_check.specs.PairOrder.{PairWithCells}
 use Rattle.pair_check.specs.PairOutcomes.{work-says, work-passed}
 use Rattle.tree_pairs.specs.LentTables.{crossings-refused}

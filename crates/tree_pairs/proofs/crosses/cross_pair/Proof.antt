@@ -2,7 +2,7 @@
 -- Assumes nothing.
 use mathlib.Core.Path.{_≡_, sym, _∙_}
 use lib.ListN.{length}
-use Rattle.trees.specs.Refusals.{refusal}
+use Rattle.tree_check.specs.Refusals.{refusal}
 use Rattle.pair_check.specs.PairOrder.{pairOrder, PairWithCells}
 use Rattle.pair_check.specs.PairCheck.{pair-check}
 use Rattle.tree_pairs.specs.LentTables.{crossings-accepted, crossings-refused}

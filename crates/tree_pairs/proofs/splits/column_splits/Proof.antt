@@ -5,7 +5,7 @@ use mathlib.Core.Path.{_≡_}
 use mathlib.Core.Logic.{⊎-elim}
 use native.Mathlib.Omega.{arith}
 use Rattle.sums.specs.Counts.{count}
-use Rattle.trees.specs.Table.{word}
+use Rattle.tree_check.specs.Table.{word}
 use Rattle.tree_pairs.specs.SplitCells.{splitSize, columnSplits}
 use Rattle.tree_pairs.specs.SplitLoops.{row-room, count-start, count-hit, count-miss, count-few}
 use borrow.Author.Needs.{needs}

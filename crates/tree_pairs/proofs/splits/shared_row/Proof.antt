@@ -7,7 +7,7 @@ use native.Mathlib.Omega.{arith}
 use borrow.Author.Count.{below-more}
 use lib.Dec.{eqb}
 use Rattle.sums.specs.Tests.{some-true, some-false}
-use Rattle.trees.specs.Table.{word}
+use Rattle.tree_check.specs.Table.{word}
 use Rattle.tree_pairs.specs.SplitCells.{sharedRow}
 use borrow.Author.Needs.{needs}
 use Rattle.tree_pairs.proofs.splits.shared_row.Statement.{statement}

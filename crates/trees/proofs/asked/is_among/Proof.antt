@@ -8,7 +8,7 @@ use borrow.Author.Count.{below-more}
 use borrow.Author.Tests.{eq-eqb, ne-eqb}
 use lib.Dec.{eqb}
 use Rattle.sums.specs.Tests.{some-true, some-false}
-use Rattle.trees.specs.Table.{word}
+use Rattle.tree_check.specs.Table.{word}
 use borrow.Author.Needs.{needs}
 use Rattle.trees.proofs.asked.is_among.Statement.{statement}
 use Rattle.trees.proofs.asked.is_among.Tie as tie

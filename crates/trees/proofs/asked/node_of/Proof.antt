@@ -7,7 +7,7 @@ use native.Mathlib.Numerals.{add-one}
 use native.Mathlib.Omega.{arith}
 use borrow.Author.Tests.{eq-eqb, ne-eqb}
 use lib.ListN.{length}
-use Rattle.trees.specs.Table.{word, nodeBelow}
+use Rattle.tree_check.specs.Table.{word, nodeBelow}
 use borrow.Author.Needs.{needs}
 use Rattle.trees.proofs.asked.node_of.Statement.{statement}
 use Rattle.trees.proofs.asked.node_of.Tie as tie

@@ -9,7 +9,7 @@ use borrow.Author.Tests.{lt-leb, le-leb}
 use lib.Dec.{leb}
 use lib.ListN.{length}
 use Rattle.sums.specs.Tests.{some-true, some-false}
-use Rattle.trees.specs.Table.{word}
+use Rattle.tree_check.specs.Table.{word}
 use Rattle.trees.specs.Orders.{tooLarge}
 use borrow.Author.Needs.{needs}
 use Rattle.trees.proofs.asked.some_too_large.Statement.{statement}

@@ -8,7 +8,7 @@ use borrow.Author.Count.{below-more}
 use lib.Dec.{eqb}
 use lib.ListN.{length}
 use Rattle.sums.specs.Tests.{some, some-true, some-false}
-use Rattle.trees.specs.Table.{word}
+use Rattle.tree_check.specs.Table.{word}
 use Rattle.trees.specs.Orders.{twoEqual}
 use borrow.Author.Needs.{needs}
 use Rattle.trees.proofs.asked.two_equal.Statement.{statement}

@@ -2,7 +2,7 @@
 -- Assumes nothing.
 use Prim.Native.Nat.{_≤_}
 use native.Mathlib.Omega.{arith}
-use Rattle.trees.specs.Table.{word}
+use Rattle.tree_check.specs.Table.{word}
 use Rattle.trees.specs.Arrays.{few-tips, few-nodes}
 use Rattle.trees.specs.Positions.{part-bounds, place-between}
 use borrow.Author.Needs.{needs}

@@ -4,7 +4,7 @@ use Prim.Native.Nat.{ℕ, _≤_, _<_, _-_}
 use mathlib.Core.Path.{_≡_, refl, sym, _∙_}
 use native.Mathlib.Omega.{arith}
 use borrow.Author.Count.{below-more}
-use Rattle.trees.specs.Table.{word}
+use Rattle.tree_check.specs.Table.{word}
 use Rattle.trees.specs.Sides.{pairing}
 use borrow.Author.Needs.{needs}
 use Rattle.trees.proofs.quartet.shown_pairing.Statement.{statement}

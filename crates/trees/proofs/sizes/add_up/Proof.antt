@@ -3,7 +3,7 @@
 use Prim.Native.Nat.{_<_}
 use mathlib.Core.Path.{ap}
 use native.Mathlib.Omega.{arith}
-use Rattle.trees.specs.Table.{word}
+use Rattle.tree_check.specs.Table.{word}
 use Rattle.trees.specs.Positions.{Adding, adding-none, adding-all, adding-parent, adding-fits}
 use Rattle.trees.specs.Positions.{adding-next}
 use borrow.Author.Needs.{needs}

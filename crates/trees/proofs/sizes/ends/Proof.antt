@@ -6,7 +6,7 @@ use native.Mathlib.Omega.{arith}
 use lib.Dec.{ltb}
 use lib.ListN.{length}
 use Rattle.sums.specs.Bits.{bit}
-use Rattle.trees.specs.Table.{word, tableOf}
+use Rattle.tree_check.specs.Table.{word, tableOf}
 use Rattle.trees.specs.Arrays.{few-nodes, rooted-parents}
 use Rattle.shapes.specs.Ancestors.{parent-lt}
 use Rattle.trees.specs.Positions.{Reached, reached-first, reached-fits, reached-next, reached-all}

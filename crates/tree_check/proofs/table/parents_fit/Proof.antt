@@ -1,0 +1,84 @@
+-- The invariant: each parent word before `i` keeps its rule.
+-- Assumes nothing.
+use Prim.Native.Nat.{ℕ, _≤_, _<_, _-_}
+use mathlib.Core.Path.{_≡_, sym, _∙_, ap}
+use mathlib.Core.Bool.{true}
+use native.Mathlib.Omega.{arith}
+use borrow.Author.Count.{below-more}
+use borrow.Author.Tests.{not-true, not-false}
+use lib.ListN.{length}
+use Rattle.sums.specs.Tests.{every-true, every-false}
+use Rattle.tree_check.specs.Table.{word}
+use Rattle.tree_check.specs.TreeCheck.{parentFits}
+use borrow.Author.Needs.{needs}
+use Rattle.tree_check.proofs.table.parents_fit.Statement.{statement}
+use Rattle.tree_check.proofs.table.parents_fit.Tie as tie
+
+abbrev Inv-loop : tie.InvT-loop
+Inv-loop parents i₀ i = (i ≤ length parents) × ((k : ℕ) → k < i → parentFits k (word parents k) ≡ true)
+
+abbrev μ-loop : tie.MeasureT-loop
+μ-loop parents i₀ i = length parents - i
+
+-- what the call tells of the word read
+told : (c : tie.After-parent-fits Inv-loop μ-loop)
+    → let l = c .before .before .before .before .loop in
+    let ps = c .before .before .before .before .before .before .args .parents .now in
+    parentFits (l .i) (word ps (l .i)) ≡ c .parent-fits .result
+told c =
+    ap (parentFits (c .before .before .before .before .loop .i)) (sym (c .before .wide .ensures .0))
+    ∙ sym (c .parent-fits .ensures)
+
+loop-holds : tie.Need-loop-holds Inv-loop μ-loop
+loop-holds c = (omega arith, λ k l. absurd (omega arith))
+
+mul-wide : tie.Need-mul-wide Inv-loop μ-loop
+mul-wide c = search needs
+
+shared-slice-read-wide : tie.Need-shared-slice-read-wide Inv-loop μ-loop
+shared-slice-read-wide c = search needs
+
+wide-requires : tie.Need-wide-requires Inv-loop μ-loop
+wide-requires c κs = search needs
+
+parent-fits-requires : tie.Need-parent-fits-requires Inv-loop μ-loop
+parent-fits-requires c κs = search needs
+
+returns : tie.Need-returns Inv-loop μ-loop
+returns c =
+    let l = c .before .before .before .before .before in
+    sym (every-false _ _ (l .loop .i) (c .before .before .before .before .loop-test .taken)
+    (told (c .before) ∙ not-true _ (c .if1 .taken)))
+
+add-i : tie.Need-add-i Inv-loop μ-loop
+add-i c = search needs
+
+loop-less : tie.Need-loop-less Inv-loop μ-loop
+loop-less c = search needs
+
+loop-again : tie.Need-loop-again Inv-loop μ-loop
+loop-again c =
+    let l = c .before .before .before .before .before .loop in
+    (omega arith, below-more _ _ (l .inv .1) (told (c .before) ∙ not-false _ (c .if1 .left)))
+
+returns-2 : tie.Need-returns-2 Inv-loop μ-loop
+returns-2 c =
+    let l = c .before .loop in
+    sym (every-true _ _ (λ k m. l .inv .1 k (omega arith)))
+
+pub parents-fit-spec : {M : Type 1} → statement M
+parents-fit-spec =
+    tie.close
+    (tie.spec
+    Inv-loop
+    μ-loop
+    loop-holds
+    mul-wide
+    shared-slice-read-wide
+    wide-requires
+    parent-fits-requires
+    returns
+    add-i
+    loop-less
+    loop-again
+    returns-2)

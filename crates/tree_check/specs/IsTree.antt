@@ -1,0 +1,73 @@
+-- 'A tree table' of document 01, rule by rule, in ordinary mathematics.
+-- Assumes nothing.
+use mathlib.Core.Path.{_≡_, refl, ap}
+use mathlib.Core.Logic.{_⊎_, inl, inr, _↔_}
+use Prim.Native.Nat.{ℕ, suc, _+_, _*_, _-_, _≤_, _<_}
+use native.Mathlib.Nat.{lt-of-not-le, eq-zero-or-pos}
+use native.Mathlib.Decide.{decLe}
+use native.Mathlib.Omega.{arith}
+use lib.ListN.{length, take, drop, List·getD-eq-default, length-take}
+use Rattle.shapes.specs.Ancestors.{Rooted}
+use Rattle.tree_check.specs.Table.{Table, tips, nodes, parents, parent, label}
+
+-- node j is a child of node i
+pub record Child (t : Table) (i j : ℕ) : Type 0 where
+  pub other : 1 ≤ j
+  pub node : j < nodes t
+  pub below : parent t j ≡ i
+
+-- exactly one node has the label x
+pub record StandsOnce (t : Table) (x : ℕ) : Type 0 where
+  pub at : ℕ
+  pub node : at < nodes t
+  pub labelled : label t at ≡ x
+  pub only : (j : ℕ) → j < nodes t → label t j ≡ x → j ≡ at
+
+-- node i has two different children
+pub record TwoChildren (t : Table) (i : ℕ) : Type 0 where
+  pub one : ℕ
+  pub two : ℕ
+  pub apart : one < two
+  pub first : Child t i one
+  pub second : Child t i two
+
+pub record IsTree (t : Table) : Type 0 where
+  -- 'The table has exactly 2 + 2m words.'
+  pub words : length t ≡ 2 + 2 * nodes t
+  -- 'n is 2 to 256; m is n to 2n − 2.'
+  pub tips-range : (2 ≤ tips t) × (tips t ≤ 256)
+  pub nodes-range : (tips t ≤ nodes t) × (nodes t ≤ 2 * tips t - 2)
+  -- 'Node 0 is the tip labelled 0. Its parent word is 0.'
+  pub root-label : label t 0 ≡ 0
+  pub root-parent : parent t 0 ≡ 0
+  -- 'It has exactly one child, node 1, whose parent word is 0.'
+  pub root-child : (j : ℕ) → Child t 0 j ↔ (j ≡ 1)
+  -- 'For i ≥ 2, node i's parent is at least 1 and less than i.'
+  pub parents-range : (i : ℕ) → 2 ≤ i → i < nodes t → (1 ≤ parent t i) × (parent t i < i)
+  -- 'A tip's label is 0 to n − 1 .. 65535 marks an inner node.'
+  pub labels-range : (i : ℕ) → i < nodes t → (label t i ≡ 65535) ⊎ (label t i < tips t)
+  -- '.. each standing once.'
+  pub once : (x : ℕ) → x < tips t → StandsOnce t x
+  -- 'A tip other than node 0 has no child.'
+  pub tip-bare : (i : ℕ) → 1 ≤ i → i < nodes t → label t i < tips t → (j : ℕ) → Child t i j → ⊥
+  -- 'An inner node has two children or more.'
+  pub inner-two : (i : ℕ) → i < nodes t → label t i ≡ 65535 → TwoChildren t i
+
+-- ---- a tree table as a shape
+
+pub parent-past : (t : Table) (i : ℕ) → nodes t ≤ i → parent t i ≡ 0
+unfolding parent parents
+parent-past t i l =
+    List·getD-eq-default (take (nodes t) (drop 2 t)) 0 {n = i} (omega (arith, length-take (nodes t) (drop 2 t)))
+
+pub rooted : (t : Table) → IsTree t → Rooted (parent t)
+rooted t g = record { root = g .root-parent; falls = falls }
+  where
+    falls : (w : ℕ) → parent t (suc w) ≤ w
+    falls w = elim (decLe (nodes t) (suc w)) [
+      | yes l ↦ omega (arith, parent-past t (suc w) l)
+      | no n ↦ elim (eq-zero-or-pos w) [
+        | inl z ↦ omega (arith, g .root-child 1 .1 refl .below, ap (λ (x : ℕ). parent t (suc x)) z)
+        | inr p ↦ omega (arith, g .parents-range (suc w) (omega arith) (lt-of-not-le n) .1)
+      ]
+    ]
