@@ -3,8 +3,9 @@
 
     python3 tests/docs_tests.py
 
-docs/DECISIONS.md points to the lines that have each form of document 01; docs/PROMISES.md names the clauses and theorems
-of each sentence of the demands, and every must-fail edit. A pointer that leads nowhere fails here.
+docs/DECISIONS.md points to the lines that have each form of document 01; docs/SPECIFICATION.md names the definitions that say
+each section; docs/PROMISES.md names the clauses and theorems of each sentence of the demands, and every must-fail edit. A
+pointer that leads nowhere fails here.
 """
 import pathlib
 import re
@@ -34,6 +35,20 @@ class Lines(unittest.TestCase):
             with self.subTest(path=path, line=number):
                 lines = (ROOT / path).read_text(encoding="utf-8").split("\n")
                 self.assertEqual(lines[int(number) - 1].strip(), code)
+
+
+class Definitions(unittest.TestCase):
+    """CRATE FILE `name` .. in docs/SPECIFICATION.md: that file of the crate's specs/ declares each name."""
+
+    def test_citations(self):
+        page = re.sub(r"\s+", " ", text("SPECIFICATION.md"))
+        cited = re.findall(r"\b([a-z_]+) ([A-Z]\w+)((?: `[^`]+`)+)", page)
+        self.assertGreater(len(cited), 90)
+        for crate, name, names in cited:
+            with self.subTest(crate=crate, file=name):
+                content = (ROOT / "crates" / crate / "specs" / f"{name}.antt").read_text(encoding="utf-8")
+                for one in re.findall(r"`([^`]+)`", names):
+                    self.assertRegex(content, rf"(?m)^ *(?:\w+ )*{re.escape(one)}(?= [:(])")
 
 
 class Names(unittest.TestCase):
