@@ -3,12 +3,11 @@
 use mathlib.Core.Path.{_≡_, refl, sym, _∙_, ap}
 use Prim.Native.Nat.{ℕ, _+_, _*_, _-_}
 use Rattle.sums.specs.Counts.{count}
-use Rattle.sums.specs.Fours.{setsOfFour}
 use Rattle.shapes.specs.Directions.{behind}
 use Rattle.shapes.specs.Claims.{sumClaims, claimTerm}
 use Rattle.shapes.specs.Shape.{Shape}
 use Rattle.shapes.specs.Topologies.{casesIn}
-use Rattle.shapes.specs.Counting.{S-in, S2-in, S3-in, Counted, counted}
+use Rattle.shapes.specs.Counting.{S-in, S2-in, S3-in, SumsCount, Counted, counted}
 use Rattle.tree_check.specs.Table.{Table, tips, nodes, parent, nodeOf}
 use Rattle.tree_check.specs.IsTree.{IsTree}
 use Rattle.counting.specs.ClaimSums.{codes, behindEdge, size, crossing, S, S2, S3}
@@ -16,14 +15,10 @@ use Rattle.counting.specs.Cases.{Case, A, B, C, D, E, caseNumber, quarte
 use Rattle.counting.specs.TreeShape.{shapeOf}
 use Rattle.counting.specs.CasesInShapes.{quartets-in-shapes}
 
--- each claim sum is so many times the sets of four that it meets, and each set of four is in one of the cases
-pub record ClaimCounts (t u : Table) : Type 0 where
-  pub first : S t ≡ 2 * (quartets t u A + quartets t u B + quartets t u C)
-  pub second : S u ≡ 2 * (quartets t u A + quartets t u B + quartets t u D)
-  pub same : S2 t u ≡ 2 * quartets t u A
-  pub different : S3 t u ≡ 4 * quartets t u B
-  pub all : setsOfFour (tips t)
-      ≡ quartets t u A + quartets t u B + quartets t u C + quartets t u D + quartets t u E
+-- the claim sums of two tables, and the counts of their sets of four
+abbrev pub ClaimCounts : Table → Table → Type 0
+ClaimCounts t u = SumsCount (tips t) (S t) (S u) (S2 t u) (S3 t u)
+    (quartets t u A) (quartets t u B) (quartets t u C) (quartets t u D) (quartets t u E)
 
 claim-sum-in : (t : Table) (g : IsTree t) (n : ℕ) (e : tips t ≡ n) → S t ≡ S-in (shapeOf t g n e)
 unfolding S size behindEdge codes S-in shapeOf
@@ -31,7 +26,7 @@ claim-sum-in t g n e = ap (λ (m : ℕ). sumClaims (parent t) (2 * (nodes t - 1)
     (claimTerm (λ c. count m (λ x. behind (parent t) c (nodeOf t x))))) e
 
 pub claim-counts : (t u : Table) → IsTree t → IsTree u → tips t ≡ tips u → ClaimCounts t u
-unfolding caseNumber setsOfFour
+unfolding caseNumber
 claim-counts t u g h e = record {
   first = claim-sum-in t g (tips t) refl ∙ c .first ∙ sym (rw (q A, q B, q C));
   second = claim-sum-in u h (tips t) (sym e) ∙ c .second ∙ sym (rw (q A, q B, q D));

@@ -3,19 +3,11 @@
 use mathlib.Core.Path.{_≡_, sym, _∙_}
 use Prim.Native.Nat.{ℕ, _+_, _*_}
 use native.Mathlib.Omega.{arith}
-use Rattle.sums.specs.Fours.{setsOfFour, fours, fours-count}
+use Rattle.sums.specs.Fours.{fours, fours-count}
 use Rattle.shapes.specs.Shape.{Shape}
 use Rattle.shapes.specs.Topologies.{casesIn}
-use Rattle.shapes.specs.Counting.{S-in, S2-in, S3-in, counted}
+use Rattle.shapes.specs.Counting.{S-in, S2-in, S3-in, SumsCount, counted}
 use Rattle.counting.specs.QuartetTable.{formulaA, formulaB, formulaC, formulaD, formulaE}
-
--- what the counting theorem says of four sums and five counts
-pub record SumsCount (n s s' s2 s3 a b c d e : ℕ) : Type 0 where
-  pub first : s ≡ 2 * (a + b + c)
-  pub second : s' ≡ 2 * (a + b + d)
-  pub same : s2 ≡ 2 * a
-  pub different : s3 ≡ 4 * b
-  pub all : setsOfFour n ≡ a + b + c + d + e
 
 -- the formulas, with ordinary division and subtraction
 pub record FormulasCount (n s s' s2 s3 a b c d e : ℕ) : Type 0 where
@@ -59,11 +51,4 @@ formulas-count {n} {s} {s'} {s2} {s3} {a} {b} {c} {d} {e} h = record {
 pub formulas-in-shapes : {n : ℕ} (t u : Shape n)
     → FormulasCount n (S-in t) (S-in u) (S2-in t u) (S3-in t u)
     (casesIn t u 0) (casesIn t u 1) (casesIn t u 2) (casesIn t u 3) (casesIn t u 4)
-unfolding setsOfFour
-formulas-in-shapes t u = let k = counted t u in formulas-count (record {
-  first = k .first;
-  second = k .second;
-  same = k .same;
-  different = k .different;
-  all = k .all;
-})
+formulas-in-shapes t u = formulas-count (counted t u)

@@ -1,4 +1,4 @@
--- Demand 3 of document 01, for two tree tables on the same tips.
+-- The quartet theorem: what the five formulas give, for two tree tables on the same tips.
 -- Assumes nothing.
 use mathlib.Core.Path.{_≡_, refl, sym, _∙_}
 use mathlib.Core.Logic.{_↔_}
@@ -74,15 +74,6 @@ abbrev FormulasOf : Table → Table → Type 0
 FormulasOf t u = FormulasCount (tips t) (S t) (S u) (S2 t u) (S3 t u)
     (quartets t u A) (quartets t u B) (quartets t u C) (quartets t u D) (quartets t u E)
 
-formulas-of : (t u : Table) → ClaimCounts t u → FormulasOf t u
-formulas-of t u c = formulas-count (record {
-  first = c .first;
-  second = c .second;
-  same = c .same;
-  different = c .different;
-  all = c .all;
-})
-
 -- ---- the zero rule over tables
 
 zero-rule-of-tables : (t u : Table) → IsTree t → IsTree u → tips t ≡ tips u
@@ -125,7 +116,7 @@ quartet-theorem t u g h e = record {
     c = claim-counts t u g h e
 
     f : FormulasOf t u
-    f = formulas-of t u c
+    f = formulas-count c
 
     most : fours (tips t) ≤ 174792640
     most = omega (arith, fours-mono (tips t) 256 (g .tips-range .1), fours-of-256)

@@ -10,6 +10,7 @@ use Rattle.sums.specs.Sum.{sum-cong}
 use Rattle.sums.specs.Bits.{bit, ne-other}
 use Rattle.sums.specs.Counts.{count}
 use Rattle.sums.specs.SetsOfFour.{sets4, sets4-ext, sets4-add}
+use Rattle.sums.specs.Fours.{setsOfFour}
 use Rattle.sums.specs.Products.{bit-and}
 use Rattle.shapes.specs.Quartets.{AtMostOne, none, first, second, third, one-pairing}
 use Rattle.shapes.specs.Shape.{Shape, behindIn, butterflyIn}
@@ -43,14 +44,19 @@ unfoldable pub S3-in : {n : ℕ} → Shape n → Shape n → ℕ
 S3-in t u = sumClaims (t .up) (2 * t .edges) (λ e f g.
     sumClaims (u .up) (2 * u .edges) (dcount (crossIn t u) e f g))
 
--- the claim sums in terms of the five counts, and every set of four in one case
-pub record Counted {n : ℕ} (t u : Shape n) : Type 0 where
-  pub first : S-in t ≡ 2 * (casesIn t u 0 + casesIn t u 1 + casesIn t u 2)
-  pub second : S-in u ≡ 2 * (casesIn t u 0 + casesIn t u 1 + casesIn t u 3)
-  pub same : S2-in t u ≡ 2 * casesIn t u 0
-  pub different : S3-in t u ≡ 4 * casesIn t u 1
-  pub all : sets4 n (λ w x y z. 1)
-      ≡ casesIn t u 0 + casesIn t u 1 + casesIn t u 2 + casesIn t u 3 + casesIn t u 4
+-- what four sums over claims say of five counts of sets of four: each sum is so many times the sets that it meets, and
+-- each set is in one of the cases
+pub record SumsCount (n s s' s2 s3 a b c d e : ℕ) : Type 0 where
+  pub first : s ≡ 2 * (a + b + c)
+  pub second : s' ≡ 2 * (a + b + d)
+  pub same : s2 ≡ 2 * a
+  pub different : s3 ≡ 4 * b
+  pub all : setsOfFour n ≡ a + b + c + d + e
+
+-- .. of two shapes
+abbrev pub Counted : {n : ℕ} → Shape n → Shape n → Type 0
+Counted {n} t u = SumsCount n (S-in t) (S-in u) (S2-in t u) (S3-in t u)
+    (casesIn t u 0) (casesIn t u 1) (casesIn t u 2) (casesIn t u 3) (casesIn t u 4)
 
 -- ---- one set of four, with the three tests of either shape
 
@@ -156,7 +162,7 @@ module _ {n : ℕ} (t u : Shape n) where
   as-products = fun-ext (λ c. fun-ext (λ d. sum-cong n (λ x. bit-and (behindIn t c x) (behindIn u d x))))
 
   pub counted : Counted t u
-  unfolding S-in S2-in S3-in
+  unfolding S-in S2-in S3-in setsOfFour
   counted = record {
     first = claim-sum t ∙ ap (λ (x : ℕ). 2 * x) first-cases;
     second = claim-sum u ∙ ap (λ (x : ℕ). 2 * x) second-cases;
