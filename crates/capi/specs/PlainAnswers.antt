@@ -7,7 +7,7 @@ use Rattle.trees.specs.declared.centres.CentreAnswer as trees-centre
 use Rattle.trees.specs.declared.quartet.TopologyAnswer as trees-topology
 use Rattle.trees.specs.declared.quartet.Topology.the-variants.{Butterfly, Star}
 use Rattle.trees.specs.Topology.{butterflyOf, partnerOf}
-use Rattle.tree_pairs.specs.declared.counts.SplitCounts.{SplitCounts}
+use Rattle.splits.specs.declared.counts.SplitCounts.{SplitCounts}
 use Rattle.claims.specs.declared.totals.ClaimSums.{ClaimSums}
 use Rattle.quartets.specs.declared.tables.QuartetTable.{QuartetTable}
 use Rattle.capi.specs.declared.answers.BeyondAnswer.{BeyondAnswer}

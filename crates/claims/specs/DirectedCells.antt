@@ -15,7 +15,7 @@ use Rattle.tree_check.specs.Table.{Table, word, tips, nodes, parent, nodeOf, be
 use Rattle.counting.specs.ClaimSums.{behindEdge, size, crossing}
 use Rattle.pair_check.specs.PairOrder.{PairWithCells}
 use Rattle.tree_pairs.specs.Crossings.{edgeCrossing, crossed, crossed-length, cell-of-edges}
-use Rattle.tree_pairs.specs.SplitCells.{row-cell, column-cell}
+use Rattle.tree_pairs.specs.CellSizes.{row-cell, column-cell}
 use Rattle.claims.specs.CodeCells.{childCell, ownCell, codeCell, Crossed}
 use Rattle.claims.specs.CodeSizes.{codeSize}
 

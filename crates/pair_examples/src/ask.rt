@@ -41,7 +41,7 @@ fn crossings_into(cells: &mut [u16], first: &[u16], second: &[u16]) {
 
 fn splits_into(cells: &mut [u16], first: &[u16], second: &[u16]) {
     fill(cells);
-    let counts = tree_pairs::split_counts(first, second, cells);
+    let counts = splits::split_counts(first, second, cells);
     print::name(b"splits");
     print::number(counts.refusal);
     print::number(counts.first);

@@ -13,9 +13,9 @@ use Rattle.counting.specs.Cases.{A, B, C, D, E, quartets}
 use Rattle.counting.specs.SplitCounts.{splits, commonSplits, robinsonFoulds}
 use Rattle.pair_check.specs.PairOrder.{PairWithCells, pairOrder}
 use Rattle.pair_check.specs.PairCheck.{pair-check}
-use Rattle.tree_pairs.specs.SplitAnswer.{splitAnswer}
-use Rattle.tree_pairs.specs.SplitAnswer as split_counts
-use Rattle.tree_pairs.specs.declared.counts.SplitCounts.{SplitCounts}
+use Rattle.splits.specs.SplitAnswer.{splitAnswer}
+use Rattle.splits.specs.SplitAnswer as split_counts
+use Rattle.splits.specs.declared.counts.SplitCounts.{SplitCounts}
 use Rattle.claims.specs.SumsOf.{claimAnswer}
 use Rattle.claims.specs.SumsOf as claim_sums
 use Rattle.claims.specs.declared.totals.ClaimSums.{ClaimSums}

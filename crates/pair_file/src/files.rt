@@ -15,7 +15,7 @@ use quartets::claim_sums;
 use quartets::quartet_table;
 use quartets::split_counts;
 ghost use mathlib.Core.Path.{_≡_};
-ghost use Rattle.tree_pairs.specs.SplitAnswer.{splitAnswer};
+ghost use Rattle.splits.specs.SplitAnswer.{splitAnswer};
 ghost use Rattle.claims.specs.SumsOf.{claimAnswer};
 ghost use Rattle.quartets.specs.QuartetAnswer.{quartetAnswer};
 ghost use Rattle.pair_file.specs.PairFile.{comparison};

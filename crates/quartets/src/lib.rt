@@ -11,6 +11,6 @@ pub use pair_check::check_work;
 pub use pair_check::pair_refusal;
 pub use tables::QuartetTable;
 pub use tables::quartet_table;
-pub use tree_pairs::SplitCounts;
+pub use splits::SplitCounts;
 pub use tree_pairs::crossings;
-pub use tree_pairs::split_counts;
+pub use splits::split_counts;

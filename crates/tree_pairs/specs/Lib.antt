@@ -10,6 +10,4 @@ pub mod Rows
 pub mod RowsUp
 pub mod Filling
 pub mod LentTables
-pub mod SplitCells
-pub mod SplitLoops
-pub mod SplitAnswer
+pub mod CellSizes
