@@ -9,7 +9,7 @@ use input::read_input;
 fn write_listing(bytes: &[u8]) {
     let figures = pair_file::compare(bytes);
     let mut text = [0u8; 512];
-    let k = pair_file::listing(figures, &mut text);
+    let k = listings::listing(figures, &mut text);
     if !io::write_all(1, &text[..k]) {
         io::write_all(2, b"compare: cannot write to standard output\n");
     }

@@ -24,7 +24,7 @@ use Rattle.counting.specs.SplitCounts.{splits, commonSplits, robinsonFoulds}
 use Rattle.pair_check.specs.PairOrder.{plus, tipsOrder, tablesOrder, workOrder, pairOrder}
 use Rattle.pair_file.specs.PairFile.{fileWords, firstLength, firstTable, secondTable, wordsOrder, fileOrder}
 use Rattle.pair_file.specs.PairFile.{figuresOf, comparison}
-use Rattle.pair_file.specs.ListingExamples.{ofPAndQ}
+use Rattle.listings.specs.ListingExamples.{ofPAndQ}
 
 -- the bytes of P, and of Q
 abbrev bytesOfP : List ℕ

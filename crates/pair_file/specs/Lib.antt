@@ -1,13 +1,6 @@
-pub mod Decimal
-pub mod Lines
-pub mod Written
-pub mod Printing
-pub mod Listing
-pub mod ListingSteps
 pub mod PairFile
 pub mod FileWords
 pub mod FileOrder
 pub mod PairFigures
 pub mod NeverNine
-pub mod ListingExamples
 pub mod FileExamples

@@ -22,22 +22,12 @@ use Rattle.claims.specs.declared.totals.ClaimSums.{ClaimSums}
 use Rattle.quartets.specs.QuartetAnswer.{quartetAnswer}
 use Rattle.quartets.specs.QuartetAnswer as quartet_table
 use Rattle.quartets.specs.declared.tables.QuartetTable.{QuartetTable}
-use Rattle.pair_file.specs.declared.figures.Figures.{Figures}
+use Rattle.listings.specs.declared.figures.Figures.{Figures}
+use Rattle.listings.specs.Listing.{ofRefusal}
 use Rattle.pair_file.specs.PairFile.{fileWords, firstLength, firstTable, secondTable, wordsOrder}
 use Rattle.pair_file.specs.PairFile.{fileOrder, figuresOf, comparison}
 use Rattle.pair_file.specs.FileWords.{first-part, second-part}
 use Rattle.pair_file.specs.FileOrder.{too-long, odd-length, even-length}
-
--- the number of a refusal, and zeros
-abbrev pub ofRefusal : ℕ → Figures
-ofRefusal number = record {
-  refusal = number;
-  tips = 0;
-  claims = record { first = 0; second = 0; same = 0; different = 0 };
-  quartets = record { a = 0; b = 0; c = 0; d = 0; e = 0 };
-  distance = 0;
-  splits = record { first = 0; second = 0; common = 0; distance = 0 };
-}
 
 -- the figures of two tables, by the pair's order
 unfoldable pub pairFigures : Table → Table → Figures

@@ -11,7 +11,7 @@ use Rattle.counting.specs.ClaimSums.{S, S2, S3}
 use Rattle.counting.specs.Cases.{A, B, C, D, E, quartets}
 use Rattle.counting.specs.SplitCounts.{splits, commonSplits, robinsonFoulds}
 use Rattle.pair_check.specs.PairOrder.{pairOrder}
-use Rattle.pair_file.specs.declared.figures.Figures.{Figures}
+use Rattle.listings.specs.declared.figures.Figures.{Figures}
 
 -- 'Words are unsigned 16-bit numbers, little-endian in a file'; a last odd byte gives none
 unfoldable pub fileWords : List ℕ → List ℕ

@@ -1,8 +1,8 @@
 // One comparison file, compared: its bytes cut into two tables, and the three counts of the pair.
-use super::figures::Claims;
-use super::figures::Figures;
-use super::figures::Quartets;
-use super::figures::Splits;
+use listings::Claims;
+use listings::Figures;
+use listings::Quartets;
+use listings::Splits;
 use super::words::decode;
 use super::words::first_length;
 use pair_check::CheckedPair;

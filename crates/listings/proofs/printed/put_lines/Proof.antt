@@ -1,0 +1,42 @@
+-- The lines come one after the other.
+-- Assumes nothing.
+use native.Mathlib.Omega.{arith}
+use Rattle.listings.specs.ListingSteps.{lines-written}
+use borrow.Author.Needs.{needs}
+use Rattle.listings.proofs.printed.put_lines.Statement.{statement}
+use Rattle.listings.proofs.printed.put_lines.Tie as tie
+
+put-first-lines-requires : tie.Need-put-first-lines-requires
+put-first-lines-requires c κs = search needs
+
+put-quartet-lines-requires : tie.Need-put-quartet-lines-requires
+put-quartet-lines-requires c κs = search needs
+
+put-split-line-requires : tie.Need-put-split-line-requires
+put-split-line-requires c κs = search needs
+
+same-length : tie.Need-same-length
+same-length c = search needs
+
+returns : tie.Need-returns
+returns c =
+    let r = c .before .before .put-split-line in
+    let d = c .before .before .before .before .before .before in
+    let q = d .put-quartet-lines in
+    let e = d .before .before .before .before in
+    let p = e .put-first-lines in
+    let s = e .before .before .before in (
+      lines-written (s .args .figures) (s .args .out .now) (p .result) (q .result) (r .result)
+          (p .last .1 .0) (q .last .1 .1 .0) (r .last .1 .1 .0) (p .ensures .0) (q .ensures .0) (r .ensures .0),
+      omega arith,
+    )
+
+pub put-lines-spec : {M : Type 1} → statement M
+put-lines-spec =
+    tie.close
+    (tie.spec
+    put-first-lines-requires
+    put-quartet-lines-requires
+    put-split-line-requires
+    same-length
+    returns)

@@ -1,0 +1,62 @@
+-- The refusal chooses between the lines and its own line.
+-- Assumes nothing.
+use native.Mathlib.Omega.{arith}
+use Rattle.listings.specs.ListingSteps.{listed-accepted, listed-refused}
+use borrow.Author.Needs.{needs}
+use Rattle.listings.proofs.printed.put_listing.Statement.{statement}
+use Rattle.listings.proofs.printed.put_listing.Tie as tie
+
+put-lines-requires : tie.Need-put-lines-requires
+put-lines-requires c κs = search needs
+
+same-length : tie.Need-same-length
+same-length c = search needs
+
+returns : tie.Need-returns
+returns c =
+    let p = c .before .before .put-lines in
+    let s = c .before .before .before .before .before .before .before in (
+      listed-accepted (s .args .figures) (s .args .out .now) (p .result) (p .last .1 .0)
+          (c .before .before .before .before .if1 .taken) (p .ensures .0),
+      omega arith,
+    )
+
+wide-requires : tie.Need-wide-requires
+wide-requires c κs = search needs
+
+slice-aggregate-put-line : tie.Need-slice-aggregate-put-line
+slice-aggregate-put-line c = search needs
+
+slice-aggregate-put-line-2 : tie.Need-slice-aggregate-put-line-2
+slice-aggregate-put-line-2 c = search needs
+
+put-line-requires : tie.Need-put-line-requires
+put-line-requires c κs = search needs
+
+same-length-2 : tie.Need-same-length-2
+same-length-2 c = search needs
+
+returns-2 : tie.Need-returns-2
+returns-2 c =
+    let p = c .before .before .put-line in
+    let d = c .before .before .before .before .before .before in
+    let w = d .wide in
+    let s = d .before .before .before .before in (
+      listed-refused (s .args .figures) (s .args .out .now) (p .result) (p .last .1 .1 .1 .0) (w .result) (w .ensures)
+          (d .before .if1 .left) (p .ensures .0),
+      omega arith,
+    )
+
+pub put-listing-spec : {M : Type 1} → statement M
+put-listing-spec =
+    tie.close
+    (tie.spec
+    put-lines-requires
+    same-length
+    returns
+    wide-requires
+    slice-aggregate-put-line
+    slice-aggregate-put-line-2
+    put-line-requires
+    same-length-2
+    returns-2)

@@ -1,0 +1,56 @@
+-- One line of four numbers.
+-- Assumes nothing.
+use native.Mathlib.Omega.{arith}
+use Rattle.listings.specs.ListingSteps.{split-line-written}
+use borrow.Author.Needs.{needs}
+use Rattle.listings.proofs.printed.put_split_line.Statement.{statement}
+use Rattle.listings.proofs.printed.put_split_line.Tie as tie
+
+wide-requires : tie.Need-wide-requires
+wide-requires c κs = search needs
+
+wide-requires-2 : tie.Need-wide-requires-2
+wide-requires-2 c κs = search needs
+
+wide-requires-3 : tie.Need-wide-requires-3
+wide-requires-3 c κs = search needs
+
+wide-requires-4 : tie.Need-wide-requires-4
+wide-requires-4 c κs = search needs
+
+slice-aggregate-put-line : tie.Need-slice-aggregate-put-line
+slice-aggregate-put-line c = search needs
+
+slice-aggregate-put-line-2 : tie.Need-slice-aggregate-put-line-2
+slice-aggregate-put-line-2 c = search needs
+
+put-line-requires : tie.Need-put-line-requires
+put-line-requires c κs = search needs
+
+same-length : tie.Need-same-length
+same-length c = search needs
+
+returns : tie.Need-returns
+returns c =
+    let p = c .before .before .put-line in
+    let w = c .before .before .before .before .before .before in
+    let s = w .before .before .before .before .before .before in (
+      split-line-written (s .args .figures) (s .args .at) (s .args .out .now) (p .result) (p .last .1 .1 .1 .0)
+          _ _ _ _ (w .before .before .before .wide .ensures) (w .before .before .wide2 .ensures)
+          (w .before .wide3 .ensures) (w .wide4 .ensures) (p .ensures .0),
+      omega arith,
+    )
+
+pub put-split-line-spec : {M : Type 1} → statement M
+put-split-line-spec =
+    tie.close
+    (tie.spec
+    wide-requires
+    wide-requires-2
+    wide-requires-3
+    wide-requires-4
+    slice-aggregate-put-line
+    slice-aggregate-put-line-2
+    put-line-requires
+    same-length
+    returns)

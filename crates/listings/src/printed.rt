@@ -1,0 +1,96 @@
+// The listing of a comparison: five lines, or one line for a refusal.
+use super::figures::Figures;
+use super::text::copy;
+use super::text::put_line;
+ghost use mathlib.Core.Path.{_≡_};
+ghost use Prim.Native.Nat.{_≤_, _+_};
+ghost use lib.ListN.{length};
+ghost use Rattle.io.specs.Counts.{Counts};
+ghost use Rattle.listings.specs.Written.{Written};
+ghost use Rattle.listings.specs.Listing.{firstLines, quartetLines, splitLine, lines, listed};
+ghost use Rattle.listings.specs.Listing.{bytesListed, afterListing};
+
+fn wide(x: u16) -> u64
+    ensures { λ r. ⌜ r ≡ x ⌝ }
+{
+    x as u64
+}
+
+// The lines of the tips and of the claim sums.
+fn put_first_lines(figures: Figures, out: &mut [u8]) -> usize
+    requires { ⌜ 119 ≤ length (now out) ⌝ }
+    ensures { λ r. ⌜ Written 0 (now (out .entry)) (firstLines figures) r (now (out .exit)) × (r ≤ 119) ⌝ }
+{
+    let tips = [wide(figures.tips)];
+    let sums = figures.claims;
+    let claims = [sums.first, sums.second, sums.same, sums.different];
+    let end = put_line(b"leaves", &tips, 0, out);
+    put_line(b"claims", &claims, end, out)
+}
+
+// The lines of the five cases and of the distance.
+fn put_quartet_lines(figures: Figures, at: usize, out: &mut [u8]) -> usize
+    requires { ⌜ at + 144 ≤ length (now out) ⌝ }
+    ensures { λ r. ⌜ Written at (now (out .entry)) (quartetLines figures) r (now (out .exit)) × (r ≤ at + 144) ⌝ }
+{
+    let cases = figures.quartets;
+    let quartets = [cases.a, cases.b, cases.c, cases.d, cases.e];
+    let distance = [figures.distance];
+    let end = put_line(b"quartets", &quartets, at, out);
+    put_line(b"distance", &distance, end, out)
+}
+
+// The line of the split counts.
+fn put_split_line(figures: Figures, at: usize, out: &mut [u8]) -> usize
+    requires { ⌜ at + 91 ≤ length (now out) ⌝ }
+    ensures { λ r. ⌜ Written at (now (out .entry)) (splitLine figures) r (now (out .exit)) × (r ≤ at + 91) ⌝ }
+{
+    let counts = figures.splits;
+    let splits = [
+        wide(counts.first),
+        wide(counts.second),
+        wide(counts.common),
+        wide(counts.distance),
+    ];
+    put_line(b"splits", &splits, at, out)
+}
+
+// The five lines.
+fn put_lines(figures: Figures, out: &mut [u8]) -> usize
+    requires { ⌜ 354 ≤ length (now out) ⌝ }
+    ensures { λ r. ⌜ Written 0 (now (out .entry)) (lines figures) r (now (out .exit)) × (r ≤ 354) ⌝ }
+{
+    let middle = put_first_lines(figures, out);
+    let end = put_quartet_lines(figures, middle, out);
+    put_split_line(figures, end, out)
+}
+
+// The five lines, or the line of a refusal.
+fn put_listing(figures: Figures, out: &mut [u8]) -> usize
+    requires { ⌜ 354 ≤ length (now out) ⌝ }
+    ensures { λ r. ⌜ Written 0 (now (out .entry)) (listed figures) r (now (out .exit)) × (r ≤ 354) ⌝ }
+{
+    if figures.refusal == 0 {
+        return put_lines(figures, out);
+    }
+    let refusal = [wide(figures.refusal)];
+    put_line(b"refused", &refusal, 0, out)
+}
+
+// The listing, in front of `out`; and how many bytes it has, which are never more than 512. A buffer that is too
+// short for it is left as it is, and the number is 0.
+pub fn listing(figures: Figures, out: &mut [u8]) -> usize
+    ensures { λ r. ⌜
+        (r ≡ bytesListed figures (now (out .entry)))
+        × (now (out .exit) ≡ afterListing figures (now (out .entry)))
+        × (length (listed figures) ≤ 512)
+        ⌝ }
+    ensures { λ r. ⌜ Counts r (now (out .exit)) ⌝ }
+{
+    let mut text = [0u8; 512];
+    let n = put_listing(figures, &mut text);
+    if n <= out.len() {
+        return copy(&text[..n], 0, out);
+    }
+    0
+}
