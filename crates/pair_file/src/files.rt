@@ -1,10 +1,10 @@
 // One comparison file, compared: its bytes cut into two tables, and the three counts of the pair.
+use super::words::decode;
+use super::words::first_length;
 use listings::Claims;
 use listings::Figures;
 use listings::Quartets;
 use listings::Splits;
-use super::words::decode;
-use super::words::first_length;
 use pair_check::CheckedPair;
 use pair_check::check_work;
 use pair_check::pair_refusal;
@@ -18,8 +18,9 @@ ghost use mathlib.Core.Path.{_≡_};
 ghost use Rattle.splits.specs.SplitAnswer.{splitAnswer};
 ghost use Rattle.claims.specs.SumsOf.{claimAnswer};
 ghost use Rattle.quartets.specs.QuartetAnswer.{quartetAnswer};
+ghost use Rattle.listings.specs.Listing.{ofRefusal};
 ghost use Rattle.pair_file.specs.PairFile.{comparison};
-ghost use Rattle.pair_file.specs.PairFigures.{ofRefusal, pairFigures, wordFigures};
+ghost use Rattle.pair_file.specs.PairFigures.{pairFigures, wordFigures};
 
 // The cells lent to each operation: enough for any two trees of one file, so that 9 never occurs.
 const CELLS: usize = 15625;

@@ -1,11 +1,11 @@
 // The centre of three labels.
 use super::asked::asked_refusal;
 use super::asked::node_of;
+use super::words::narrow;
+use super::words::wide;
 use tree_check::Checked;
 use tree_check::check;
 use tree_check::refusal_of;
-use super::words::narrow;
-use super::words::wide;
 ghost use mathlib.Core.Path.{_≡_};
 ghost use Prim.Native.Nat.{_-_, _<_};
 ghost use lib.ListN.{length};

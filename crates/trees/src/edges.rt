@@ -1,11 +1,11 @@
 // The part of a walk that belongs to an edge, by position alone.
 use super::sizes::ends;
 use super::sizes::sizes;
+use super::words::narrow;
+use super::words::wide;
 use tree_check::Checked;
 use tree_check::check;
 use tree_check::refusal_of;
-use super::words::narrow;
-use super::words::wide;
 ghost use mathlib.Core.Path.{_≡_};
 ghost use Prim.Native.Nat.{_<_};
 ghost use denote.Ref.{ptr};

@@ -2,10 +2,10 @@
 use super::asked::asked_refusal;
 use super::asked::node_of;
 use super::sizes::add_up;
+use super::words::wide;
 use tree_check::Checked;
 use tree_check::check;
 use tree_check::refusal_of;
-use super::words::wide;
 ghost use mathlib.Core.Path.{_≡_};
 ghost use Prim.Native.Nat.{_≤_, min, max};
 ghost use Rattle.trees.specs.Topology.{partner, topologyAnswer, Told};

@@ -1,10 +1,10 @@
 // The walk of a tree table.
 use super::sizes::ends;
 use super::sizes::sizes;
+use super::words::wide;
 use tree_check::Checked;
 use tree_check::check;
 use tree_check::refusal_of;
-use super::words::wide;
 ghost use mathlib.Core.Path.{_≡_};
 ghost use Prim.Native.Nat.{_≤_};
 ghost use lib.ListN.{length};
