@@ -42,7 +42,7 @@ class Definitions(unittest.TestCase):
 
     def test_citations(self):
         page = re.sub(r"\s+", " ", text("SPECIFICATION.md"))
-        cited = re.findall(r"\b([a-z_]+) ([A-Z]\w+)((?: `[^`]+`)+)", page)
+        cited = re.findall(r"\b([a-z_]+) ((?:theorems/|lemmas/)?[A-Z]\w+)((?: `[^`]+`)+)", page)
         self.assertGreater(len(cited), 90)
         for crate, name, names in cited:
             with self.subTest(crate=crate, file=name):

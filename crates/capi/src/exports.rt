@@ -19,7 +19,7 @@ use trees::walk;
 ghost use mathlib.Core.Path.{_≡_};
 ghost use lib.ListN.{length};
 ghost use Rattle.tree_check.specs.Refusals.{refusal};
-ghost use Rattle.tree_check.specs.TreeCheck.{treeOrder};
+ghost use Rattle.tree_check.specs.TreeOrder.{treeOrder};
 ghost use Rattle.trees.specs.Orders.{walkOrder};
 ghost use Rattle.trees.specs.Walk.{afterWalk, placeBeyond};
 ghost use Rattle.trees.specs.Centre.{centreAnswer};

@@ -4,7 +4,7 @@ use mathlib.Core.List.{List}
 use Prim.Native.Nat.{ℕ, _+_, _*_, _≤_}
 use lib.ListN.{length}
 use Rattle.tree_check.specs.Table.{word}
-use Rattle.node_pairs.specs.Aggregates.{whole}
+use Rattle.node_pairs.specs.theorems.Aggregates.{whole}
 
 -- the cell in row i and column j of rows of w cells
 abbrev pub blockCell : List ℕ → ℕ → ℕ → ℕ → ℕ

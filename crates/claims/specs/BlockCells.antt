@@ -6,14 +6,15 @@ use Prim.Native.Nat.{ℕ, zero, suc, _+_, _*_, _-_, _≤_, _<_}
 use native.Mathlib.Nat.{suc-mul, mul-le-mul-right}
 use native.Mathlib.Omega.{arith}
 use lib.ListN.{length}
-use Rattle.sums.specs.Sum.{sum, sum-ext, sum-cong}
+use Rattle.sums.specs.Sum.{sum}
+use Rattle.sums.specs.theorems.SumLaws.{sum-ext, sum-cong}
 use Rattle.shapes.specs.Claims.{choose2}
 use Rattle.tree_check.specs.Table.{word}
-use Rattle.node_pairs.specs.Aggregates.{rowSum, columnSum, whole, squares, rowSquares, columnSquares}
-use Rattle.node_pairs.specs.Aggregates.{rowWithout, columnWithout, down, along, rest, rest-cell}
-use Rattle.node_pairs.specs.CellForms.{pairsOff}
-use Rattle.node_pairs.specs.PairsOff.{pairs-off-cell}
-use Rattle.sums.specs.Products.{product-le}
+use Rattle.node_pairs.specs.theorems.Aggregates.{rowSum, columnSum, whole, squares, rowSquares, columnSquares}
+use Rattle.node_pairs.specs.theorems.Aggregates.{rowWithout, columnWithout, down, along, rest, rest-cell}
+use Rattle.node_pairs.specs.theorems.CellForms.{pairsOff}
+use Rattle.node_pairs.specs.theorems.PairsOff.{pairs-off-cell}
+use Rattle.sums.specs.theorems.Products.{product-le}
 use Rattle.claims.specs.Block.{Block, blockCell}
 use Rattle.claims.specs.Lines.{Line, Low, lineCell, squared}
 use Rattle.claims.specs.MatrixBounds.{cell-row-le, cell-column-le, row-without-is, column-without-is}

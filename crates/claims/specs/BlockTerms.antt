@@ -5,14 +5,15 @@ use mathlib.Core.List.{List}
 use Prim.Native.Nat.{ℕ, _+_, _*_, _-_, _≤_, _<_}
 use native.Mathlib.Omega.{arith}
 use lib.ListN.{length}
-use Rattle.sums.specs.Sum.{sum, sum-ext, sum-cong}
+use Rattle.sums.specs.Sum.{sum}
+use Rattle.sums.specs.theorems.SumLaws.{sum-ext, sum-cong}
 use Rattle.tree_check.specs.Table.{word}
 use Rattle.node_pairs.specs.Cells.{pairS2, pairS3}
-use Rattle.node_pairs.specs.Aggregates.{transposed, rowSum, columnSum, down, along}
-use Rattle.node_pairs.specs.Transposed.{pairS2-transposed, pairS3-transposed}
-use Rattle.node_pairs.specs.CellForms.{pairS2-cells}
-use Rattle.node_pairs.specs.ClosedForms.{dotSquares, termSquares, pairS3-rows, pairS3-columns}
-use Rattle.sums.specs.Products.{product-le}
+use Rattle.node_pairs.specs.theorems.Aggregates.{transposed, rowSum, columnSum, down, along}
+use Rattle.node_pairs.specs.theorems.Transposed.{pairS2-transposed, pairS3-transposed}
+use Rattle.node_pairs.specs.theorems.CellForms.{pairS2-cells}
+use Rattle.node_pairs.specs.theorems.ClosedForms.{dotSquares, termSquares, pairS3-rows, pairS3-columns}
+use Rattle.sums.specs.theorems.Products.{product-le}
 use Rattle.claims.specs.Block.{Block, blockCell}
 use Rattle.claims.specs.Lines.{Lines, AllTotals, lineSum, lineRest}
 use Rattle.claims.specs.Filled.{filled, filled-at, length-filled}

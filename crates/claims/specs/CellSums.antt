@@ -5,8 +5,8 @@ use Prim.Native.Nat.{ℕ, _+_, _*_, _≤_}
 use native.Mathlib.Omega.{arith}
 use Rattle.sums.specs.Sum.{sum}
 use Rattle.shapes.specs.Claims.{choose2}
-use Rattle.node_pairs.specs.CellForms.{pairsOff}
-use Rattle.node_pairs.specs.Hooks.{hooksPlus, hooksMinus}
+use Rattle.node_pairs.specs.theorems.CellForms.{pairsOff}
+use Rattle.node_pairs.specs.theorems.Hooks.{hooksPlus, hooksMinus}
 use Rattle.claims.specs.Lines.{sum-next, sum-step}
 
 module _ (d d' : ℕ) (I : ℕ → ℕ → ℕ) where

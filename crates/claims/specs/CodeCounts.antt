@@ -9,9 +9,10 @@ use native.Mathlib.Omega.{arith}
 use lib.ListN.{length, set, replicate, length-set, length-replicate, getD-replicate}
 use lib.Seq.{getD-set-same, getD-set-other}
 use Rattle.sums.specs.Sum.{sum}
-use Rattle.sums.specs.Bits.{is-eq, is-other}
-use Rattle.shapes.specs.Directions.{head, head-even, head-odd}
-use Rattle.node_pairs.specs.CodeLists.{degreeOf, degree-suc}
+use Rattle.sums.specs.theorems.BitLaws.{is-eq, is-other}
+use Rattle.shapes.specs.Directions.{head}
+use Rattle.shapes.specs.theorems.DirectionLaws.{head-even, head-odd}
+use Rattle.node_pairs.specs.theorems.CodeLists.{degreeOf, degree-suc}
 use Rattle.tree_check.specs.Table.{word}
 use Rattle.claims.specs.CodesAt.{codesOf, degreeAt, codesBefore, Parents}
 use Rattle.claims.specs.CodesAt.{degree-mono, starts-inside, starts-suc}

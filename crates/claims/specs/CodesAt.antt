@@ -7,10 +7,14 @@ use Prim.Native.Nat.{ℕ, zero, suc, _+_, _*_, _-_, _/_, _≤_, _<_}
 use native.Mathlib.Nat.{eq-or-lt-of-le}
 use native.Mathlib.Omega.{arith}
 use lib.ListN.{length}
-use Rattle.sums.specs.Sum.{sum, sum-suc, sum-none, sum-swap, sum-mono, sum-const, sum-ge, sum-part}
-use Rattle.sums.specs.Bits.{is, ne, is-eq, is-other, alike}
-use Rattle.shapes.specs.Directions.{head, head-even, head-odd, code-cases}
-use Rattle.node_pairs.specs.CodeLists.{degreeOf, codeAt, code-before, code-last, degree-suc, lists-codes, distinct}
+use Rattle.sums.specs.Sum.{sum}
+use Rattle.sums.specs.theorems.SumLaws.{sum-suc, sum-none, sum-swap, sum-mono, sum-const, sum-ge, sum-part}
+use Rattle.sums.specs.Bits.{is, ne}
+use Rattle.sums.specs.theorems.BitLaws.{is-eq, is-other, alike}
+use Rattle.shapes.specs.Directions.{head}
+use Rattle.shapes.specs.theorems.DirectionLaws.{head-even, head-odd, code-cases}
+use Rattle.node_pairs.specs.theorems.CodeLists.{degreeOf, codeAt, code-before, code-last, degree-suc, lists-codes}
+use Rattle.node_pairs.specs.theorems.CodeLists.{distinct}
 use Rattle.tree_check.specs.Table.{word}
 
 -- how many codes there are: two for each edge

@@ -7,15 +7,18 @@ use mathlib.Core.List.{List}
 use Prim.Native.Nat.{ℕ, zero, suc, _+_, _*_, _-_, _/_, _≤_, _<_}
 use native.Mathlib.Omega.{arith}
 use lib.ListN.{length}
-use Rattle.sums.specs.Sum.{sum-cong, sum-add, sum-const}
-use Rattle.sums.specs.Bits.{bit, bit-not}
-use Rattle.sums.specs.Counts.{count, count-le}
-use Rattle.shapes.specs.Directions.{behind-even, behind-odd}
+use Rattle.sums.specs.theorems.SumLaws.{sum-cong, sum-add, sum-const}
+use Rattle.sums.specs.Bits.{bit}
+use Rattle.sums.specs.theorems.BitLaws.{bit-not}
+use Rattle.sums.specs.Counts.{count}
+use Rattle.sums.specs.theorems.CountLaws.{count-le}
+use Rattle.shapes.specs.theorems.DirectionLaws.{behind-even, behind-odd}
 use Rattle.tree_check.specs.Table.{Table, word, tips, nodes, parent, nodeOf, beyond}
 use Rattle.counting.specs.ClaimSums.{behindEdge, size, crossing}
 use Rattle.pair_check.specs.PairOrder.{PairWithCells}
-use Rattle.tree_pairs.specs.Crossings.{edgeCrossing, crossed, crossed-length, cell-of-edges}
-use Rattle.tree_pairs.specs.CellSizes.{row-cell, column-cell}
+use Rattle.tree_pairs.specs.Crossings.{edgeCrossing, crossed}
+use Rattle.tree_pairs.specs.theorems.CrossingLaws.{crossed-length, cell-of-edges}
+use Rattle.tree_pairs.specs.lemmas.CellSizes.{row-cell, column-cell}
 use Rattle.claims.specs.CodeCells.{childCell, ownCell, codeCell, Crossed}
 use Rattle.claims.specs.CodeSizes.{codeSize}
 

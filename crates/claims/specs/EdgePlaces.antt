@@ -9,10 +9,11 @@ use native.Mathlib.Decide.{ℕ-discrete, decLt}
 use native.Mathlib.Omega.{arith}
 use lib.ListN.{length, set, replicate, length-set, length-replicate}
 use lib.Seq.{getD-set-same, getD-set-other}
-use Rattle.sums.specs.Sum.{sum, sum-part}
-use Rattle.sums.specs.Bits.{is-eq, is-other}
+use Rattle.sums.specs.Sum.{sum}
+use Rattle.sums.specs.theorems.SumLaws.{sum-part}
+use Rattle.sums.specs.theorems.BitLaws.{is-eq, is-other}
 use Rattle.shapes.specs.Directions.{head}
-use Rattle.node_pairs.specs.CodeLists.{degreeOf, codeAt, code-before, code-last, degree-suc}
+use Rattle.node_pairs.specs.theorems.CodeLists.{degreeOf, codeAt, code-before, code-last, degree-suc}
 use Rattle.tree_check.specs.Table.{word}
 use Rattle.claims.specs.CodesAt.{codesOf, degreeAt, codesBefore, Parents, Starts, EdgeList}
 use Rattle.claims.specs.CodesAt.{degree-mono, starts-inside, starts-suc}

@@ -8,7 +8,8 @@ use native.Mathlib.Decide.{ℕ-discrete}
 use native.Mathlib.Omega.{arith}
 use lib.ListN.{length, set}
 use lib.Seq.{getD-set-same, getD-set-other}
-use Rattle.sums.specs.Sum.{sum, sum-ext}
+use Rattle.sums.specs.Sum.{sum}
+use Rattle.sums.specs.theorems.SumLaws.{sum-ext}
 use Rattle.tree_check.specs.Table.{word}
 use Rattle.claims.specs.CodesAt.{degreeAt, Starts}
 use Rattle.claims.specs.Lines.{sum-next}

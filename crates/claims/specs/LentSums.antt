@@ -5,11 +5,12 @@ use mathlib.Core.List.{List}
 use Prim.Native.Nat.{ℕ, _+_, _-_, _≤_}
 use native.Mathlib.Omega.{arith}
 use lib.ListN.{length}
-use Rattle.tree_check.specs.Table.{Table, tips, nodes, parents, to-parts, of-parts}
+use Rattle.tree_check.specs.Table.{Table, tips, nodes, parents}
+use Rattle.tree_check.specs.lemmas.TableParts.{to-parts, of-parts}
 use Rattle.pair_check.specs.PairOrder.{PairWithCells}
-use Rattle.pair_check.specs.PairOutcomes.{edges-some}
+use Rattle.pair_check.specs.lemmas.PairOutcomes.{edges-some}
 use Rattle.tree_pairs.specs.Crossings.{crossed, afterCrossings}
-use Rattle.tree_pairs.specs.LentTables.{lentParents, crossings-are}
+use Rattle.tree_pairs.specs.lemmas.LentTables.{lentParents, crossings-are}
 use Rattle.claims.specs.declared.totals.ClaimSums.{ClaimSums}
 use Rattle.claims.specs.SumsOf.{Summable, summed, summable, claimAnswer, claims-accepted}
 

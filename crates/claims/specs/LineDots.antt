@@ -6,11 +6,12 @@ use Prim.Native.Nat.{ℕ, _+_, _*_, _≤_, _<_}
 use native.Mathlib.Nat.{mul-comm}
 use native.Mathlib.Omega.{arith}
 use lib.ListN.{length}
-use Rattle.sums.specs.Sum.{sum, sum-ext, sum-cong, sum-swap, sum-mono, sum-const, sum-none}
+use Rattle.sums.specs.Sum.{sum}
+use Rattle.sums.specs.theorems.SumLaws.{sum-ext, sum-cong, sum-swap, sum-mono, sum-const, sum-none}
 use Rattle.sums.specs.SetsOfFour.{sets2}
 use Rattle.tree_check.specs.Table.{word}
-use Rattle.node_pairs.specs.ClosedForms.{dot, dotSquares, termSquares}
-use Rattle.sums.specs.Products.{product-le}
+use Rattle.node_pairs.specs.theorems.ClosedForms.{dot, dotSquares, termSquares}
+use Rattle.sums.specs.theorems.Products.{product-le}
 use Rattle.claims.specs.Lines.{Line, Low, lineCell, squared, sum-next, sum-step}
 use Rattle.claims.specs.Filled.{filled, filled-at}
 use Rattle.claims.specs.MatrixBounds.{products-le}

@@ -4,9 +4,10 @@ use mathlib.Core.Path.{_≡_}
 use Prim.Native.Nat.{ℕ, _*_, _-_, _≤_, _<_}
 use native.Mathlib.Nat.{le-trans, mul-le-mul-left, mul-le-mul-right}
 use native.Mathlib.Omega.{arith}
-use Rattle.sums.specs.Sum.{sum, sum-mono, sum-swap, sum-ge, sum-mul-right}
-use Rattle.node_pairs.specs.Aggregates.{rowSum, columnSum, whole, squares, rowSquares, columnSquares}
-use Rattle.node_pairs.specs.Aggregates.{rowWithout, columnWithout, down, along, row-cell, column-cell}
+use Rattle.sums.specs.Sum.{sum}
+use Rattle.sums.specs.theorems.SumLaws.{sum-mono, sum-swap, sum-ge, sum-mul-right}
+use Rattle.node_pairs.specs.theorems.Aggregates.{rowSum, columnSum, whole, squares, rowSquares, columnSquares}
+use Rattle.node_pairs.specs.theorems.Aggregates.{rowWithout, columnWithout, down, along, row-cell, column-cell}
 
 -- a sum of products, where one factor is b at most
 pub products-le : (n b s : ℕ) (f g : ℕ → ℕ) → ((i : ℕ) → i < n → g i ≤ b) → sum n f ≤ s

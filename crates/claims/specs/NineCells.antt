@@ -4,11 +4,11 @@
 use mathlib.Core.Path.{_≡_, refl, sym, _∙_, ap, ap₂}
 use Prim.Native.Nat.{ℕ, zero, suc, _+_, _*_, _-_, _≤_}
 use native.Mathlib.Omega.{arith}
-use Rattle.sums.specs.Products.{product-le}
+use Rattle.sums.specs.theorems.Products.{product-le}
 use Rattle.shapes.specs.Claims.{choose2}
-use Rattle.shapes.specs.OrderedClaims.{choose2-square}
+use Rattle.shapes.specs.theorems.OrderedClaims.{choose2-square}
 use Rattle.node_pairs.specs.Cells.{pairS2, pairS3}
-use Rattle.node_pairs.specs.ThreeByThree.{termS2, termS3, sumRow, sumNine, pairS2-three, pairS3-three}
+use Rattle.node_pairs.specs.theorems.ThreeByThree.{termS2, termS3, sumRow, sumNine, pairS2-three, pairS3-three}
 
 -- the nine cells are crossings of at most 256 tips
 pub record Nine (x0 x1 x2 y0 y1 y2 z0 z1 z2 : ℕ) : Type 0 where

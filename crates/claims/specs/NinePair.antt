@@ -6,7 +6,7 @@ use Prim.Native.Nat.{ℕ, zero, suc, _+_, _*_, _-_, _≤_, _<_}
 use native.Mathlib.Omega.{arith}
 use lib.ListN.{length}
 use Rattle.node_pairs.specs.Cells.{pairS2, pairS3}
-use Rattle.node_pairs.specs.CellsAlike.{pairS2-ext, pairS3-ext}
+use Rattle.node_pairs.specs.theorems.CellsAlike.{pairS2-ext, pairS3-ext}
 use Rattle.tree_check.specs.Table.{word}
 use Rattle.claims.specs.CodeCells.{CellRoom, codeCell, ownCell, childCell}
 use Rattle.claims.specs.NineCells.{Nine, threeRows}

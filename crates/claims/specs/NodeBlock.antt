@@ -8,7 +8,7 @@ use native.Mathlib.Decide.{decLt}
 use native.Mathlib.Omega.{arith}
 use lib.ListN.{length, set, length-set}
 use lib.Seq.{getD-set-same, getD-set-other}
-use Rattle.sums.specs.Products.{product-le}
+use Rattle.sums.specs.theorems.Products.{product-le}
 use Rattle.tree_check.specs.Table.{word}
 use Rattle.claims.specs.CodeCells.{CellRoom, Crossed, cell-room, codeCell, ownCell, childCell}
 

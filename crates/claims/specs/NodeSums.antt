@@ -6,17 +6,19 @@ use mathlib.Core.List.{List}
 use Prim.Native.Nat.{ℕ, zero, suc, _*_, _-_, _/_, _≤_, _<_}
 use native.Mathlib.Omega.{arith}
 use lib.ListN.{length}
-use Rattle.sums.specs.Sum.{sum, sum-ext}
+use Rattle.sums.specs.Sum.{sum}
+use Rattle.sums.specs.theorems.SumLaws.{sum-ext}
 use Rattle.shapes.specs.Claims.{choose2}
 use Rattle.node_pairs.specs.Cells.{sumApart, pairS2, pairS3}
-use Rattle.node_pairs.specs.CellTotals.{apart-few, pairS2-few, pairS3-few}
-use Rattle.node_pairs.specs.CellsAlike.{apart-ext, pairS2-ext, pairS3-ext}
-use Rattle.tree_check.specs.Table.{Table, tips, nodes, parents, parents-length}
+use Rattle.node_pairs.specs.theorems.CellTotals.{apart-few, pairS2-few, pairS3-few}
+use Rattle.node_pairs.specs.theorems.CellsAlike.{apart-ext, pairS2-ext, pairS3-ext}
+use Rattle.tree_check.specs.Table.{Table, tips, nodes, parents}
+use Rattle.tree_check.specs.lemmas.TableParts.{parents-length}
 use Rattle.tree_check.specs.IsTree.{IsTree}
 use Rattle.counting.specs.ClaimSums.{size, crossing, S, S2, S3}
-use Rattle.counting.specs.Degrees.{sizes-most}
-use Rattle.counting.specs.NodePairSums.{nodeTerm, pairTermS2, pairTermS3}
-use Rattle.counting.specs.NodePairSums.{S-over-nodes, S2-over-node-pairs, S3-over-node-pairs, cells-most}
+use Rattle.counting.specs.theorems.Degrees.{sizes-most}
+use Rattle.counting.specs.theorems.NodePairSums.{nodeTerm, pairTermS2, pairTermS3}
+use Rattle.counting.specs.theorems.NodePairSums.{S-over-nodes, S2-over-node-pairs, S3-over-node-pairs, cells-most}
 use Rattle.pair_check.specs.PairOrder.{PairWithCells}
 use Rattle.tree_pairs.specs.Crossings.{crossed}
 use Rattle.claims.specs.CodeCells.{codeCell}

@@ -7,11 +7,12 @@ use Prim.Native.Nat.{ℕ, zero, suc, _+_, _*_, _-_, _≤_, _<_}
 use native.Mathlib.Numerals.{add-one}
 use native.Mathlib.Omega.{arith}
 use lib.ListN.{length}
-use Rattle.sums.specs.Sum.{sum, sum-suc, sum-ext, sum-cong, sum-none, sum-ge, sum-part}
-use Rattle.sums.specs.Products.{product-le}
+use Rattle.sums.specs.Sum.{sum}
+use Rattle.sums.specs.theorems.SumLaws.{sum-suc, sum-ext, sum-cong, sum-none, sum-ge, sum-part}
+use Rattle.sums.specs.theorems.Products.{product-le}
 use Rattle.node_pairs.specs.Cells.{pairS2, pairS3}
-use Rattle.node_pairs.specs.CellTotals.{pairS2-few, pairS3-few}
-use Rattle.node_pairs.specs.CellsAlike.{pairS2-ext, pairS3-ext}
+use Rattle.node_pairs.specs.theorems.CellTotals.{pairS2-few, pairS3-few}
+use Rattle.node_pairs.specs.theorems.CellsAlike.{pairS2-ext, pairS3-ext}
 use Rattle.tree_check.specs.Table.{word}
 use Rattle.claims.specs.Block.{Block, blockCell}
 use Rattle.claims.specs.CodeCells.{Crossed, codeCell, ownCell, childCell}

@@ -5,10 +5,11 @@ use mathlib.Core.List.{List}
 use Prim.Native.Nat.{ℕ, _+_, _*_, _-_, _/_, _≤_, _<_}
 use native.Mathlib.Omega.{arith}
 use lib.ListN.{length}
-use Rattle.sums.specs.Sum.{sum, sum-cong, sum-ge, sum-mul-right}
-use Rattle.sums.specs.Products.{product-le}
+use Rattle.sums.specs.Sum.{sum}
+use Rattle.sums.specs.theorems.SumLaws.{sum-cong, sum-ge, sum-mul-right}
+use Rattle.sums.specs.theorems.Products.{product-le}
 use Rattle.shapes.specs.Claims.{choose2}
-use Rattle.node_pairs.specs.NodeSums.{others, others-and-own, node-closed}
+use Rattle.node_pairs.specs.theorems.NodeSums.{others, others-and-own, node-closed}
 use Rattle.tree_check.specs.Table.{word}
 use Rattle.claims.specs.Lines.{Line, lineCell, squared, sum-next}
 use Rattle.claims.specs.NodeSums.{sizesApart}

@@ -1,19 +1,21 @@
 -- The claim sums of two trees, from their parents and the crossings of their edges.
 -- Assumes nothing.
-use mathlib.Core.Path.{_≡_, refl, _∙_, ap}
+use mathlib.Core.Path.{_≡_, refl, sym, _∙_}
 use mathlib.Core.Logic.{_≢_}
 use mathlib.Core.List.{List}
 use Prim.Native.Nat.{ℕ, zero, suc, _*_, _-_, _/_, _≤_, _<_}
 use native.Mathlib.Omega.{arith}
 use lib.ListN.{length}
 use Rattle.sums.specs.Sum.{sum}
-use Rattle.tree_check.specs.Table.{Table, tips, nodes, parents, parents-length}
+use Rattle.tree_check.specs.Table.{Table, tips, nodes, parents}
+use Rattle.tree_check.specs.lemmas.TableParts.{parents-length}
 use Rattle.tree_check.specs.Refusals.{refusal, ifAccepted}
+use Rattle.tree_check.specs.theorems.RefusalLaws.{if-accepted, if-refused}
 use Rattle.tree_check.specs.IsTree.{IsTree}
 use Rattle.counting.specs.ClaimSums.{S, S2, S3}
-use Rattle.counting.specs.QuartetTheorem.{quartet-theorem}
+use Rattle.counting.specs.theorems.QuartetTheorem.{quartet-theorem}
 use Rattle.pair_check.specs.PairOrder.{PairWithCells, pairOrder}
-use Rattle.pair_check.specs.PairCheck.{pair-check}
+use Rattle.pair_check.specs.theorems.PairCheck.{pair-check}
 use Rattle.tree_pairs.specs.Crossings.{crossed}
 use Rattle.claims.specs.declared.totals.ClaimSums.{ClaimSums}
 use Rattle.claims.specs.CodeCells.{Crossed, codeCell, row-start}
@@ -29,19 +31,17 @@ use Rattle.claims.specs.TreeSizes.{TreeSizes}
 
 -- ---- the definition that the promise cites
 
--- 'A refused call gives its number, zero in every count and other number field'
-unfoldable pub answer : ℕ → ℕ → ℕ → ℕ → ℕ → ClaimSums
-answer number first second same different = record {
-  refusal = number;
-  first = ifAccepted number first 0;
-  second = ifAccepted number second 0;
-  same = ifAccepted number same 0;
-  different = ifAccepted number different 0;
-}
+-- the published sums S, S′, S2 and S3
+abbrev pub sumsOfPair : Table → Table → ClaimSums
+sumsOfPair t u = record { refusal = 0; first = S t; second = S u; same = S2 t u; different = S3 t u }
 
--- the published sums S, S′, S2 and S3, or the number of a refused pair
+-- the number of a refused pair, with zeros
+abbrev pub refusedSums : ℕ → ClaimSums
+refusedSums number = record { refusal = number; first = 0; second = 0; same = 0; different = 0 }
+
 unfoldable pub claimAnswer : Table → Table → ℕ → ClaimSums
-claimAnswer t u cells = answer (refusal (pairOrder t u cells)) (S t) (S u) (S2 t u) (S3 t u)
+claimAnswer t u cells =
+    let number = refusal (pairOrder t u cells) in ifAccepted number (sumsOfPair t u) (refusedSums number)
 
 -- ---- what the code sums
 
@@ -202,24 +202,16 @@ module _ (t u : Table) (work : List ℕ) (p : PairWithCells t u (length work)) w
   pub claims-accepted : summed (crossed t u work) (tips t) (parents t) (parents u) ≡ claimAnswer t u (length work)
   unfolding summed claimAnswer
   claims-accepted = rw (
-    pair-check t u (length work) .1 p,
     long',
     halved _ _ (first-sum t u work p),
     halved _ _ (rw long' at (second-sum t u work p)),
     halved _ _ (same-sum t u work p),
     different-sum t u work p,
   )
-      (unfold answer ifAccepted in refl)
+      (sym (if-accepted _ (sumsOfPair t u) _ (pair-check t u (length work) .1 p)))
 
 -- a refused pair
 pub claims-refused : (t u : Table) (cells k : ℕ) → k ≡ refusal (pairOrder t u cells) → k ≢ 0
-    → record { refusal = k; first = 0; second = 0; same = 0; different = 0 } ≡ claimAnswer t u cells
+    → refusedSums k ≡ claimAnswer t u cells
 unfolding claimAnswer
-claims-refused t u cells k e d =
-    go k d ∙ ap (λ (x : ℕ). answer x (S t) (S u) (S2 t u) (S3 t u)) e
-  where
-    go : (k : ℕ) → k ≢ 0
-        → record { refusal = k; first = 0; second = 0; same = 0; different = 0 }
-        ≡ answer k (S t) (S u) (S2 t u) (S3 t u)
-    go zero d = absurd (d refl)
-    go (suc k) d = unfold answer ifAccepted in refl
+claims-refused t u cells k e d = rw e (sym (if-refused _ _ _ (λ z. d (e ∙ z))))

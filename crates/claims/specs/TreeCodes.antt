@@ -7,13 +7,15 @@ use native.Mathlib.Decide.{decLt}
 use native.Mathlib.Omega.{arith}
 use lib.ListN.{length}
 use Rattle.shapes.specs.Directions.{head}
-use Rattle.node_pairs.specs.CodeLists.{Lists, lists-codes, distinct}
-use Rattle.tree_check.specs.Table.{Table, word, tips, nodes, parents, parent, parents-length}
-use Rattle.tree_check.specs.IsTree.{IsTree, rooted}
+use Rattle.node_pairs.specs.theorems.CodeLists.{Lists, lists-codes, distinct}
+use Rattle.tree_check.specs.Table.{Table, word, tips, nodes, parents, parent}
+use Rattle.tree_check.specs.lemmas.TableParts.{parents-length}
+use Rattle.tree_check.specs.IsTree.{IsTree}
+use Rattle.tree_check.specs.theorems.RootedTables.{rooted}
 use Rattle.counting.specs.ClaimSums.{codes}
-use Rattle.counting.specs.NodePairSums.{CodesInto}
-use Rattle.counting.specs.Degrees.{degree-most}
-use Rattle.counting.specs.TreeShape.{tip-leaf}
+use Rattle.counting.specs.theorems.NodePairSums.{CodesInto}
+use Rattle.counting.specs.theorems.Degrees.{degree-most}
+use Rattle.counting.specs.theorems.TreeShape.{tip-leaf}
 use Rattle.claims.specs.CodesAt.{Parents, codesOf, degreeAt, codeInto, own-first, child-later}
 use Rattle.claims.specs.CodesAt.{code-inside, head-of-code}
 use Rattle.claims.specs.DirectedCells.{NodeCodes}

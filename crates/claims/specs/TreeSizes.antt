@@ -6,7 +6,8 @@ use Prim.Native.Nat.{ℕ, zero, suc, _+_, _*_, _-_, _≤_, _<_}
 use native.Mathlib.Numerals.{add-one}
 use native.Mathlib.Omega.{arith}
 use lib.ListN.{length}
-use Rattle.sums.specs.Sum.{sum, sum-suc, sum-ext, sum-part}
+use Rattle.sums.specs.Sum.{sum}
+use Rattle.sums.specs.theorems.SumLaws.{sum-suc, sum-ext, sum-part}
 use Rattle.tree_check.specs.Table.{word}
 use Rattle.claims.specs.CodeLists.{CodeLists, nodePart, part-length, part-edge, edge-inside}
 use Rattle.claims.specs.CodesAt.{degreeAt}

@@ -5,7 +5,7 @@ ghost use mathlib.Core.Path.{_≡_};
 ghost use Prim.Native.Nat.{_+_, _*_, _≤_};
 ghost use lib.ListN.{length};
 ghost use Rattle.sums.specs.Sum.{sum};
-ghost use Rattle.node_pairs.specs.ClosedForms.{dotSquares, termSquares};
+ghost use Rattle.node_pairs.specs.theorems.ClosedForms.{dotSquares, termSquares};
 ghost use Rattle.claims.specs.Filled.{filled};
 ghost use Rattle.claims.specs.Lines.{squared};
 ghost use Rattle.claims.specs.LineDots.{FewLines, AddRoom, added, scaled, lineOf, dotSquaresOf, termSquaresOf};

@@ -1,11 +1,7 @@
 -- What the program takes from a read's answer. Assumes nothing.
-use Prim.Native.Nat.{ℕ, min, _≤_}
-use native.Mathlib.Omega.{arith}
-use mathlib.Core.Path.{_≡_, sym, subst}
+use Prim.Native.Nat.{ℕ, min}
 use mathlib.Core.List.{List}
 use lib.IntN.{ℤ, pos, negsuc}
-use lib.ListN.{length}
-use lib.Seq.{length-take-le}
 use Rattle.io.specs.Counts.{Counts}
 use Rattle.compare.specs.declared.input.Input.{Input}
 use Rattle.compare.specs.declared.input.Input.the-variants.{Bytes, Failed}
@@ -19,13 +15,3 @@ answered (negsuc n) most = Failed
 abbrev pub Within : Input → List ℕ → Type 0
 Within (Bytes n) buffer = Counts n buffer
 Within Failed buffer = Unit {0}
-
-pub within-of-le : (n : ℕ) (buffer : List ℕ) → n ≤ length buffer → Within (Bytes n) buffer
-within-of-le n buffer h = (h, sym (length-take-le n buffer h))
-
-pub answered-within : (z : ℤ) (buffer : List ℕ) → Within (answered z (length buffer)) buffer
-answered-within (pos n) buffer = within-of-le _ buffer (omega arith)
-answered-within (negsuc n) buffer = tt
-
-pub counts-of-within : (input : Input) (n : ℕ) (buffer : List ℕ) → Within input buffer → input ≡ Bytes n → Counts n buffer
-counts-of-within input n buffer h e = subst (λ i. Within i buffer) e h

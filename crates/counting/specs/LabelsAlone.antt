@@ -1,30 +1,14 @@
--- 'Tip labels alone count': tables of as many tips and with the same splits give the same topologies and figures,
--- whatever the numbers of their nodes.
+-- 'Tip labels alone count': what two tables with the same splits have in common.
 -- Assumes nothing.
-use mathlib.Core.Path.{_≡_, refl, sym, _∙_, ap, ap₂}
-use mathlib.Core.Logic.{Ne·symm}
-use mathlib.Core.List.{List, [], _∷_}
-use Prim.Native.Nat.{ℕ, zero, suc, _+_}
-use native.Mathlib.Omega.{arith}
-use Rattle.sums.specs.Bits.{bit}
-use Rattle.sums.specs.SetsOfFour.{sets4, sets4-ext}
-use Rattle.shapes.specs.FourLabels.{Four}
-use Rattle.shapes.specs.SameFours.{same-fours-iff}
-use Rattle.shapes.specs.SameSplits.{same-splits-refl}
-use Rattle.trees.specs.declared.quartet.Topology.{Topology}
-use Rattle.trees.specs.declared.quartet.Topology.the-variants.{Star}
-use Rattle.trees.specs.declared.quartet.TopologyAnswer.{TopologyAnswer}
-use Rattle.tree_check.specs.Table.{Table, tips, beyond}
+use mathlib.Core.Path.{_≡_}
+use mathlib.Core.List.{[]}
+use Prim.Native.Nat.{ℕ, _+_}
+use Rattle.tree_check.specs.Table.{Table, tips}
 use Rattle.tree_check.specs.IsTree.{IsTree}
-use Rattle.tree_check.specs.Refusals.{refusal, ifAccepted}
-use Rattle.trees.specs.Orders.{askedOrder, labelOrder, AllBelow, Different, tree-accepted, label-check}
-use Rattle.trees.specs.Topology.{butterfly, topology, topologyAnswer}
+use Rattle.trees.specs.Topology.{topologyAnswer}
 use Rattle.counting.specs.ClaimSums.{S, S2, S3}
-use Rattle.counting.specs.Cases.{Case, A, B, C, D, caseOf, isCase, quartets}
-use Rattle.counting.specs.SplitCounts.{splits, commonSplits, robinsonFoulds, HaveSameSplits}
-use Rattle.counting.specs.TreeShape.{shapeOf}
-use Rattle.counting.specs.CountingTheorem.{ClaimCounts, claim-counts}
-use Rattle.counting.specs.TreeSplits.{common-from-either, same-splits-as-many, same-splits-in-common}
+use Rattle.counting.specs.Cases.{Case, B, C, D, quartets}
+use Rattle.counting.specs.SplitCounts.{splits, commonSplits, robinsonFoulds}
 
 -- the figures of two pairs of tables are the same
 pub record SameFigures (t u t' u' : Table) : Type 0 where
@@ -47,111 +31,3 @@ pub record LabelsAlone (t t' : Table) : Type 0 where
   -- against any third table, on either side
   pub as-first : (u : Table) → IsTree u → tips t ≡ tips u → SameFigures t u t' u
   pub as-second : (u : Table) → IsTree u → tips u ≡ tips t → SameFigures u t u t'
-
--- ---- topologies
-
--- an answer that counts only if it is accepted
-same-if-accepted : (k : ℕ) (x x' y : Topology) → (k ≡ 0 → x ≡ x') → ifAccepted k x y ≡ ifAccepted k x' y
-unfolding ifAccepted
-same-if-accepted zero x x' y h = h refl
-same-if-accepted (suc k) x x' y h = refl
-
--- labels that are accepted are four different ones
-asked-four : (n a b c d : ℕ) → AllBelow n (a ∷ b ∷ c ∷ d ∷ []) → Different (a ∷ b ∷ c ∷ d ∷ []) → Four n a b c d
-asked-four n a b c d l m = record {
-  la = l 0 (omega arith);
-  lb = l 1 (omega arith);
-  lc = l 2 (omega arith);
-  ld = l 3 (omega arith);
-  ab = m 1 0 (omega arith) (omega arith);
-  ac = m 2 0 (omega arith) (omega arith);
-  ad = m 3 0 (omega arith) (omega arith);
-  bc = m 2 1 (omega arith) (omega arith);
-  bd = m 3 1 (omega arith) (omega arith);
-  cd = m 3 2 (omega arith) (omega arith);
-}
-
-module _ (t t' : Table) (g : IsTree t) (g' : IsTree t') (e : tips t ≡ tips t') (s : HaveSameSplits t t') where
-  same-butterflies : (a b c d : ℕ) → Four (tips t) a b c d → butterfly t a b c d ≡ butterfly t' a b c d
-  unfolding butterfly beyond shapeOf
-  same-butterflies = same-fours-iff (shapeOf t g (tips t) refl) (shapeOf t' g' (tips t) (sym e)) .1 s
-
-  same-topologies : (a b c d : ℕ) → Four (tips t) a b c d → topology t a b c d ≡ topology t' a b c d
-  unfolding topology
-  same-topologies a b c d f = rw (
-    same-butterflies a b c d f,
-    same-butterflies a c b d (search Ne·symm),
-    same-butterflies a d b c (search Ne·symm),
-  )
-
-  -- 10 and 11 are told of n and the labels
-  same-number : (xs : List ℕ) → refusal (labelOrder t xs) ≡ refusal (labelOrder t' xs)
-  unfolding labelOrder
-  same-number xs =
-      tree-accepted t _ g ∙ ap (λ (n : ℕ). refusal (askedOrder n xs)) e ∙ sym (tree-accepted t' _ g')
-
-  same-answers : (a b c d : ℕ) → topologyAnswer t a b c d ≡ topologyAnswer t' a b c d
-  unfolding topologyAnswer
-  same-answers a b c d =
-      let xs : List ℕ = a ∷ b ∷ c ∷ d ∷ [] in
-      let told : ℕ → Topology → TopologyAnswer = λ k x. record { refusal = k; topology = x } in
-      ap (told (refusal (labelOrder t xs)))
-      (same-if-accepted (refusal (labelOrder t xs)) (topology t a b c d) (topology t' a b c d) Star (λ z.
-      let r = label-check t xs .0 z in same-topologies a b c d (asked-four (tips t) a b c d (r .1) (r .2))))
-      ∙ ap (λ (k : ℕ). told k (ifAccepted k (topology t' a b c d) Star)) (same-number xs)
-
--- ---- figures
-
--- two pairs of tables with the same splits, the first of each and the second of each
-module _ (t u t' u' : Table) (g : IsTree t) (h : IsTree u) (g' : IsTree t') (h' : IsTree u')
-    (e : tips t ≡ tips u) (et : tips t ≡ tips t') (eu : tips u ≡ tips u')
-    (s : HaveSameSplits t t') (r : HaveSameSplits u u') where
-  same-counts : (k : Case) → quartets t u k ≡ quartets t' u' k
-  unfolding quartets
-  same-counts k =
-      sets4-ext (tips t) _ _ (λ w x y z wx xy yz l.
-      ap₂ (λ (p q : Topology). bit (isCase (caseOf p q) k))
-      (same-topologies t t' g g' et s w x y z (omega arith))
-      (same-topologies u u' h h' eu r w x y z (omega arith)))
-      ∙ ap (λ (n : ℕ). sets4 n (λ w x y z. bit (isCase (caseOf (topology t' w x y z) (topology u' w x y z)) k))) et
-
-  same-common : commonSplits t u ≡ commonSplits t' u'
-  same-common =
-      same-splits-in-common t u u' e r
-      ∙ common-from-either t u' g h' (omega arith)
-      ∙ same-splits-in-common u' t t' (omega arith) s
-      ∙ common-from-either u' t' h' g' (omega arith)
-
-  pub same-figures : SameFigures t u t' u'
-  same-figures = record {
-    first = omega (arith, c .first, c' .first, a, b, same-counts C);
-    second = omega (arith, c .second, c' .second, a, b, same-counts D);
-    same = omega (arith, c .same, c' .same, a);
-    different = omega (arith, c .different, c' .different, b);
-    counts = same-counts;
-    distance = omega (arith, b, same-counts C, same-counts D);
-    first-splits = same-splits-as-many t t' g g' et s;
-    second-splits = same-splits-as-many u u' h h' eu r;
-    common = same-common;
-    robinson-foulds = unfold robinsonFoulds in
-        rw (same-splits-as-many t t' g g' et s, same-splits-as-many u u' h h' eu r, same-common);
-  }
-    where
-      c : ClaimCounts t u
-      c = claim-counts t u g h e
-
-      c' : ClaimCounts t' u'
-      c' = claim-counts t' u' g' h' (omega arith)
-
-      a : quartets t u A ≡ quartets t' u' A
-      a = same-counts A
-
-      b : quartets t u B ≡ quartets t' u' B
-      b = same-counts B
-
-pub labels-alone : (t t' : Table) → IsTree t → IsTree t' → tips t ≡ tips t' → HaveSameSplits t t' → LabelsAlone t t'
-labels-alone t t' g g' e s = record {
-  topologies = same-answers t t' g g' e s;
-  as-first = λ u h q. same-figures t u t' u g h g' h q e refl s (same-splits-refl _ _ _);
-  as-second = λ u h q. same-figures u t u t' h g h g' q refl e (same-splits-refl _ _ _) s;
-}

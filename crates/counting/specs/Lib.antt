@@ -1,16 +1,6 @@
 pub mod ClaimSums
-pub mod EdgeClaims
 pub mod Cases
 pub mod QuartetTable
-pub mod FiveFormulas
-pub mod TreeShape
-pub mod CasesInShapes
 pub mod SplitCounts
-pub mod ReferencePairs
-pub mod CountingTheorem
-pub mod TreeSplits
-pub mod QuartetTheorem
 pub mod LabelsAlone
-pub mod Renumbered
-pub mod NodePairSums
-pub mod Degrees
+pub mod theorems

@@ -1,7 +1,6 @@
 -- The parts of a printed line, and the line.
 -- Assumes nothing.
-use mathlib.Core.Path.{_≡_, refl, sym}
-use mathlib.Core.List.{List, [], _∷_, _++_, append-assoc, append-nil}
+use mathlib.Core.List.{List, [], _∷_, _++_}
 use Prim.Native.Nat.{ℕ}
 use Rattle.listings.specs.Decimal.{decimalOf}
 
@@ -17,12 +16,3 @@ spacedAll (n ∷ ns) = spaced n ++ spacedAll ns
 -- the word, then the numbers, then the line end
 unfoldable pub line : List ℕ → List ℕ → List ℕ
 line word numbers = word ++ (spacedAll numbers ++ (10 ∷ []))
-
-pub spaced-none : spacedAll [] ≡ []
-unfolding spacedAll
-spaced-none = refl
-
-pub spaced-snoc : (ns : List ℕ) (n : ℕ) → spacedAll (ns ++ (n ∷ [])) ≡ spacedAll ns ++ spaced n
-unfolding spacedAll
-spaced-snoc [] n = simp append-nil
-spaced-snoc (m ∷ ns) n = rw (spaced-snoc ns n) (sym (append-assoc (spaced m) (spacedAll ns) (spaced n)))

@@ -6,7 +6,7 @@ ghost use mathlib.Core.Path.{_≡_};
 ghost use Prim.Native.Nat.{_≤_, _+_};
 ghost use lib.ListN.{length};
 ghost use Rattle.io.specs.Counts.{Counts};
-ghost use Rattle.listings.specs.Written.{Written};
+ghost use Rattle.listings.specs.lemmas.Written.{Written};
 ghost use Rattle.listings.specs.Listing.{firstLines, quartetLines, splitLine, lines, listed};
 ghost use Rattle.listings.specs.Listing.{bytesListed, afterListing};
 

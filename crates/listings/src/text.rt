@@ -2,7 +2,7 @@
 ghost use mathlib.Core.Path.{_≡_};
 ghost use Prim.Native.Nat.{_+_, _*_, _≤_};
 ghost use lib.ListN.{length};
-ghost use Rattle.listings.specs.Written.{Written, written};
+ghost use Rattle.listings.specs.lemmas.Written.{Written, written};
 ghost use Rattle.listings.specs.Lines.{spaced, spacedAll, line as Lines·line};
 
 // The bytes, from `at` on.

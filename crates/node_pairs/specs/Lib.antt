@@ -1,15 +1,2 @@
 pub mod Cells
-pub mod ApartSums
-pub mod CodeLists
-pub mod NodeSums
-pub mod NodePairs
-pub mod CellTotals
-pub mod Aggregates
-pub mod CellForms
-pub mod PairsOff
-pub mod Hooks
-pub mod ClosedForms
-pub mod ThreeByThree
-pub mod CellsAlike
-pub mod Transposed
-pub mod ThreeRows
+pub mod theorems

@@ -1,4 +1,4 @@
 pub mod PairOrder
 pub mod CheckedPair
-pub mod PairCheck
-pub mod PairOutcomes
+pub mod theorems
+pub mod lemmas

@@ -8,7 +8,7 @@ use lib.Dec.{eqb, ltb}
 use Rattle.tree_check.specs.Table.{Table, tips, nodes}
 use Rattle.tree_check.specs.Refusals.{Rule}
 use Rattle.tree_check.specs.IsTree.{IsTree}
-use Rattle.tree_check.specs.TreeCheck.{treeOrder}
+use Rattle.tree_check.specs.TreeOrder.{treeOrder}
 
 -- 'by the same numbers plus 100'
 unfoldable pub plus : ℕ → List Rule → List Rule

@@ -1,6 +1,3 @@
 pub mod PairFile
-pub mod FileWords
-pub mod FileOrder
-pub mod PairFigures
-pub mod NeverNine
-pub mod FileExamples
+pub mod theorems
+pub mod lemmas

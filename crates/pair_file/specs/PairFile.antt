@@ -12,6 +12,7 @@ use Rattle.counting.specs.Cases.{A, B, C, D, E, quartets}
 use Rattle.counting.specs.SplitCounts.{splits, commonSplits, robinsonFoulds}
 use Rattle.pair_check.specs.PairOrder.{pairOrder}
 use Rattle.listings.specs.declared.figures.Figures.{Figures}
+use Rattle.listings.specs.Listing.{ofRefusal}
 
 -- 'Words are unsigned 16-bit numbers, little-endian in a file'; a last odd byte gives none
 unfoldable pub fileWords : List ℕ → List ℕ
@@ -48,32 +49,31 @@ fileOrder bytes =
     -- 'Then the pair's order.'
     ∷ wordsOrder (fileWords bytes)
 
--- the figures of two tables, and zeros beside the number of a refusal
-unfoldable pub figuresOf : ℕ → Table → Table → Figures
-figuresOf number t u = record {
-  refusal = number;
-  tips = ifAccepted number (tips t) 0;
-  claims = record {
-    first = ifAccepted number (S t) 0;
-    second = ifAccepted number (S u) 0;
-    same = ifAccepted number (S2 t u) 0;
-    different = ifAccepted number (S3 t u) 0;
-  };
+-- the figures of two tables
+abbrev pub figuresOfPair : Table → Table → Figures
+figuresOfPair t u = record {
+  refusal = 0;
+  tips = tips t;
+  claims = record { first = S t; second = S u; same = S2 t u; different = S3 t u };
   quartets = record {
-    a = ifAccepted number (quartets t u A) 0;
-    b = ifAccepted number (quartets t u B) 0;
-    c = ifAccepted number (quartets t u C) 0;
-    d = ifAccepted number (quartets t u D) 0;
-    e = ifAccepted number (quartets t u E) 0;
+    a = quartets t u A;
+    b = quartets t u B;
+    c = quartets t u C;
+    d = quartets t u D;
+    e = quartets t u E;
   };
-  distance = ifAccepted number (quartets t u B + quartets t u C + quartets t u D) 0;
+  distance = quartets t u B + quartets t u C + quartets t u D;
   splits = record {
-    first = ifAccepted number (splits t) 0;
-    second = ifAccepted number (splits u) 0;
-    common = ifAccepted number (commonSplits t u) 0;
-    distance = ifAccepted number (robinsonFoulds t u) 0;
+    first = splits t;
+    second = splits u;
+    common = commonSplits t u;
+    distance = robinsonFoulds t u;
   };
 }
+
+-- the figures of two tables, or zeros beside the number of a refusal
+abbrev pub figuresOf : ℕ → Table → Table → Figures
+figuresOf number t u = ifAccepted number (figuresOfPair t u) (ofRefusal number)
 
 -- what the comparison of a file gives
 unfoldable pub comparison : List ℕ → Figures

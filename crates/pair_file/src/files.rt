@@ -20,7 +20,7 @@ ghost use Rattle.claims.specs.SumsOf.{claimAnswer};
 ghost use Rattle.quartets.specs.QuartetAnswer.{quartetAnswer};
 ghost use Rattle.listings.specs.Listing.{ofRefusal};
 ghost use Rattle.pair_file.specs.PairFile.{comparison};
-ghost use Rattle.pair_file.specs.PairFigures.{pairFigures, wordFigures};
+ghost use Rattle.pair_file.specs.lemmas.PairFigures.{pairFigures, wordFigures};
 
 // The cells lent to each operation: enough for any two trees of one file, so that 9 never occurs.
 const CELLS: usize = 15625;

@@ -1,2 +1,3 @@
-pub mod FoursTable
 pub mod QuartetAnswer
+pub mod theorems
+pub mod lemmas

@@ -7,7 +7,8 @@ use pair_check::pair_refusal;
 ghost use mathlib.Core.Path.{_≡_};
 ghost use lib.ListN.{length};
 ghost use Rattle.tree_pairs.specs.Crossings.{afterCrossings};
-ghost use Rattle.quartets.specs.QuartetAnswer.{TableFits, DemandThree, formed, quartetAnswer};
+ghost use Rattle.quartets.specs.lemmas.FormedTable.{TableFits, formed};
+ghost use Rattle.quartets.specs.QuartetAnswer.{DemandThree, quartetAnswer};
 
 // The number; the same butterfly in both trees, different butterflies, a butterfly in the first only, in the second
 // only, a star in both; and the distance B + C + D.

@@ -1,3 +1,2 @@
-pub mod SplitCells
-pub mod SplitLoops
 pub mod SplitAnswer
+pub mod lemmas

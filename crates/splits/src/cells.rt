@@ -6,8 +6,8 @@ ghost use Prim.Native.Nat.{_≤_};
 ghost use lib.Dec.{eqb};
 ghost use lib.ListN.{length};
 ghost use Rattle.tree_check.specs.Table.{word};
-ghost use Rattle.splits.specs.SplitCells.{splitSize, rowSplits, columnSplits, sharedRow, commonRows};
-ghost use Rattle.splits.specs.SplitLoops.{SplitRoom, RowRoom};
+ghost use Rattle.splits.specs.lemmas.SplitCells.{splitSize, rowSplits, columnSplits, sharedRow, commonRows};
+ghost use Rattle.splits.specs.lemmas.SplitLoops.{SplitRoom, RowRoom};
 
 // Whether an edge with `size` of n tips beyond it is a split.
 pub(crate) fn is_split(size: u16, n: usize) -> bool

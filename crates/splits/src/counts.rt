@@ -9,7 +9,8 @@ use tree_pairs::cross_pair;
 ghost use mathlib.Core.Path.{_≡_};
 ghost use lib.ListN.{length};
 ghost use Rattle.tree_pairs.specs.Crossings.{afterCrossings};
-ghost use Rattle.splits.specs.SplitAnswer.{SplitsCountable, counted, splitAnswer};
+ghost use Rattle.splits.specs.lemmas.SplitsCounted.{SplitsCountable, counted};
+ghost use Rattle.splits.specs.SplitAnswer.{splitAnswer};
 
 // The number; the first tree's splits, the second's, those of both; and the Robinson-Foulds distance.
 pub struct SplitCounts {

@@ -2,10 +2,6 @@ pub mod Sum
 pub mod Bits
 pub mod Tests
 pub mod Counts
-pub mod Partners
 pub mod SetsOfFour
 pub mod Fours
-pub mod Products
-pub mod Exclusion
-pub mod Pairings
-pub mod Grids
+pub mod theorems

@@ -1,14 +1,10 @@
 -- 'A tree table' of document 01, rule by rule, in ordinary mathematics.
 -- Assumes nothing.
-use mathlib.Core.Path.{_≡_, refl, ap}
-use mathlib.Core.Logic.{_⊎_, inl, inr, _↔_}
-use Prim.Native.Nat.{ℕ, suc, _+_, _*_, _-_, _≤_, _<_}
-use native.Mathlib.Nat.{lt-of-not-le, eq-zero-or-pos}
-use native.Mathlib.Decide.{decLe}
-use native.Mathlib.Omega.{arith}
-use lib.ListN.{length, take, drop, List·getD-eq-default, length-take}
-use Rattle.shapes.specs.Ancestors.{Rooted}
-use Rattle.tree_check.specs.Table.{Table, tips, nodes, parents, parent, label}
+use mathlib.Core.Path.{_≡_}
+use mathlib.Core.Logic.{_⊎_, _↔_}
+use Prim.Native.Nat.{ℕ, _+_, _*_, _-_, _≤_, _<_}
+use lib.ListN.{length}
+use Rattle.tree_check.specs.Table.{Table, tips, nodes, parent, label}
 
 -- node j is a child of node i
 pub record Child (t : Table) (i j : ℕ) : Type 0 where
@@ -52,22 +48,3 @@ pub record IsTree (t : Table) : Type 0 where
   pub tip-bare : (i : ℕ) → 1 ≤ i → i < nodes t → label t i < tips t → (j : ℕ) → Child t i j → ⊥
   -- 'An inner node has two children or more.'
   pub inner-two : (i : ℕ) → i < nodes t → label t i ≡ 65535 → TwoChildren t i
-
--- ---- a tree table as a shape
-
-pub parent-past : (t : Table) (i : ℕ) → nodes t ≤ i → parent t i ≡ 0
-unfolding parent parents
-parent-past t i l =
-    List·getD-eq-default (take (nodes t) (drop 2 t)) 0 {n = i} (omega (arith, length-take (nodes t) (drop 2 t)))
-
-pub rooted : (t : Table) → IsTree t → Rooted (parent t)
-rooted t g = record { root = g .root-parent; falls = falls }
-  where
-    falls : (w : ℕ) → parent t (suc w) ≤ w
-    falls w = elim (decLe (nodes t) (suc w)) [
-      | yes l ↦ omega (arith, parent-past t (suc w) l)
-      | no n ↦ elim (eq-zero-or-pos w) [
-        | inl z ↦ omega (arith, g .root-child 1 .1 refl .below, ap (λ (x : ℕ). parent t (suc x)) z)
-        | inr p ↦ omega (arith, g .parents-range (suc w) (omega arith) (lt-of-not-le n) .1)
-      ]
-    ]

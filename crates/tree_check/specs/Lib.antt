@@ -1,7 +1,7 @@
 pub mod Table
 pub mod Refusals
 pub mod IsTree
-pub mod TreeCheck
-pub mod Tally
-pub mod CheckOutcomes
 pub mod Check
+pub mod TreeOrder
+pub mod theorems
+pub mod lemmas

@@ -8,8 +8,9 @@ ghost use lib.ListN.{length};
 ghost use Rattle.sums.specs.Tests.{some, every};
 ghost use Rattle.tree_check.specs.Table.{word};
 ghost use Rattle.tree_check.specs.Refusals.{refusal};
-ghost use Rattle.tree_check.specs.TreeCheck.{tipsFit, nodesFit, parentFits, labelFits, labelsFit, misplaced};
-ghost use Rattle.tree_check.specs.TreeCheck.{arraysOrder, ArraysFit, treeOrder};
+ghost use Rattle.tree_check.specs.TreeOrder.{tipsFit, nodesFit, parentFits, labelFits, labelsFit, misplaced};
+ghost use Rattle.tree_check.specs.TreeOrder.{arraysOrder, treeOrder};
+ghost use Rattle.tree_check.specs.theorems.TreeCheck.{ArraysFit};
 ghost use Rattle.tree_check.specs.Check.{checked, numberOf, Told};
 
 // What the check finds: a tree with its tips and nodes, or the number of the refusal.

@@ -2,7 +2,7 @@
 ghost use mathlib.Core.Path.{_≡_};
 ghost use Prim.Native.Nat.{_≤_, _<_};
 ghost use lib.ListN.{length};
-ghost use Rattle.tree_check.specs.Tally.{Tallied};
+ghost use Rattle.tree_check.specs.lemmas.Tally.{Tallied};
 
 // A word as an index.
 pub(crate) fn wide(x: u16) -> usize

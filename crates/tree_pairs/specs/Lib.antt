@@ -1,13 +1,3 @@
 pub mod Crossings
-pub mod PairExamples
-pub mod CrossingTotals
-pub mod Grid
-pub mod Cleared
-pub mod NodeCells
-pub mod RowTotals
-pub mod TipRows
-pub mod Rows
-pub mod RowsUp
-pub mod Filling
-pub mod LentTables
-pub mod CellSizes
+pub mod theorems
+pub mod lemmas

@@ -9,12 +9,12 @@ use pair_check::check_work;
 use pair_check::pair_refusal;
 ghost use mathlib.Core.Path.{_≡_};
 ghost use lib.ListN.{length};
-ghost use Rattle.tree_check.specs.Table.{tableOf};
+ghost use Rattle.tree_check.specs.lemmas.TableParts.{tableOf};
 ghost use Rattle.tree_check.specs.Refusals.{refusal};
 ghost use Rattle.pair_check.specs.PairOrder.{PairWithCells, pairOrder};
 ghost use Rattle.pair_check.specs.CheckedPair.{checkedWork, Told};
 ghost use Rattle.tree_pairs.specs.Crossings.{crossed, afterCrossings};
-ghost use Rattle.tree_pairs.specs.Filling.{PairArrays};
+ghost use Rattle.tree_pairs.specs.lemmas.Filling.{PairArrays};
 
 // A tip's row is marked and added up the second tree, then each row is added to its parent's. `parents` and `labels`
 // are the first tree's, `others` and `marks` the second's.

@@ -3,10 +3,10 @@
 use super::words::wide;
 ghost use Prim.Native.Nat.{_≤_};
 ghost use lib.ListN.{length};
-ghost use Rattle.tree_pairs.specs.Cleared.{Cleared};
-ghost use Rattle.tree_pairs.specs.NodeCells.{NodesOf};
-ghost use Rattle.tree_pairs.specs.RowTotals.{RowFits, RowUp};
-ghost use Rattle.tree_pairs.specs.TipRows.{MarkRoom, RowMarked, TipRoom, TipRows};
+ghost use Rattle.tree_pairs.specs.lemmas.Cleared.{Cleared};
+ghost use Rattle.tree_pairs.specs.lemmas.NodeCells.{NodesOf};
+ghost use Rattle.tree_pairs.specs.lemmas.RowTotals.{RowFits, RowUp};
+ghost use Rattle.tree_pairs.specs.lemmas.TipRows.{MarkRoom, RowMarked, TipRoom, TipRows};
 
 // The first `count` cells become 0.
 pub(crate) fn clear(work: &mut [u16], count: usize)

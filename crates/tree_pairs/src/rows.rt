@@ -1,7 +1,7 @@
 // Rows of cells added up the first tree: a row for each node but node 0.
 use super::words::wide;
-ghost use Rattle.tree_pairs.specs.Rows.{RowsFit, RowAdded};
-ghost use Rattle.tree_pairs.specs.RowsUp.{Room, RowsAdded};
+ghost use Rattle.tree_pairs.specs.lemmas.Rows.{RowsFit, RowAdded};
+ghost use Rattle.tree_pairs.specs.lemmas.RowsUp.{Room, RowsAdded};
 
 // The row that begins at `from` is added to the row that begins at `to`.
 fn add_row(work: &mut [u16], to: usize, from: usize, width: usize)

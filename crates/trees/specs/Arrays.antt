@@ -5,11 +5,13 @@ use mathlib.Core.List.{List}
 use Prim.Native.Nat.{ℕ, _≤_, _<_}
 use native.Mathlib.Omega.{arith}
 use lib.ListN.{length}
-use Rattle.shapes.specs.Ancestors.{Rooted}
-use Rattle.tree_check.specs.Table.{Table, word, tips, parents, labels, parent, label, nodeBelow, tableOf}
-use Rattle.tree_check.specs.Table.{tips-of, nodes-of, parents-of, labels-of, parents-length, labels-length}
-use Rattle.tree_check.specs.Table.{table-of-parts}
-use Rattle.tree_check.specs.IsTree.{IsTree, rooted}
+use Rattle.shapes.specs.theorems.AncestorLaws.{Rooted}
+use Rattle.tree_check.specs.Table.{Table, word, tips, parents, labels, parent, label, nodeBelow}
+use Rattle.tree_check.specs.lemmas.TableParts.{tableOf}
+use Rattle.tree_check.specs.lemmas.TableParts.{tips-of, nodes-of, parents-of, labels-of, parents-length, labels-length}
+use Rattle.tree_check.specs.lemmas.TableParts.{table-of-parts}
+use Rattle.tree_check.specs.IsTree.{IsTree}
+use Rattle.tree_check.specs.theorems.RootedTables.{rooted}
 use Rattle.trees.specs.Labels.{node-below}
 
 -- with n: the table made of them is a tree table

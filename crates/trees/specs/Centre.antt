@@ -3,7 +3,7 @@
 use mathlib.Core.List.{List, [], _∷_}
 use Prim.Native.Nat.{ℕ, _-_, _≤_, _<_}
 use lib.ListN.{length}
-use Rattle.shapes.specs.Ancestors.{Rooted}
+use Rattle.shapes.specs.theorems.AncestorLaws.{Rooted}
 use Rattle.shapes.specs.Centres.{centreOf}
 use Rattle.trees.specs.declared.centres.CentreAnswer.{CentreAnswer}
 use Rattle.tree_check.specs.Table.{Table, word, nodes, parent, nodeBelow, nodeOf}

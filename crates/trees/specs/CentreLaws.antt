@@ -7,26 +7,19 @@ use Prim.Native.Nat.{ℕ, suc, _+_, _-_, _≤_, _<_}
 use native.Mathlib.Omega.{arith}
 use lib.Dec.{T}
 use lib.ListN.{length}
-use Rattle.sums.specs.Counts.{Once}
-use Rattle.shapes.specs.Ancestors.{parent-lt}
-use Rattle.shapes.specs.Centres.{
-  onAll,
-  centreOf,
-  centre-once,
-  centre-on,
-  joined-ab,
-  joined-ac,
-  joined-bc,
-  climb-first,
-  climb-second,
-  climb-third,
-}
+use Rattle.sums.specs.theorems.CountLaws.{Once}
+use Rattle.shapes.specs.theorems.AncestorLaws.{parent-lt}
+use Rattle.shapes.specs.Centres.{onAll, centreOf}
+use Rattle.shapes.specs.theorems.CentreLaws.{centre-once, centre-on, joined-ab, joined-ac, joined-bc, climb-first}
+use Rattle.shapes.specs.theorems.CentreLaws.{climb-second, climb-third}
 use Rattle.trees.specs.declared.centres.CentreAnswer.{CentreAnswer}
 use Rattle.tree_check.specs.Table.{Table, word, tips, nodes, parents, labels, parent, label, nodeOf}
-use Rattle.tree_check.specs.Table.{parents-length, labels-length}
-use Rattle.tree_check.specs.Refusals.{refusal, ifAccepted, if-accepted, if-refused}
-use Rattle.tree_check.specs.IsTree.{IsTree, rooted}
-use Rattle.tree_check.specs.TreeCheck.{treeOrder}
+use Rattle.tree_check.specs.lemmas.TableParts.{parents-length, labels-length}
+use Rattle.tree_check.specs.Refusals.{refusal, ifAccepted}
+use Rattle.tree_check.specs.theorems.RefusalLaws.{if-accepted, if-refused}
+use Rattle.tree_check.specs.IsTree.{IsTree}
+use Rattle.tree_check.specs.theorems.RootedTables.{rooted}
+use Rattle.tree_check.specs.TreeOrder.{treeOrder}
 use Rattle.trees.specs.Orders.{askedOrder, labelOrder, tree-refused, tree-accepted}
 use Rattle.trees.specs.Labels.{node-at}
 use Rattle.trees.specs.Centre.{centre, centreAnswer, Climbable, centreOver}

@@ -15,8 +15,8 @@ use Rattle.trees.specs.declared.quartet.Topology.the-variants.{Butterfly
 use Rattle.tree_check.specs.Table.{Table, tips, nodes, parents, labels, parent, label}
 use Rattle.tree_check.specs.Table.{nodeBelow, nodeOf, beyond}
 use Rattle.tree_check.specs.Refusals.{refusal}
-use Rattle.tree_check.specs.TreeCheck.{tipsFit, nodesFit, parentFits, labelFits, standing, labelsFit}
-use Rattle.tree_check.specs.TreeCheck.{isChild, children, misplaced, arraysOrder, treeOrder}
+use Rattle.tree_check.specs.TreeOrder.{tipsFit, nodesFit, parentFits, labelFits, standing, labelsFit}
+use Rattle.tree_check.specs.TreeOrder.{isChild, children, misplaced, arraysOrder, treeOrder}
 use Rattle.trees.specs.Orders.{walkOrder, edgeOrder, tooLarge, twoEqual, askedOrder, labelOrder}
 use Rattle.trees.specs.Walk.{own, inTurn, visit, subtree, walk, below, startIn, start, part}
 use Rattle.trees.specs.Centre.{centre}

@@ -8,9 +8,11 @@ use native.Mathlib.Nat.{eq-or-lt-of-le, le-of-suc-le-suc}
 use native.Mathlib.Decide.{decLt}
 use native.Mathlib.Omega.{arith}
 use lib.Dec.{T, eqb, ltb, eqb→eq}
-use Rattle.sums.specs.Sum.{sum, sum-ext, sum-one, sum-none, sum-swap, sum-mul-right}
-use Rattle.sums.specs.Bits.{bit, bit-T, bit-no, is, is-self, is-other, is-eq, alike, sum-is}
-use Rattle.sums.specs.Tests.{eq-iff, lt-iff}
+use Rattle.sums.specs.Sum.{sum}
+use Rattle.sums.specs.theorems.SumLaws.{sum-ext, sum-one, sum-none, sum-swap, sum-mul-right}
+use Rattle.sums.specs.Bits.{bit, is}
+use Rattle.sums.specs.theorems.BitLaws.{bit-T, bit-no, is-self, is-other, is-eq, alike, sum-is}
+use Rattle.sums.specs.theorems.TestLaws.{eq-iff, lt-iff}
 use Rattle.tree_check.specs.Table.{Table, tips, nodes, label, nodeBelow, nodeOf}
 use Rattle.tree_check.specs.IsTree.{IsTree}
 

@@ -9,11 +9,13 @@ use native.Mathlib.Omega.{arith}
 use lib.Dec.{ltb}
 use lib.ListN.{length, set, replicate, take, drop, length-set, length-replicate}
 use lib.Seq.{getD-set-same, getD-set-other}
-use Rattle.sums.specs.Bits.{bit, bit-T}
-use Rattle.sums.specs.Tests.{lt-iff}
-use Rattle.shapes.specs.Ancestors.{Rooted, parent-lt}
-use Rattle.shapes.specs.Totals.{total, Added, total-ext, added-none, added-all, added-le, added-next}
-use Rattle.tree_check.specs.Table.{Table, word, tips, nodes, parent, label, tableOf, tips-of, nodes-of}
+use Rattle.sums.specs.Bits.{bit}
+use Rattle.sums.specs.theorems.BitLaws.{bit-T}
+use Rattle.sums.specs.theorems.TestLaws.{lt-iff}
+use Rattle.shapes.specs.theorems.AncestorLaws.{Rooted, parent-lt}
+use Rattle.shapes.specs.theorems.Totals.{total, Added, total-ext, added-none, added-all, added-le, added-next}
+use Rattle.tree_check.specs.Table.{Table, word, tips, nodes, parent, label}
+use Rattle.tree_check.specs.lemmas.TableParts.{tableOf, tips-of, nodes-of}
 use Rattle.trees.specs.Arrays.{TreeArrays, parent-is, label-is, few-tips, few-nodes, rooted-parents}
 use Rattle.trees.specs.Walk.{below, start, own, placed}
 use Rattle.trees.specs.Subtrees.{own-length, below-total}

@@ -10,13 +10,16 @@ use native.Mathlib.Omega.{arith}
 use lib.Dec.{T, eqb, ltb}
 use lib.ListN.{length, drop}
 use lib.Seq.{getD-take, getD-drop}
-use Rattle.sums.specs.Sum.{sum, sum-suc, sum-none}
-use Rattle.sums.specs.Bits.{bit, bit-T, bit-no}
-use Rattle.sums.specs.Counts.{count-once}
-use Rattle.sums.specs.Tests.{eq-iff, lt-iff}
+use Rattle.sums.specs.Sum.{sum}
+use Rattle.sums.specs.theorems.SumLaws.{sum-suc, sum-none}
+use Rattle.sums.specs.Bits.{bit}
+use Rattle.sums.specs.theorems.BitLaws.{bit-T, bit-no}
+use Rattle.sums.specs.theorems.CountLaws.{count-once}
+use Rattle.sums.specs.theorems.TestLaws.{eq-iff, lt-iff}
 use Rattle.tree_check.specs.Table.{Table, word, tips, nodes, parent, label, nodeOf}
 use Rattle.tree_check.specs.IsTree.{IsTree}
-use Rattle.tree_check.specs.TreeCheck.{isChild, child-iff, standing}
+use Rattle.tree_check.specs.TreeOrder.{isChild, standing}
+use Rattle.tree_check.specs.theorems.TreeCheck.{child-iff}
 use Rattle.trees.specs.Walk.{own, walk, below, start, part}
 use Rattle.trees.specs.Labels.{node-at}
 use Rattle.trees.specs.Weights.{onlyIf}

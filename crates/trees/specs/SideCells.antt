@@ -9,9 +9,10 @@ use native.Mathlib.Omega.{arith}
 use lib.Dec.{eqb}
 use lib.ListN.{length, set, replicate, length-set, length-replicate, getD-replicate}
 use lib.Seq.{getD-set-same, getD-set-other}
-use Rattle.sums.specs.Bits.{bit, bit-le, is, is-self, alike}
+use Rattle.sums.specs.Bits.{bit, is}
+use Rattle.sums.specs.theorems.BitLaws.{bit-le, is-self, alike}
 use Rattle.shapes.specs.Ancestors.{anc}
-use Rattle.shapes.specs.Totals.{total, total-ext, total-none, total-add, total-mul-left, total-is}
+use Rattle.shapes.specs.theorems.Totals.{total, total-ext, total-none, total-add, total-mul-left, total-is}
 use Rattle.tree_check.specs.Table.{word, nodeBelow}
 use Rattle.trees.specs.Positions.{Addable, AddedUp}
 use Rattle.trees.specs.Sides.{SidesAre}

@@ -8,9 +8,10 @@ use Prim.Native.Nat.{ℕ, _+_, _*_, _≤_, _<_}
 use lib.Dec.{eqb, lit≤}
 use lib.ListN.{length}
 use Rattle.sums.specs.Bits.{bit}
-use Rattle.sums.specs.Tests.{eq-iff}
+use Rattle.sums.specs.theorems.TestLaws.{eq-iff}
 use Rattle.shapes.specs.Ancestors.{anc}
-use Rattle.shapes.specs.Quartets.{parts, Apart, parts-iff}
+use Rattle.shapes.specs.Quartets.{parts, Apart}
+use Rattle.shapes.specs.theorems.PartedFours.{parts-iff}
 use Rattle.tree_check.specs.Table.{Table, word, parent, nodeBelow, nodeOf, beyond}
 use Rattle.trees.specs.declared.quartet.Topology.{Topology}
 use Rattle.trees.specs.declared.quartet.Topology.the-variants.{Butterfly, Star}

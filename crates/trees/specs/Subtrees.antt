@@ -9,14 +9,19 @@ use native.Mathlib.Nat.{add-zero, mul-one, mul-comm}
 use native.Mathlib.Omega.{arith}
 use lib.Dec.{T, ltb}
 use lib.ListN.{length, length-append}
-use Rattle.sums.specs.Sum.{sum, sum-ext, sum-cong, sum-ge}
-use Rattle.sums.specs.Bits.{bit, bit-T, bit-not, T-bit, is, alike}
-use Rattle.sums.specs.Tests.{lt-iff}
-use Rattle.shapes.specs.Ancestors.{anc, parent-lt}
-use Rattle.shapes.specs.Totals.{total, total-ext, total-none, total-is, total-children}
+use Rattle.sums.specs.Sum.{sum}
+use Rattle.sums.specs.theorems.SumLaws.{sum-ext, sum-cong, sum-ge}
+use Rattle.sums.specs.Bits.{bit, is}
+use Rattle.sums.specs.theorems.BitLaws.{bit-T, bit-not, T-bit, alike}
+use Rattle.sums.specs.theorems.TestLaws.{lt-iff}
+use Rattle.shapes.specs.Ancestors.{anc}
+use Rattle.shapes.specs.theorems.AncestorLaws.{parent-lt}
+use Rattle.shapes.specs.theorems.Totals.{total, total-ext, total-none, total-is, total-children}
 use Rattle.tree_check.specs.Table.{Table, word, tips, nodes, parent, label, nodeOf, beyond}
-use Rattle.tree_check.specs.IsTree.{IsTree, rooted}
-use Rattle.tree_check.specs.TreeCheck.{isChild, child-iff, standing}
+use Rattle.tree_check.specs.IsTree.{IsTree}
+use Rattle.tree_check.specs.theorems.RootedTables.{rooted}
+use Rattle.tree_check.specs.TreeOrder.{isChild, standing}
+use Rattle.tree_check.specs.theorems.TreeCheck.{child-iff}
 use Rattle.trees.specs.Walk.{own, inTurn, visit, subtree, below}
 use Rattle.trees.specs.Labels.{node-at, node-label, sum-over-tips}
 use Rattle.trees.specs.Weights.{weight, weight-append, weight-sum, weight-length}

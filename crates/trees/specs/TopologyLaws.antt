@@ -6,12 +6,13 @@ use mathlib.Core.Logic.{_≢_, Ne·symm, _↔_, Iff·rfl}
 use Prim.Native.Nat.{ℕ, _-_, _≤_, _<_}
 use native.Mathlib.Omega.{arith}
 use lib.Dec.{T}
-use Rattle.shapes.specs.FourLabels.{Four}
-use Rattle.shapes.specs.Quartets.{parted-iff, parted-swap-left, parted-swap-right, parted-turn}
-use Rattle.shapes.specs.Quartets.{AtMostOne, none, first, second, third, one-pairing}
+use Rattle.shapes.specs.theorems.FourLabels.{Four}
+use Rattle.shapes.specs.theorems.PartedFours.{parted-iff, parted-swap-left, parted-swap-right, parted-turn}
+use Rattle.shapes.specs.theorems.PartedFours.{AtMostOne, none, first, second, third, one-pairing}
 use Rattle.trees.specs.declared.quartet.Topology.the-variants.{Butterfly, Star}
 use Rattle.tree_check.specs.Table.{Table, tips, nodes, parent, nodeOf}
-use Rattle.tree_check.specs.IsTree.{IsTree, rooted}
+use Rattle.tree_check.specs.IsTree.{IsTree}
+use Rattle.tree_check.specs.theorems.RootedTables.{rooted}
 use Rattle.trees.specs.Topology.{butterfly, partner, named, topology, PartedIn}
 use Rattle.trees.specs.Partners.{partner-swap-left, partner-swap-right, partner-turn, partner-apart}
 use Rattle.trees.specs.Sides.{sides, pairing, apart-shown}

@@ -9,10 +9,11 @@ use Rattle.trees.specs.declared.quartet.Topology.{Topology}
 use Rattle.trees.specs.declared.quartet.Topology.the-variants.{Star}
 use Rattle.trees.specs.declared.quartet.TopologyAnswer.{TopologyAnswer}
 use Rattle.tree_check.specs.Table.{Table, word, tips, nodes, parents, labels, parent, label, nodeOf, beyond}
-use Rattle.tree_check.specs.Table.{parents-length, labels-length}
-use Rattle.tree_check.specs.Refusals.{refusal, ifAccepted, if-accepted, if-refused}
+use Rattle.tree_check.specs.lemmas.TableParts.{parents-length, labels-length}
+use Rattle.tree_check.specs.Refusals.{refusal, ifAccepted}
+use Rattle.tree_check.specs.theorems.RefusalLaws.{if-accepted, if-refused}
 use Rattle.tree_check.specs.IsTree.{IsTree}
-use Rattle.tree_check.specs.TreeCheck.{treeOrder}
+use Rattle.tree_check.specs.TreeOrder.{treeOrder}
 use Rattle.trees.specs.Orders.{askedOrder, labelOrder, tree-refused, tree-accepted, label-check}
 use Rattle.trees.specs.Topology.{topology, topologyAnswer, butterflyOf, partnerOf, Told}
 use Rattle.trees.specs.Sides.{sides, pairing, pairing-le, SidesAre, Shown, topologyShown}

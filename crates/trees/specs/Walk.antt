@@ -11,7 +11,7 @@ use Rattle.sums.specs.Counts.{count}
 use Rattle.trees.specs.declared.edges.PartBeyond.{PartBeyond}
 use Rattle.tree_check.specs.Table.{Table, tips, nodes, parent, label, beyond}
 use Rattle.tree_check.specs.Refusals.{refusal, ifAccepted}
-use Rattle.tree_check.specs.TreeCheck.{isChild}
+use Rattle.tree_check.specs.TreeOrder.{isChild}
 use Rattle.trees.specs.Orders.{walkOrder, edgeOrder}
 
 -- the label of a tip; an inner node has none

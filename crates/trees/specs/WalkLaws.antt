@@ -8,12 +8,14 @@ use native.Mathlib.Omega.{arith}
 use lib.Dec.{eqb·suc-zero}
 use lib.ListN.{length, take, drop, length-append, length-drop}
 use lib.Seq.{take-at, drop-at, length-take-le}
-use Rattle.sums.specs.Sum.{sum, sum-cong, sum-const}
+use Rattle.sums.specs.Sum.{sum}
+use Rattle.sums.specs.theorems.SumLaws.{sum-cong, sum-const}
 use Rattle.sums.specs.Bits.{bit}
-use Rattle.shapes.specs.Ancestors.{up-ind, anc-root}
+use Rattle.shapes.specs.theorems.AncestorLaws.{up-ind, anc-root}
 use Rattle.tree_check.specs.Table.{Table, word, tips, nodes, parent, nodeOf, beyond}
-use Rattle.tree_check.specs.IsTree.{IsTree, rooted}
-use Rattle.tree_check.specs.TreeCheck.{isChild, standing}
+use Rattle.tree_check.specs.IsTree.{IsTree}
+use Rattle.tree_check.specs.theorems.RootedTables.{rooted}
+use Rattle.tree_check.specs.TreeOrder.{isChild, standing}
 use Rattle.trees.specs.Walk.{own, inTurn, subtree, walk, below, startIn, start, part}
 use Rattle.trees.specs.Weights.{in-turn-split}
 use Rattle.trees.specs.Subtrees.{child-parent, subtree-of, children-length}

@@ -11,10 +11,11 @@ use lib.Dec.{eqb, leb, ltb}
 use lib.ListN.{length, take, drop, length-drop, length-append}
 use lib.Seq.{take-append-le, drop-append-le}
 use Rattle.tree_check.specs.Table.{Table, tips, nodes}
-use Rattle.tree_check.specs.Refusals.{refusal, ifAccepted, refusal-none, refusal-here, refusal-next, if-accepted}
-use Rattle.tree_check.specs.Refusals.{if-refused}
+use Rattle.tree_check.specs.Refusals.{refusal, ifAccepted}
+use Rattle.tree_check.specs.theorems.RefusalLaws.{refusal-none, refusal-here, refusal-next, if-accepted}
+use Rattle.tree_check.specs.theorems.RefusalLaws.{if-refused}
 use Rattle.tree_check.specs.IsTree.{IsTree}
-use Rattle.tree_check.specs.TreeCheck.{treeOrder}
+use Rattle.tree_check.specs.TreeOrder.{treeOrder}
 use Rattle.trees.specs.Orders.{roomOrder, walkOrder, edgeOrder, edge-check, tree-refused, tree-accepted}
 use Rattle.trees.specs.declared.edges.PartBeyond.{PartBeyond}
 use Rattle.trees.specs.Walk.{walk, walked, afterWalk, subtree, below, start, part, placed, placeBeyond, partBeyond}

@@ -9,7 +9,8 @@ use native.Mathlib.Decide.{ℕ-discrete}
 use native.Mathlib.Omega.{arith}
 use lib.Dec.{T}
 use lib.ListN.{length}
-use Rattle.sums.specs.Sum.{sum, sum-first, sum-const}
+use Rattle.sums.specs.Sum.{sum}
+use Rattle.sums.specs.theorems.SumLaws.{sum-first, sum-const}
 use Rattle.sums.specs.Bits.{bit}
 use Rattle.tree_check.specs.Table.{word}
 use Rattle.trees.specs.Walk.{inTurn}

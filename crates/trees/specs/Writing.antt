@@ -8,7 +8,8 @@ use native.Mathlib.Decide.{ℕ-discrete}
 use native.Mathlib.Omega.{arith}
 use lib.ListN.{length, set, take, drop, length-set, take-append-drop}
 use lib.Seq.{getD-set-same, getD-set-other, getD-take, drop-set-lt, ext-getD, length-take-le}
-use Rattle.tree_check.specs.Table.{Table, word, tips, nodes, label, tableOf, tips-of, nodes-of}
+use Rattle.tree_check.specs.Table.{Table, word, tips, nodes, label}
+use Rattle.tree_check.specs.lemmas.TableParts.{tableOf, tips-of, nodes-of}
 use Rattle.tree_check.specs.IsTree.{IsTree}
 use Rattle.trees.specs.Walk.{walk, walked, start}
 use Rattle.trees.specs.WalkLaws.{walk-length}

@@ -12,7 +12,7 @@ ghost use denote.Ref.{ptr};
 ghost use mathlib.Core.Bool.{_||_};
 ghost use lib.Dec.{eqb, leb};
 ghost use lib.ListN.{length};
-ghost use Rattle.tree_check.specs.Table.{tableOf};
+ghost use Rattle.tree_check.specs.lemmas.TableParts.{tableOf};
 ghost use Rattle.tree_check.specs.Refusals.{refusal};
 ghost use Rattle.trees.specs.Orders.{edgeOrder};
 ghost use Rattle.trees.specs.Arrays.{TreeArrays};

@@ -6,7 +6,7 @@ ghost use Prim.Native.Nat.{_≤_};
 ghost use lib.Dec.{ltb};
 ghost use lib.ListN.{length};
 ghost use Rattle.sums.specs.Bits.{bit};
-ghost use Rattle.tree_check.specs.Table.{tableOf};
+ghost use Rattle.tree_check.specs.lemmas.TableParts.{tableOf};
 ghost use Rattle.trees.specs.Arrays.{TreeArrays};
 ghost use Rattle.trees.specs.Positions.{Addable, AddedUp, TipsMarked, Sizes, Ends};
 

@@ -8,7 +8,7 @@ use tree_check::refusal_of;
 ghost use mathlib.Core.Path.{_≡_};
 ghost use Prim.Native.Nat.{_≤_};
 ghost use lib.ListN.{length};
-ghost use Rattle.tree_check.specs.Table.{tableOf};
+ghost use Rattle.tree_check.specs.lemmas.TableParts.{tableOf};
 ghost use Rattle.tree_check.specs.Refusals.{refusal};
 ghost use Rattle.trees.specs.Orders.{roomOrder, walkOrder};
 ghost use Rattle.trees.specs.Arrays.{TreeArrays};

@@ -1,7 +1,7 @@
 -- The bytes that came are lent to the comparison. Assumes nothing.
 use borrow.Author.Needs.{needs}
 use Rattle.io.specs.Counts.{Counts}
-use Rattle.compare.specs.Input.{counts-of-within}
+use Rattle.compare.specs.lemmas.InputLaws.{counts-of-within}
 use Rattle.compare.proofs.main.Statement.{statement}
 use Rattle.compare.proofs.main.Tie as tie
 

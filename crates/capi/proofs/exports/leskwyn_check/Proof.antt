@@ -1,7 +1,8 @@
 -- The number of the answer is the tree check's.
 -- Assumes nothing.
 use mathlib.Core.Path.{_∙_, ap}
-use Rattle.tree_check.specs.Check.{numberOf, number-of-checked}
+use Rattle.tree_check.specs.Check.{numberOf}
+use Rattle.tree_check.specs.theorems.CheckLaws.{number-of-checked}
 use borrow.Author.Needs.{needs}
 use Rattle.capi.proofs.exports.leskwyn_check.Statement.{statement}
 use Rattle.capi.proofs.exports.leskwyn_check.Tie as tie

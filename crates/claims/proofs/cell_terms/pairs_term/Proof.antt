@@ -6,7 +6,7 @@ use native.Mathlib.Nat.{le-trans}
 use native.Mathlib.Omega.{arith}
 use Rattle.shapes.specs.Claims.{choose2}
 use borrow.Author.Needs.{needs}
-use Rattle.sums.specs.Products.{product-le}
+use Rattle.sums.specs.theorems.Products.{product-le}
 use Rattle.claims.proofs.cell_terms.pairs_term.Statement.{statement}
 use Rattle.claims.proofs.cell_terms.pairs_term.Tie as tie
 

@@ -3,7 +3,7 @@
 use mathlib.Core.Path.{_≡_}
 use Prim.Native.Nat.{_+_, _-_, _≤_}
 use native.Mathlib.Omega.{arith}
-use Rattle.sums.specs.Products.{product-le}
+use Rattle.sums.specs.theorems.Products.{product-le}
 use Rattle.claims.specs.Block.{blockCell}
 use Rattle.claims.specs.CellSums.{AllTerms, rows-none, rows-next}
 use Rattle.claims.specs.BlockCells.{Overall, sums-low, totals-low, whole-line, base-le, overall}

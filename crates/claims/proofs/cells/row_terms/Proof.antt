@@ -7,7 +7,7 @@ use Prim.Native.Nat.{ℕ, _+_, _*_, _-_, _≤_, _<_}
 use native.Mathlib.Omega.{arith}
 use lib.ListN.{length}
 use Rattle.tree_check.specs.Table.{word}
-use Rattle.sums.specs.Products.{product-le}
+use Rattle.sums.specs.theorems.Products.{product-le}
 use Rattle.claims.specs.Block.{blockCell}
 use Rattle.claims.specs.CellSums.{RowTerms, row-none, row-next, row-skip, row-same}
 use Rattle.claims.specs.BlockCells.{row-inside, cell-room, cell-gives}

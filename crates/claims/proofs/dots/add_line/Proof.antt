@@ -8,7 +8,7 @@ use native.Mathlib.Omega.{arith}
 use lib.ListN.{length, length-set}
 use Rattle.sums.specs.Sum.{sum}
 use Rattle.tree_check.specs.Table.{word}
-use Rattle.sums.specs.Products.{product-le}
+use Rattle.sums.specs.theorems.Products.{product-le}
 use Rattle.claims.specs.Lines.{lineCell, squared, sum-step}
 use Rattle.claims.specs.Filled.{filled, filled-next, filled-later}
 use Rattle.claims.specs.LineDots.{scaled, added}

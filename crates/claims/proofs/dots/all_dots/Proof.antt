@@ -5,7 +5,7 @@ use Prim.Native.Nat.{_*_, _-_, _≤_}
 use native.Mathlib.Omega.{arith}
 use lib.ListN.{length}
 use Rattle.sums.specs.Sum.{sum}
-use Rattle.node_pairs.specs.Aggregates.{squares}
+use Rattle.node_pairs.specs.theorems.Aggregates.{squares}
 use Rattle.claims.specs.Lines.{sum-step}
 use Rattle.claims.specs.LineDots.{dotSquaresOf, termSquaresOf, fewer-lines, dot-squares-lines}
 use Rattle.claims.specs.LineDots.{term-squares-lines}

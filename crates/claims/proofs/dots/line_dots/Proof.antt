@@ -8,8 +8,8 @@ use native.Mathlib.Omega.{arith}
 use lib.ListN.{length}
 use Rattle.sums.specs.Sum.{sum}
 use Rattle.tree_check.specs.Table.{word}
-use Rattle.node_pairs.specs.Aggregates.{squares}
-use Rattle.sums.specs.Products.{product-le}
+use Rattle.node_pairs.specs.theorems.Aggregates.{squares}
+use Rattle.sums.specs.theorems.Products.{product-le}
 use Rattle.claims.specs.Filled.{length-filled}
 use Rattle.claims.specs.LineDots.{lineOf, termSquaresOf, Dotted, dotted-none, add-room, dotted-next}
 use Rattle.claims.specs.LineDots.{dotted-skip, terms-next, terms-skip, dot-squares-le, dots-low, dot-squares-at}

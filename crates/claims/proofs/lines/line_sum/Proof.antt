@@ -5,7 +5,7 @@ use Prim.Native.Nat.{ℕ, _+_, _*_, _-_, _≤_}
 use native.Mathlib.Omega.{arith}
 use Rattle.sums.specs.Sum.{sum}
 use Rattle.tree_check.specs.Table.{word}
-use Rattle.sums.specs.Products.{product-le}
+use Rattle.sums.specs.theorems.Products.{product-le}
 use Rattle.claims.specs.Lines.{lineCell, sum-step}
 use borrow.Author.Needs.{needs}
 use Rattle.claims.proofs.lines.line_sum.Statement.{statement}

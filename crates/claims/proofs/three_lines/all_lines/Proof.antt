@@ -4,9 +4,9 @@ use mathlib.Core.Path.{_≡_, refl, _∙_, ap}
 use Prim.Native.Nat.{ℕ, _+_, _*_, _-_, _≤_}
 use native.Mathlib.Omega.{arith}
 use Rattle.sums.specs.Sum.{sum}
-use Rattle.sums.specs.Products.{product-le}
+use Rattle.sums.specs.theorems.Products.{product-le}
 use Rattle.tree_check.specs.Table.{word}
-use Rattle.node_pairs.specs.ThreeRows.{products3, weighed3}
+use Rattle.node_pairs.specs.theorems.ThreeRows.{products3, weighed3}
 use Rattle.claims.specs.Lines.{lineCell, sum-step}
 use Rattle.claims.specs.NineCells.{product, weighed, pair-le, diagonal-le, weighed-le}
 use borrow.Author.Needs.{needs}

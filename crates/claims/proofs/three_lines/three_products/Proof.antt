@@ -3,7 +3,7 @@
 use mathlib.Core.Path.{refl}
 use Prim.Native.Nat.{_*_, _≤_}
 use native.Mathlib.Omega.{arith}
-use Rattle.sums.specs.Products.{product-le}
+use Rattle.sums.specs.theorems.Products.{product-le}
 use Rattle.claims.proofs.three_lines.three_products.Statement.{statement}
 use Rattle.claims.proofs.three_lines.three_products.Tie as tie
 

@@ -6,7 +6,7 @@ use native.Mathlib.Omega.{arith}
 use lib.ListN.{length}
 use Rattle.tree_check.specs.Table.{tips, nodes}
 use Rattle.pair_check.specs.PairOrder.{PairWithCells}
-use Rattle.pair_check.specs.PairOutcomes.{work-says, work-passed, edges-some}
+use Rattle.pair_check.specs.lemmas.PairOutcomes.{work-says, work-passed, edges-some}
 use Rattle.claims.specs.LentSums.{nodes-are, lent-words, lent-summable, lent-claims}
 use Rattle.claims.specs.SumsOf.{claims-refused}
 use borrow.Author.Needs.{needs}

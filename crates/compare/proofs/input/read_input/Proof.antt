@@ -4,7 +4,7 @@ use mathlib.Core.Path.{_≡_}
 use lib.ListN.{length}
 use native.Mathlib.Omega.{arith}
 use borrow.Author.Needs.{needs}
-use Rattle.compare.specs.Input.{within-of-le, counts-of-within}
+use Rattle.compare.specs.lemmas.InputLaws.{within-of-le, counts-of-within}
 use Rattle.compare.proofs.input.read_input.Statement.{statement}
 use Rattle.compare.proofs.input.read_input.Tie as tie
 

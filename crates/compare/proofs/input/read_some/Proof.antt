@@ -3,7 +3,8 @@ use borrow.Author.Needs.{needs}
 use mir.Syntax.{w64}
 use mir.Val.{toZ, ofZ}
 use mathlib.Core.Path.{subst, sym}
-use Rattle.compare.specs.Input.{Within, answered-within}
+use Rattle.compare.specs.Input.{Within}
+use Rattle.compare.specs.lemmas.InputLaws.{answered-within}
 use Rattle.compare.proofs.input.read_some.Statement.{statement}
 use Rattle.compare.proofs.input.read_some.Tie as tie
 

@@ -3,7 +3,7 @@
 use mathlib.Core.Path.{sym}
 use native.Mathlib.Omega.{arith}
 use lib.Seq.{length-take-le}
-use Rattle.listings.specs.ListingSteps.{listing-fits, listing-short, listing-counts}
+use Rattle.listings.specs.lemmas.ListingSteps.{listing-fits, listing-short, listing-counts}
 use borrow.Author.Needs.{needs}
 use Rattle.listings.proofs.printed.listing.Statement.{statement}
 use Rattle.listings.proofs.printed.listing.Tie as tie

@@ -1,7 +1,7 @@
 -- The line of the claim sums comes after that of the tips.
 -- Assumes nothing.
 use native.Mathlib.Omega.{arith}
-use Rattle.listings.specs.ListingSteps.{first-lines-written}
+use Rattle.listings.specs.lemmas.ListingSteps.{first-lines-written}
 use borrow.Author.Needs.{needs}
 use Rattle.listings.proofs.printed.put_first_lines.Statement.{statement}
 use Rattle.listings.proofs.printed.put_first_lines.Tie as tie

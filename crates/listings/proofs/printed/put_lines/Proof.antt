@@ -1,7 +1,7 @@
 -- The lines come one after the other.
 -- Assumes nothing.
 use native.Mathlib.Omega.{arith}
-use Rattle.listings.specs.ListingSteps.{lines-written}
+use Rattle.listings.specs.lemmas.ListingSteps.{lines-written}
 use borrow.Author.Needs.{needs}
 use Rattle.listings.proofs.printed.put_lines.Statement.{statement}
 use Rattle.listings.proofs.printed.put_lines.Tie as tie

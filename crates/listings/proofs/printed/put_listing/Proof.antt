@@ -1,7 +1,7 @@
 -- The refusal chooses between the lines and its own line.
 -- Assumes nothing.
 use native.Mathlib.Omega.{arith}
-use Rattle.listings.specs.ListingSteps.{listed-accepted, listed-refused}
+use Rattle.listings.specs.lemmas.ListingSteps.{listed-accepted, listed-refused}
 use borrow.Author.Needs.{needs}
 use Rattle.listings.proofs.printed.put_listing.Statement.{statement}
 use Rattle.listings.proofs.printed.put_listing.Tie as tie

@@ -1,7 +1,7 @@
 -- The line of the distance comes after that of the five cases.
 -- Assumes nothing.
 use native.Mathlib.Omega.{arith}
-use Rattle.listings.specs.ListingSteps.{quartet-lines-written}
+use Rattle.listings.specs.lemmas.ListingSteps.{quartet-lines-written}
 use borrow.Author.Needs.{needs}
 use Rattle.listings.proofs.printed.put_quartet_lines.Statement.{statement}
 use Rattle.listings.proofs.printed.put_quartet_lines.Tie as tie

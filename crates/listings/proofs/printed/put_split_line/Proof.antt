@@ -1,7 +1,7 @@
 -- One line of four numbers.
 -- Assumes nothing.
 use native.Mathlib.Omega.{arith}
-use Rattle.listings.specs.ListingSteps.{split-line-written}
+use Rattle.listings.specs.lemmas.ListingSteps.{split-line-written}
 use borrow.Author.Needs.{needs}
 use Rattle.listings.proofs.printed.put_split_line.Statement.{statement}
 use Rattle.listings.proofs.printed.put_split_line.Tie as tie

@@ -5,7 +5,7 @@ use mathlib.Core.Path.{_≡_, refl, _∙_, ap}
 use mathlib.Core.List.{List}
 use native.Mathlib.Omega.{arith}
 use lib.ListN.{length, take, set, getD, length-set}
-use Rattle.listings.specs.Written.{written, written-none, written-next, written-all}
+use Rattle.listings.specs.lemmas.Written.{written, written-none, written-next, written-all}
 use borrow.Author.Needs.{needs}
 use Rattle.listings.proofs.text.copy.Statement.{statement}
 use Rattle.listings.proofs.text.copy.Tie as tie

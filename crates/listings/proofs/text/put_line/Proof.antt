@@ -3,7 +3,7 @@
 use mathlib.Core.Path.{_∙_}
 use native.Mathlib.Omega.{arith}
 use lib.ListN.{length-set}
-use Rattle.listings.specs.Printing.{line-written}
+use Rattle.listings.specs.lemmas.Printing.{line-written}
 use borrow.Author.Needs.{needs}
 use Rattle.listings.proofs.text.put_line.Statement.{statement}
 use Rattle.listings.proofs.text.put_line.Tie as tie

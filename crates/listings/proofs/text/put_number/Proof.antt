@@ -3,8 +3,8 @@
 use mathlib.Core.Path.{_∙_}
 use native.Mathlib.Omega.{arith}
 use lib.ListN.{length-set}
-use Rattle.listings.specs.Decimal.{fewest-most}
-use Rattle.listings.specs.Printing.{number-room, number-written}
+use Rattle.listings.specs.lemmas.DecimalLaws.{fewest-most}
+use Rattle.listings.specs.lemmas.Printing.{number-room, number-written}
 use borrow.Author.Needs.{needs}
 use Rattle.listings.proofs.text.put_number.Statement.{statement}
 use Rattle.listings.proofs.text.put_number.Tie as tie

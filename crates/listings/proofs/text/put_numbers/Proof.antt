@@ -4,9 +4,9 @@ use Prim.Native.Nat.{_+_, _*_, _≤_, _-_}
 use mathlib.Core.Path.{_≡_, refl}
 use native.Mathlib.Omega.{arith}
 use lib.ListN.{length, take}
-use Rattle.listings.specs.Written.{Written}
+use Rattle.listings.specs.lemmas.Written.{Written}
 use Rattle.listings.specs.Lines.{spacedAll}
-use Rattle.listings.specs.Printing.{numbers-none, numbers-next, numbers-all}
+use Rattle.listings.specs.lemmas.Printing.{numbers-none, numbers-next, numbers-all}
 use borrow.Author.Needs.{needs}
 use Rattle.listings.proofs.text.put_numbers.Statement.{statement}
 use Rattle.listings.proofs.text.put_numbers.Tie as tie

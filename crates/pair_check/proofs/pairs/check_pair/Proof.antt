@@ -6,10 +6,10 @@ use Prim.Native.Nat.{ℕ, _-_, _≤_}
 use native.Mathlib.Omega.{arith}
 use Rattle.tree_check.specs.Table.{tips, nodes}
 use Rattle.tree_check.specs.IsTree.{IsTree}
-use Rattle.tree_check.specs.Check.{checked-accepted, refusal-passed}
-use Rattle.pair_check.specs.PairCheck.{tree-refusal-most}
-use Rattle.pair_check.specs.PairOutcomes.{first-refused, second-refused, tips-differ, tables-accepted}
-use Rattle.pair_check.specs.PairOutcomes.{pair-found, pair-turned-away, edges-some}
+use Rattle.tree_check.specs.theorems.CheckLaws.{checked-accepted, refusal-passed}
+use Rattle.pair_check.specs.theorems.PairCheck.{tree-refusal-most}
+use Rattle.pair_check.specs.lemmas.PairOutcomes.{first-refused, second-refused, tips-differ, tables-accepted}
+use Rattle.pair_check.specs.lemmas.PairOutcomes.{pair-found, pair-turned-away, edges-some}
 use borrow.Author.Needs.{needs}
 use Rattle.pair_check.proofs.pairs.check_pair.Statement.{statement}
 use Rattle.pair_check.proofs.pairs.check_pair.Tie as tie

@@ -5,8 +5,8 @@ use Prim.Native.Nat.{_-_}
 use native.Mathlib.Omega.{arith}
 use Rattle.tree_check.specs.Table.{tips, nodes}
 use Rattle.pair_check.specs.PairOrder.{IsPair}
-use Rattle.pair_check.specs.PairOutcomes.{pair-passed, check-says, tables-refused, cells-short, pair-kept}
-use Rattle.pair_check.specs.PairOutcomes.{work-found, work-turned-away, product-fits}
+use Rattle.pair_check.specs.lemmas.PairOutcomes.{pair-passed, check-says, tables-refused, cells-short, pair-kept}
+use Rattle.pair_check.specs.lemmas.PairOutcomes.{work-found, work-turned-away, product-fits}
 use borrow.Author.Needs.{needs}
 use Rattle.pair_check.proofs.pairs.check_work.Statement.{statement}
 use Rattle.pair_check.proofs.pairs.check_work.Tie as tie

@@ -3,7 +3,7 @@
 use mathlib.Core.Path.{sym, _∙_, ap}
 use native.Mathlib.Omega.{arith}
 use lib.Seq.{length-take-le}
-use Rattle.pair_file.specs.PairFigures.{wordFigures, file-too-long, file-odd, file-compared}
+use Rattle.pair_file.specs.lemmas.PairFigures.{wordFigures, file-too-long, file-odd, file-compared}
 use borrow.Author.Needs.{needs}
 use Rattle.pair_file.proofs.files.compare.Statement.{statement}
 use Rattle.pair_file.proofs.files.compare.Tie as tie

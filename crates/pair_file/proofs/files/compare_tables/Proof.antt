@@ -1,8 +1,8 @@
 -- The pair's number decides; the three answers of an accepted pair are its figures.
 -- Assumes nothing.
 use mathlib.Core.Path.{sym, _∙_}
-use Rattle.pair_check.specs.PairOutcomes.{work-says, work-passed}
-use Rattle.pair_file.specs.PairFigures.{pair-refused, pair-accepted}
+use Rattle.pair_check.specs.lemmas.PairOutcomes.{work-says, work-passed}
+use Rattle.pair_file.specs.lemmas.PairFigures.{pair-refused, pair-accepted}
 use borrow.Author.Needs.{needs}
 use Rattle.pair_file.proofs.files.compare_tables.Statement.{statement}
 use Rattle.pair_file.proofs.files.compare_tables.Tie as tie

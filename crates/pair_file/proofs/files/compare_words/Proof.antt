@@ -3,7 +3,7 @@
 use mathlib.Core.Path.{sym, _∙_}
 use native.Mathlib.Omega.{arith}
 use lib.Seq.{length-take-le}
-use Rattle.pair_file.specs.PairFigures.{parts-compared}
+use Rattle.pair_file.specs.lemmas.PairFigures.{parts-compared}
 use borrow.Author.Needs.{needs}
 use Rattle.pair_file.proofs.files.compare_words.Statement.{statement}
 use Rattle.pair_file.proofs.files.compare_words.Tie as tie

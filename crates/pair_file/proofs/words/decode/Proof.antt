@@ -5,7 +5,7 @@ use mathlib.Core.Path.{_≡_, refl}
 use native.Mathlib.Omega.{arith}
 use lib.ListN.{length, take, length-set}
 use Rattle.pair_file.specs.PairFile.{fileWords}
-use Rattle.pair_file.specs.FileWords.{words-next, words-all}
+use Rattle.pair_file.specs.lemmas.FileWords.{words-next, words-all}
 use borrow.Author.Needs.{needs}
 use Rattle.pair_file.proofs.words.decode.Statement.{statement}
 use Rattle.pair_file.proofs.words.decode.Tie as tie

@@ -1,7 +1,7 @@
 -- The three ways to cut, each the outcome of a law.
 -- Assumes nothing.
 use native.Mathlib.Omega.{arith}
-use Rattle.pair_file.specs.FileWords.{first-few, first-short, first-whole}
+use Rattle.pair_file.specs.lemmas.FileWords.{first-few, first-short, first-whole}
 use borrow.Author.Needs.{needs}
 use Rattle.pair_file.proofs.words.first_length.Statement.{statement}
 use Rattle.pair_file.proofs.words.first_length.Tie as tie

@@ -1,6 +1,6 @@
 -- The entry is what the table's rule says.
 -- Assumes nothing.
-use Rattle.quartets.specs.FoursTable.{foursTable, fours-table}
+use Rattle.quartets.specs.theorems.FoursTable.{foursTable, fours-table}
 use borrow.Author.Needs.{needs}
 use Rattle.quartets.proofs.fours.sets_of_four.Statement.{statement}
 use Rattle.quartets.proofs.fours.sets_of_four.Tie as tie

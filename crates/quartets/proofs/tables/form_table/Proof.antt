@@ -3,7 +3,7 @@
 use mathlib.Core.Path.{_∙_, ap}
 use native.Mathlib.Omega.{arith}
 use Rattle.sums.specs.Fours.{fours}
-use Rattle.quartets.specs.QuartetAnswer.{rest-fits, table-formed}
+use Rattle.quartets.specs.lemmas.FormedTable.{rest-fits, table-formed}
 use borrow.Author.Needs.{needs}
 use Rattle.quartets.proofs.tables.form_table.Statement.{statement}
 use Rattle.quartets.proofs.tables.form_table.Tie as tie

@@ -4,9 +4,9 @@ use mathlib.Core.Path.{_≡_, sym, _∙_}
 use lib.ListN.{length}
 use Rattle.tree_check.specs.Table.{tips}
 use Rattle.pair_check.specs.PairOrder.{PairWithCells}
-use Rattle.pair_check.specs.PairOutcomes.{work-says, work-passed}
-use Rattle.tree_pairs.specs.LentTables.{crossings-refused}
-use Rattle.quartets.specs.QuartetAnswer.{sums-fit, table-counts, table-refused, answer-has}
+use Rattle.pair_check.specs.lemmas.PairOutcomes.{work-says, work-passed}
+use Rattle.tree_pairs.specs.lemmas.LentTables.{crossings-refused}
+use Rattle.quartets.specs.lemmas.FormedTable.{sums-fit, table-counts, table-refused, answer-has}
 use borrow.Author.Needs.{needs}
 use Rattle.quartets.proofs.tables.quartet_table.Statement.{statement}
 use Rattle.quartets.proofs.tables.quartet_table.Tie as tie

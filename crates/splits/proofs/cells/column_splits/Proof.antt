@@ -6,8 +6,8 @@ use mathlib.Core.Logic.{⊎-elim}
 use native.Mathlib.Omega.{arith}
 use Rattle.sums.specs.Counts.{count}
 use Rattle.tree_check.specs.Table.{word}
-use Rattle.splits.specs.SplitCells.{splitSize, columnSplits}
-use Rattle.splits.specs.SplitLoops.{row-room, count-start, count-hit, count-miss, count-few}
+use Rattle.splits.specs.lemmas.SplitCells.{splitSize, columnSplits}
+use Rattle.splits.specs.lemmas.SplitLoops.{row-room, count-start, count-hit, count-miss, count-few}
 use borrow.Author.Needs.{needs}
 use Rattle.splits.proofs.cells.column_splits.Statement.{statement}
 use Rattle.splits.proofs.cells.column_splits.Tie as tie

@@ -3,7 +3,7 @@
 use mathlib.Core.Path.{sym, _∙_, ap}
 use mathlib.Core.Bool.{Bool, _&&_}
 use borrow.Author.Tests.{not-true, not-false}
-use Rattle.splits.specs.SplitCells.{sharedRow}
+use Rattle.splits.specs.lemmas.SplitCells.{sharedRow}
 use borrow.Author.Needs.{needs}
 use Rattle.splits.proofs.cells.is_common.Statement.{statement}
 use Rattle.splits.proofs.cells.is_common.Tie as tie

@@ -2,7 +2,7 @@
 -- Assumes nothing.
 use mathlib.Core.Path.{refl}
 use borrow.Author.Tests.{lt-leb, le-leb}
-use Rattle.splits.specs.SplitCells.{splitSize}
+use Rattle.splits.specs.lemmas.SplitCells.{splitSize}
 use borrow.Author.Needs.{needs}
 use Rattle.splits.proofs.cells.is_split.Statement.{statement}
 use Rattle.splits.proofs.cells.is_split.Tie as tie

@@ -6,9 +6,9 @@ use mathlib.Core.Bool.{false, _&&_}
 use native.Mathlib.Omega.{arith}
 use borrow.Author.Count.{below-more}
 use lib.Dec.{eqb}
-use Rattle.sums.specs.Tests.{some-true, some-false}
+use Rattle.sums.specs.theorems.TestLaws.{some-true, some-false}
 use Rattle.tree_check.specs.Table.{word}
-use Rattle.splits.specs.SplitCells.{sharedRow}
+use Rattle.splits.specs.lemmas.SplitCells.{sharedRow}
 use borrow.Author.Needs.{needs}
 use Rattle.splits.proofs.cells.shared_row.Statement.{statement}
 use Rattle.splits.proofs.cells.shared_row.Tie as tie

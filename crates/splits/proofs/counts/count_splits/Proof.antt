@@ -1,6 +1,6 @@
 -- The three counts, and the distance from them.
 -- Assumes nothing.
-use Rattle.splits.specs.SplitAnswer.{counted-is}
+use Rattle.splits.specs.lemmas.SplitsCounted.{counted-is}
 use borrow.Author.Needs.{needs}
 use Rattle.splits.proofs.counts.count_splits.Statement.{statement}
 use Rattle.splits.proofs.counts.count_splits.Tie as tie

@@ -6,9 +6,10 @@ use Prim.Native.Nat.{ℕ, _-_}
 use lib.ListN.{length}
 use Rattle.tree_check.specs.Table.{tips, nodes}
 use Rattle.pair_check.specs.PairOrder.{PairWithCells}
-use Rattle.pair_check.specs.PairOutcomes.{work-says, work-passed}
-use Rattle.tree_pairs.specs.LentTables.{crossings-are}
-use Rattle.splits.specs.SplitAnswer.{SplitsCountable, counted, split-refused, split-cells, split-accepted}
+use Rattle.pair_check.specs.lemmas.PairOutcomes.{work-says, work-passed}
+use Rattle.tree_pairs.specs.lemmas.LentTables.{crossings-are}
+use Rattle.splits.specs.lemmas.SplitsCounted.{SplitsCountable, counted, split-refused, split-cells}
+use Rattle.splits.specs.lemmas.SplitsCounted.{split-accepted}
 use borrow.Author.Needs.{needs}
 use Rattle.splits.proofs.counts.split_counts.Statement.{statement}
 use Rattle.splits.proofs.counts.split_counts.Tie as tie

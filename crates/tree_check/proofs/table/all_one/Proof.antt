@@ -7,7 +7,7 @@ use native.Mathlib.Omega.{arith}
 use borrow.Author.Count.{below-more}
 use borrow.Author.Tests.{eq-eqb, ne-eqb}
 use lib.Dec.{eqb}
-use Rattle.sums.specs.Tests.{every-true, every-false}
+use Rattle.sums.specs.theorems.TestLaws.{every-true, every-false}
 use Rattle.tree_check.specs.Table.{word}
 use borrow.Author.Needs.{needs}
 use Rattle.tree_check.proofs.table.all_one.Statement.{statement}

@@ -2,7 +2,7 @@
 -- Assumes nothing.
 use mathlib.Core.Path.{sym, _∙_}
 use borrow.Author.Tests.{not-true, not-false}
-use Rattle.tree_check.specs.CheckOutcomes.{parent-broken, label-broken, node-misplaced, arrays-kept}
+use Rattle.tree_check.specs.lemmas.CheckOutcomes.{parent-broken, label-broken, node-misplaced, arrays-kept}
 use borrow.Author.Needs.{needs}
 use Rattle.tree_check.proofs.table.arrays_refusal.Statement.{statement}
 use Rattle.tree_check.proofs.table.arrays_refusal.Tie as tie

@@ -2,8 +2,8 @@
 -- Assumes nothing.
 use mathlib.Core.Path.{sym, _∙_}
 use native.Mathlib.Omega.{arith}
-use Rattle.tree_check.specs.TreeCheck.{tree-check}
-use Rattle.tree_check.specs.Check.{answered, checked-tree, checked-refused}
+use Rattle.tree_check.specs.theorems.TreeCheck.{tree-check}
+use Rattle.tree_check.specs.theorems.CheckLaws.{answered, checked-tree, checked-refused}
 use borrow.Author.Needs.{needs}
 use Rattle.tree_check.proofs.table.check.Statement.{statement}
 use Rattle.tree_check.proofs.table.check.Tie as tie

@@ -1,7 +1,7 @@
 -- `is_misplaced` tells what `misplaced` does, arm by arm.
 -- Assumes nothing.
 use borrow.Author.Tests.{eq-eqb, ne-eqb, lt-leb, le-leb}
-use Rattle.tree_check.specs.TreeCheck.{misplaced}
+use Rattle.tree_check.specs.TreeOrder.{misplaced}
 use Rattle.tree_check.proofs.table.is_misplaced.Statement.{statement}
 use Rattle.tree_check.proofs.table.is_misplaced.Tie as tie
 

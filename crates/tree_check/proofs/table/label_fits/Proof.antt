@@ -1,7 +1,7 @@
 -- `label_fits` tells what `labelFits` does, arm by arm.
 -- Assumes nothing.
 use borrow.Author.Tests.{eq-eqb, ne-eqb}
-use Rattle.tree_check.specs.TreeCheck.{labelFits}
+use Rattle.tree_check.specs.TreeOrder.{labelFits}
 use Rattle.tree_check.proofs.table.label_fits.Statement.{statement}
 use Rattle.tree_check.proofs.table.label_fits.Tie as tie
 

@@ -5,8 +5,8 @@ use native.Mathlib.Omega.{arith}
 use borrow.Author.Tests.{eq-eqb, ne-eqb, not-true, not-false}
 use lib.Dec.{eqb}
 use Prim.Native.Nat.{ℕ}
-use Rattle.sums.specs.Tests.{every-ext}
-use Rattle.tree_check.specs.TreeCheck.{labelsFit}
+use Rattle.sums.specs.theorems.TestLaws.{every-ext}
+use Rattle.tree_check.specs.TreeOrder.{labelsFit}
 use borrow.Author.Needs.{needs}
 use Rattle.tree_check.proofs.table.labels_fit.Statement.{statement}
 use Rattle.tree_check.proofs.table.labels_fit.Tie as tie

@@ -1,7 +1,7 @@
 -- `nodes_fit` tells what `nodesFit` does, arm by arm.
 -- Assumes nothing.
 use borrow.Author.Tests.{lt-leb, le-leb}
-use Rattle.tree_check.specs.TreeCheck.{nodesFit}
+use Rattle.tree_check.specs.TreeOrder.{nodesFit}
 use borrow.Author.Needs.{needs}
 use Rattle.tree_check.proofs.table.nodes_fit.Statement.{statement}
 use Rattle.tree_check.proofs.table.nodes_fit.Tie as tie

@@ -1,7 +1,7 @@
 -- `parent_fits` tells what `parentFits` does, arm by arm.
 -- Assumes nothing.
 use borrow.Author.Tests.{lt-ltb, le-ltb, lt-leb, le-leb}
-use Rattle.tree_check.specs.TreeCheck.{parentFits}
+use Rattle.tree_check.specs.TreeOrder.{parentFits}
 use Rattle.tree_check.proofs.table.parent_fits.Statement.{statement}
 use Rattle.tree_check.proofs.table.parent_fits.Tie as tie
 

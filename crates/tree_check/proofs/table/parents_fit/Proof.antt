@@ -7,9 +7,9 @@ use native.Mathlib.Omega.{arith}
 use borrow.Author.Count.{below-more}
 use borrow.Author.Tests.{not-true, not-false}
 use lib.ListN.{length}
-use Rattle.sums.specs.Tests.{every-true, every-false}
+use Rattle.sums.specs.theorems.TestLaws.{every-true, every-false}
 use Rattle.tree_check.specs.Table.{word}
-use Rattle.tree_check.specs.TreeCheck.{parentFits}
+use Rattle.tree_check.specs.TreeOrder.{parentFits}
 use borrow.Author.Needs.{needs}
 use Rattle.tree_check.proofs.table.parents_fit.Statement.{statement}
 use Rattle.tree_check.proofs.table.parents_fit.Tie as tie

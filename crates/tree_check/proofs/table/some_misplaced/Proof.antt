@@ -6,9 +6,9 @@ use mathlib.Core.Bool.{false}
 use native.Mathlib.Omega.{arith}
 use borrow.Author.Count.{below-more}
 use lib.ListN.{length}
-use Rattle.sums.specs.Tests.{some-true, some-false}
+use Rattle.sums.specs.theorems.TestLaws.{some-true, some-false}
 use Rattle.tree_check.specs.Table.{word}
-use Rattle.tree_check.specs.TreeCheck.{misplaced}
+use Rattle.tree_check.specs.TreeOrder.{misplaced}
 use borrow.Author.Needs.{needs}
 use Rattle.tree_check.proofs.table.some_misplaced.Statement.{statement}
 use Rattle.tree_check.proofs.table.some_misplaced.Tie as tie

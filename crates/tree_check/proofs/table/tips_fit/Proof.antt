@@ -1,7 +1,7 @@
 -- `tips_fit` tells what `tipsFit` does, arm by arm.
 -- Assumes nothing.
 use borrow.Author.Tests.{lt-leb, le-leb}
-use Rattle.tree_check.specs.TreeCheck.{tipsFit}
+use Rattle.tree_check.specs.TreeOrder.{tipsFit}
 use Rattle.tree_check.proofs.table.tips_fit.Statement.{statement}
 use Rattle.tree_check.proofs.table.tips_fit.Tie as tie
 

@@ -6,11 +6,13 @@ use Prim.Native.Nat.{ℕ, _+_, _*_, _≤_}
 use borrow.Author.Tests.{not-true, not-false}
 use lib.Dec.{T}
 use lib.ListN.{length}
-use Rattle.tree_check.specs.Table.{Table, word, tips, nodes, to-parts, of-parts}
-use Rattle.tree_check.specs.TreeCheck.{tipsFit, nodesFit, arraysOrder, ArraysFit, tips-iff}
+use Rattle.tree_check.specs.Table.{Table, word, tips, nodes}
+use Rattle.tree_check.specs.lemmas.TableParts.{to-parts, of-parts}
+use Rattle.tree_check.specs.TreeOrder.{tipsFit, nodesFit, arraysOrder}
+use Rattle.tree_check.specs.theorems.TreeCheck.{ArraysFit, tips-iff}
 use Rattle.tree_check.specs.Refusals.{refusal}
-use Rattle.tree_check.specs.CheckOutcomes.{too-short, tips-out, nodes-out, length-wrong, arrays-decide}
-use Rattle.tree_check.specs.CheckOutcomes.{arrays-fit}
+use Rattle.tree_check.specs.lemmas.CheckOutcomes.{too-short, tips-out, nodes-out, length-wrong, arrays-decide}
+use Rattle.tree_check.specs.lemmas.CheckOutcomes.{arrays-fit}
 use borrow.Author.Needs.{needs}
 use Rattle.tree_check.proofs.table.tree_refusal.Statement.{statement}
 use Rattle.tree_check.proofs.table.tree_refusal.Tie as tie

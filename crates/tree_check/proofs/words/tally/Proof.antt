@@ -5,7 +5,7 @@ use mathlib.Core.Logic.{⊎-elim}
 use mathlib.Core.Path.{_≡_}
 use native.Mathlib.Omega.{arith}
 use lib.ListN.{length}
-use Rattle.tree_check.specs.Tally.{Tallied, tallied-none, tallied-le, tallied-hit, tallied-skip}
+use Rattle.tree_check.specs.lemmas.Tally.{Tallied, tallied-none, tallied-le, tallied-hit, tallied-skip}
 use borrow.Author.Needs.{needs}
 use Rattle.tree_check.proofs.words.tally.Statement.{statement}
 use Rattle.tree_check.proofs.words.tally.Tie as tie

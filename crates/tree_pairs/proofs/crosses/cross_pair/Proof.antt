@@ -4,8 +4,8 @@ use mathlib.Core.Path.{_≡_, sym, _∙_}
 use lib.ListN.{length}
 use Rattle.tree_check.specs.Refusals.{refusal}
 use Rattle.pair_check.specs.PairOrder.{pairOrder, PairWithCells}
-use Rattle.pair_check.specs.PairCheck.{pair-check}
-use Rattle.tree_pairs.specs.LentTables.{crossings-accepted, crossings-refused}
+use Rattle.pair_check.specs.theorems.PairCheck.{pair-check}
+use Rattle.tree_pairs.specs.lemmas.LentTables.{crossings-accepted, crossings-refused}
 use borrow.Author.Needs.{needs}
 use Rattle.tree_pairs.proofs.crosses.cross_pair.Statement.{statement}
 use Rattle.tree_pairs.proofs.crosses.cross_pair.Tie as tie

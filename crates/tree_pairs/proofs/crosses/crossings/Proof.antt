@@ -1,8 +1,8 @@
 -- The number of the pair.
 -- Assumes nothing.
 use mathlib.Core.Path.{sym, _∙_}
-use Rattle.pair_check.specs.PairCheck.{pair-check}
-use Rattle.pair_check.specs.PairOutcomes.{work-says}
+use Rattle.pair_check.specs.theorems.PairCheck.{pair-check}
+use Rattle.pair_check.specs.lemmas.PairOutcomes.{work-says}
 use borrow.Author.Needs.{needs}
 use Rattle.tree_pairs.proofs.crosses.crossings.Statement.{statement}
 use Rattle.tree_pairs.proofs.crosses.crossings.Tie as tie

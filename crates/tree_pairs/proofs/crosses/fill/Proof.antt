@@ -4,7 +4,7 @@ use mathlib.Core.Path.{_≡_}
 use Prim.Native.Nat.{_+_, _*_}
 use native.Mathlib.Omega.{arith}
 use lib.ListN.{length}
-use Rattle.tree_pairs.specs.LentTables.{lent-lengths, lent-arrays, lent-crossed}
+use Rattle.tree_pairs.specs.lemmas.LentTables.{lent-lengths, lent-arrays, lent-crossed}
 use borrow.Author.Needs.{needs}
 use Rattle.tree_pairs.proofs.crosses.fill.Statement.{statement}
 use Rattle.tree_pairs.proofs.crosses.fill.Tie as tie

@@ -2,7 +2,7 @@
 -- Assumes nothing.
 use native.Mathlib.Omega.{arith}
 use Rattle.trees.specs.Arrays.{few-nodes}
-use Rattle.tree_pairs.specs.Filling.{tip-room, rows-room, filled}
+use Rattle.tree_pairs.specs.lemmas.Filling.{tip-room, rows-room, filled}
 use borrow.Author.Needs.{needs}
 use Rattle.tree_pairs.proofs.crosses.fill_arrays.Statement.{statement}
 use Rattle.tree_pairs.proofs.crosses.fill_arrays.Tie as tie

@@ -3,7 +3,7 @@
 use Prim.Native.Nat.{_≤_, _<_, _+_, _-_}
 use native.Mathlib.Omega.{arith}
 use lib.ListN.{length}
-use Rattle.tree_pairs.specs.RowTotals.{RowAdding, row-none, row-all, row-inside, row-fits, row-next}
+use Rattle.tree_pairs.specs.lemmas.RowTotals.{RowAdding, row-none, row-all, row-inside, row-fits, row-next}
 use borrow.Author.Needs.{needs}
 use Rattle.tree_pairs.proofs.marks.add_up_row.Statement.{statement}
 use Rattle.tree_pairs.proofs.marks.add_up_row.Tie as tie

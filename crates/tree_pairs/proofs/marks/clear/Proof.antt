@@ -3,7 +3,7 @@
 use Prim.Native.Nat.{_≤_, _-_}
 use mathlib.Core.Path.{_≡_}
 use native.Mathlib.Omega.{arith}
-use Rattle.tree_pairs.specs.Cleared.{Cleared, cleared-none, cleared-next}
+use Rattle.tree_pairs.specs.lemmas.Cleared.{Cleared, cleared-none, cleared-next}
 use borrow.Author.Needs.{needs}
 use Rattle.tree_pairs.proofs.marks.clear.Statement.{statement}
 use Rattle.tree_pairs.proofs.marks.clear.Tie as tie

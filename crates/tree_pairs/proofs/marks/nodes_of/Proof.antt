@@ -5,7 +5,7 @@ use mathlib.Core.Logic.{⊎-elim}
 use mathlib.Core.Path.{_≡_}
 use native.Mathlib.Omega.{arith}
 use lib.ListN.{length}
-use Rattle.tree_pairs.specs.NodeCells.{NodesOf, nodes-none, nodes-next, nodes-skip}
+use Rattle.tree_pairs.specs.lemmas.NodeCells.{NodesOf, nodes-none, nodes-next, nodes-skip}
 use borrow.Author.Needs.{needs}
 use Rattle.tree_pairs.proofs.marks.nodes_of.Statement.{statement}
 use Rattle.tree_pairs.proofs.marks.nodes_of.Tie as tie

@@ -1,6 +1,6 @@
 -- The one mark, added up.
 -- Assumes nothing.
-use Rattle.tree_pairs.specs.TipRows.{mark-fits, mark-done}
+use Rattle.tree_pairs.specs.lemmas.TipRows.{mark-fits, mark-done}
 use borrow.Author.Needs.{needs}
 use Rattle.tree_pairs.proofs.marks.tip_row.Statement.{statement}
 use Rattle.tree_pairs.proofs.marks.tip_row.Tie as tie

@@ -4,8 +4,8 @@ use Prim.Native.Nat.{_≤_, _-_}
 use mathlib.Core.Logic.{⊎-elim}
 use native.Mathlib.Omega.{arith}
 use lib.ListN.{length}
-use Rattle.tree_pairs.specs.TipRows.{TipRows, rows-none, base-low, mark-room}
-use Rattle.tree_pairs.specs.TipRows.{rows-skip, rows-next, rows-all}
+use Rattle.tree_pairs.specs.lemmas.TipRows.{TipRows, rows-none, base-low, mark-room}
+use Rattle.tree_pairs.specs.lemmas.TipRows.{rows-skip, rows-next, rows-all}
 use borrow.Author.Needs.{needs}
 use Rattle.tree_pairs.proofs.marks.tip_rows.Statement.{statement}
 use Rattle.tree_pairs.proofs.marks.tip_rows.Tie as tie

@@ -3,7 +3,7 @@
 use Prim.Native.Nat.{_+_, _-_, _≤_, _<_}
 use native.Mathlib.Omega.{arith}
 use lib.ListN.{length}
-use Rattle.tree_pairs.specs.Rows.{AddingRow, row-none, row-all, row-room, row-fits, row-next}
+use Rattle.tree_pairs.specs.lemmas.Rows.{AddingRow, row-none, row-all, row-room, row-fits, row-next}
 use borrow.Author.Needs.{needs}
 use Rattle.tree_pairs.proofs.rows.add_row.Statement.{statement}
 use Rattle.tree_pairs.proofs.rows.add_row.Tie as tie

@@ -2,8 +2,8 @@
 -- Assumes nothing.
 use Prim.Native.Nat.{_-_, _≤_, _<_}
 use native.Mathlib.Omega.{arith}
-use Rattle.tree_pairs.specs.RowsUp.{AddingRows, rows-none, rows-all, rows-parent, rows-fit, rows-next}
-use Rattle.tree_pairs.specs.RowsUp.{row-near}
+use Rattle.tree_pairs.specs.lemmas.RowsUp.{AddingRows, rows-none, rows-all, rows-parent, rows-fit, rows-next}
+use Rattle.tree_pairs.specs.lemmas.RowsUp.{row-near}
 use borrow.Author.Needs.{needs}
 use Rattle.tree_pairs.proofs.rows.add_rows.Statement.{statement}
 use Rattle.tree_pairs.proofs.rows.add_rows.Tie as tie

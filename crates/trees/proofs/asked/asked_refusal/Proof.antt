@@ -2,7 +2,7 @@
 -- Assumes nothing.
 use mathlib.Core.Path.{sym, _∙_}
 use mathlib.Core.List.{[]}
-use Rattle.tree_check.specs.Refusals.{refusal-none, refusal-here, refusal-next}
+use Rattle.tree_check.specs.theorems.RefusalLaws.{refusal-none, refusal-here, refusal-next}
 use Rattle.trees.specs.Orders.{askedOrder}
 use borrow.Author.Needs.{needs}
 use Rattle.trees.proofs.asked.asked_refusal.Statement.{statement}

@@ -7,7 +7,7 @@ use native.Mathlib.Omega.{arith}
 use borrow.Author.Count.{below-more}
 use borrow.Author.Tests.{eq-eqb, ne-eqb}
 use lib.Dec.{eqb}
-use Rattle.sums.specs.Tests.{some-true, some-false}
+use Rattle.sums.specs.theorems.TestLaws.{some-true, some-false}
 use Rattle.tree_check.specs.Table.{word}
 use borrow.Author.Needs.{needs}
 use Rattle.trees.proofs.asked.is_among.Statement.{statement}

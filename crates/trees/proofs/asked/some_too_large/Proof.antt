@@ -8,7 +8,7 @@ use borrow.Author.Count.{below-more}
 use borrow.Author.Tests.{lt-leb, le-leb}
 use lib.Dec.{leb}
 use lib.ListN.{length}
-use Rattle.sums.specs.Tests.{some-true, some-false}
+use Rattle.sums.specs.theorems.TestLaws.{some-true, some-false}
 use Rattle.tree_check.specs.Table.{word}
 use Rattle.trees.specs.Orders.{tooLarge}
 use borrow.Author.Needs.{needs}

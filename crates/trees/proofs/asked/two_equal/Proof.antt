@@ -7,7 +7,8 @@ use native.Mathlib.Omega.{arith}
 use borrow.Author.Count.{below-more}
 use lib.Dec.{eqb}
 use lib.ListN.{length}
-use Rattle.sums.specs.Tests.{some, some-true, some-false}
+use Rattle.sums.specs.Tests.{some}
+use Rattle.sums.specs.theorems.TestLaws.{some-true, some-false}
 use Rattle.tree_check.specs.Table.{word}
 use Rattle.trees.specs.Orders.{twoEqual}
 use borrow.Author.Needs.{needs}

@@ -3,9 +3,11 @@
 use mathlib.Core.Path.{_≡_, sym, _∙_, ap}
 use Prim.Native.Nat.{ℕ}
 use native.Mathlib.Omega.{arith}
-use Rattle.tree_check.specs.Table.{tips, nodes, to-parts, of-parts}
+use Rattle.tree_check.specs.Table.{tips, nodes}
+use Rattle.tree_check.specs.lemmas.TableParts.{to-parts, of-parts}
 use Rattle.tree_check.specs.IsTree.{IsTree}
-use Rattle.tree_check.specs.Check.{numberOf, checked-accepted, checked-refusal}
+use Rattle.tree_check.specs.Check.{numberOf}
+use Rattle.tree_check.specs.theorems.CheckLaws.{checked-accepted, checked-refusal}
 use Rattle.trees.specs.Arrays.{RootedArrays, rooted-arrays}
 use Rattle.trees.specs.Centre.{centreOver}
 use Rattle.trees.specs.CentreLaws.{

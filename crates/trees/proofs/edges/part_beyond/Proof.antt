@@ -6,10 +6,11 @@ use Prim.Native.Nat.{ℕ, _≤_, _<_}
 use native.Mathlib.Omega.{arith}
 use lib.Dec.{eqb, leb}
 use lib.ListN.{length}
-use Rattle.tree_check.specs.Table.{Table, tips, nodes, tableOf, to-parts, of-parts, table-of-parts, parents-length}
+use Rattle.tree_check.specs.Table.{Table, tips, nodes}
+use Rattle.tree_check.specs.lemmas.TableParts.{tableOf, to-parts, of-parts, table-of-parts, parents-length}
 use Rattle.tree_check.specs.IsTree.{IsTree}
 use Rattle.trees.specs.Arrays.{TreeArrays, tree-arrays}
-use Rattle.tree_check.specs.Check.{checked-accepted, refusal-passed}
+use Rattle.tree_check.specs.theorems.CheckLaws.{checked-accepted, refusal-passed}
 use Rattle.tree_check.specs.Refusals.{refusal}
 use Rattle.trees.specs.Orders.{edgeOrder, edge-check}
 use Rattle.trees.specs.Walk.{placed}

@@ -3,11 +3,13 @@
 use mathlib.Core.Path.{_≡_, refl, sym, _∙_, ap}
 use mathlib.Core.List.{[], _∷_}
 use native.Mathlib.Omega.{arith}
-use Rattle.tree_check.specs.Table.{tips, nodes, to-parts, of-parts}
+use Rattle.tree_check.specs.Table.{tips, nodes}
+use Rattle.tree_check.specs.lemmas.TableParts.{to-parts, of-parts}
 use Rattle.tree_check.specs.Refusals.{refusal}
 use Rattle.tree_check.specs.IsTree.{IsTree}
 use Rattle.trees.specs.Orders.{askedOrder}
-use Rattle.tree_check.specs.Check.{numberOf, checked-accepted, checked-refusal}
+use Rattle.tree_check.specs.Check.{numberOf}
+use Rattle.tree_check.specs.theorems.CheckLaws.{checked-accepted, checked-refusal}
 use Rattle.trees.specs.Sides.{SidesAre}
 use Rattle.trees.specs.Arrays.{RootedArrays, rooted-arrays}
 use Rattle.trees.specs.TopologyOutcomes.{topology-refused, topology-asked-refused}

@@ -6,9 +6,10 @@ use native.Mathlib.Omega.{arith}
 use lib.Dec.{ltb}
 use lib.ListN.{length}
 use Rattle.sums.specs.Bits.{bit}
-use Rattle.tree_check.specs.Table.{word, tableOf}
+use Rattle.tree_check.specs.Table.{word}
+use Rattle.tree_check.specs.lemmas.TableParts.{tableOf}
 use Rattle.trees.specs.Arrays.{few-nodes, rooted-parents}
-use Rattle.shapes.specs.Ancestors.{parent-lt}
+use Rattle.shapes.specs.theorems.AncestorLaws.{parent-lt}
 use Rattle.trees.specs.Positions.{Reached, reached-first, reached-fits, reached-next, reached-all}
 use borrow.Author.Needs.{needs}
 use Rattle.trees.proofs.sizes.ends.Statement.{statement}

@@ -3,7 +3,7 @@
 use mathlib.Core.Path.{sym, _∙_}
 use mathlib.Core.List.{[]}
 use borrow.Author.Tests.{lt-ltb, le-ltb}
-use Rattle.tree_check.specs.Refusals.{refusal-none, refusal-here, refusal-next}
+use Rattle.tree_check.specs.theorems.RefusalLaws.{refusal-none, refusal-here, refusal-next}
 use Rattle.trees.proofs.walks.room_refusal.Statement.{statement}
 use Rattle.trees.proofs.walks.room_refusal.Tie as tie
 

@@ -4,10 +4,11 @@ use mathlib.Core.Path.{_≡_, sym, _∙_, ap}
 use Prim.Native.Nat.{ℕ, _≤_}
 use native.Mathlib.Omega.{arith}
 use lib.ListN.{length}
-use Rattle.tree_check.specs.Table.{Table, tips, nodes, tableOf, to-parts, of-parts, table-of-parts}
+use Rattle.tree_check.specs.Table.{Table, tips, nodes}
+use Rattle.tree_check.specs.lemmas.TableParts.{tableOf, to-parts, of-parts, table-of-parts}
 use Rattle.tree_check.specs.Refusals.{refusal}
 use Rattle.tree_check.specs.IsTree.{IsTree}
-use Rattle.tree_check.specs.Check.{checked-accepted, refusal-passed}
+use Rattle.tree_check.specs.theorems.CheckLaws.{checked-accepted, refusal-passed}
 use Rattle.trees.specs.Orders.{roomOrder, room-check}
 use Rattle.trees.specs.Arrays.{TreeArrays, tree-arrays}
 use Rattle.trees.specs.Walk.{walked}

@@ -5,7 +5,8 @@ use mathlib.Core.Logic.{⊎-elim}
 use mathlib.Core.Path.{_≡_, refl}
 use native.Mathlib.Omega.{arith}
 use lib.ListN.{length, length-set}
-use Rattle.tree_check.specs.Table.{word, tableOf}
+use Rattle.tree_check.specs.Table.{word}
+use Rattle.tree_check.specs.lemmas.TableParts.{tableOf}
 use Rattle.trees.specs.Arrays.{few-tips, few-nodes}
 use Rattle.trees.specs.Writing.{Written, written-none, size-le-end, write-inside, write-tip}
 use Rattle.trees.specs.Writing.{write-inner, write-all}

@@ -1,0 +1,12 @@
+pub mod CasesInShapes
+pub mod CountingTheorem
+pub mod Degrees
+pub mod EdgeClaims
+pub mod FiveFormulas
+pub mod NodePairSums
+pub mod QuartetTheorem
+pub mod ReferencePairs
+pub mod Renumbered
+pub mod TipLabels
+pub mod TreeShape
+pub mod TreeSplits

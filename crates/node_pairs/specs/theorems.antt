@@ -1,0 +1,14 @@
+pub mod Aggregates
+pub mod ApartSums
+pub mod CellForms
+pub mod CellTotals
+pub mod CellsAlike
+pub mod ClosedForms
+pub mod CodeLists
+pub mod Hooks
+pub mod NodePairs
+pub mod NodeSums
+pub mod PairsOff
+pub mod ThreeByThree
+pub mod ThreeRows
+pub mod Transposed

@@ -1,0 +1,3 @@
+pub mod FileOrder
+pub mod FileWords
+pub mod PairFigures

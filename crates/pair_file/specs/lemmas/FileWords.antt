@@ -1,0 +1,103 @@
+-- How many words a file has, what each is, and how the two tables share them.
+-- Assumes nothing.
+use mathlib.Core.Path.{_≡_, refl, sym, _∙_, ap, ap₂}
+use mathlib.Core.List.{List, [], _∷_, _++_}
+use Prim.Native.Nat.{ℕ, zero, suc, _+_, _*_, _/_, _≤_, _<_}
+use native.Mathlib.Numerals.{add-one}
+use native.Mathlib.Decide.{decLt}
+use native.Mathlib.Omega.{arith}
+use lib.ListN.{length, take, drop, set, length-drop}
+use lib.Seq.{take-suc, take-suc-set, take-all, length-take-le}
+use borrow.Author.Tests.{lt-ltb, le-ltb}
+use Rattle.tree_check.specs.Table.{word, nodes}
+use Rattle.tree_check.specs.lemmas.TableParts.{rest, rest-drop}
+use Rattle.pair_file.specs.PairFile.{fileWords, firstLength, firstTable, secondTable}
+
+-- ---- the words
+
+-- two bytes for each word
+pub words-length : (bytes : List ℕ) → length (fileWords bytes) ≡ length bytes / 2
+unfolding fileWords
+words-length [] = refl
+words-length (x ∷ []) = refl
+words-length (x ∷ y ∷ bytes) = omega (arith, words-length bytes)
+
+-- word i is in the bytes 2i and 2i + 1, the lower first
+pub word-at : (bytes : List ℕ) (i : ℕ) → i < length bytes / 2
+    → word (fileWords bytes) i ≡ word bytes (2 * i) + 256 * word bytes (2 * i + 1)
+unfolding fileWords
+word-at [] i l = absurd (omega arith)
+word-at (x ∷ []) i l = absurd (omega arith)
+word-at (x ∷ y ∷ bytes) zero l = refl
+word-at (x ∷ y ∷ bytes) (suc i) l =
+    let low : 2 * suc i ≡ suc (suc (2 * i)) = omega arith in
+    let high : 2 * suc i + 1 ≡ suc (suc (2 * i + 1)) = omega arith in
+    word-at bytes i (omega arith)
+    ∙ sym (ap₂ (λ (j k : ℕ). word (x ∷ y ∷ bytes) j + 256 * word (x ∷ y ∷ bytes) k) low high)
+
+-- one more word is decoded
+pub words-next : (bytes words : List ℕ) (i v : ℕ) → i < length bytes / 2 → i < length words
+    → take i words ≡ take i (fileWords bytes) → v ≡ word bytes (2 * i) + 256 * word bytes (2 * i + 1)
+    → take (i + 1) (set words i v) ≡ take (i + 1) (fileWords bytes)
+words-next bytes words i v l m h e =
+    ap (λ (k : ℕ). take k (set words i v)) (add-one i)
+    ∙ take-suc-set words i v m
+    ∙ ap₂ (λ (xs : List ℕ) (x : ℕ). xs ++ (x ∷ [])) h (e ∙ sym (word-at bytes i l))
+    ∙ sym (take-suc (fileWords bytes) i 0 (omega (arith, words-length bytes)))
+    ∙ ap (λ (k : ℕ). take k (fileWords bytes)) (sym (add-one i))
+
+-- every word is decoded
+pub words-all : (bytes words : List ℕ) (i : ℕ) → i ≡ length bytes / 2
+    → take i words ≡ take i (fileWords bytes) → take i words ≡ fileWords bytes
+words-all bytes words i e h = h ∙ take-all i (fileWords bytes) (omega (arith, words-length bytes))
+
+-- ---- the two tables
+
+module _ (words : List ℕ) where
+  -- 'every word present .. if fewer than two'
+  pub first-few : length words < 2 → length words ≡ firstLength words
+  unfolding firstLength
+  first-few l = rw (lt-ltb (length words) 2 l, firstLength)
+
+  module _ (m : ℕ) (e : m ≡ word words 1) (l : 2 ≤ length words) where
+    -- 'every word present if there are fewer than that'
+    pub first-short : length words < 2 + 2 * m → length words ≡ firstLength words
+    unfolding firstLength nodes
+    first-short s =
+        rw (le-ltb (length words) 2 l, firstLength) (rw (sym e) (rw (lt-ltb (length words) (2 + 2 * m) s) refl))
+
+    -- 'The first tree takes 2 + 2m words by its own word 1'
+    pub first-whole : 2 + 2 * m ≤ length words → 2 + 2 * m ≡ firstLength words
+    unfolding firstLength nodes
+    first-whole s =
+        rw (le-ltb (length words) 2 l, firstLength) (rw (sym e) (rw (le-ltb (length words) (2 + 2 * m) s)
+        (ap (λ (x : ℕ). 2 + 2 * x) e)))
+
+  -- the first table is inside the file
+  first-inside : firstLength words ≤ length words
+  first-inside = elim (decLt (length words) 2) [
+    | yes l ↦ omega (arith, first-few l)
+    | no d ↦ elim (decLt (length words) (2 + 2 * word words 1)) [
+      | yes l ↦ omega (arith, first-short _ refl (omega arith) l)
+      | no e ↦ omega (arith, first-whole _ refl (omega arith) (omega arith))
+    ]
+  ]
+
+  -- the tables have every word between them
+  pub tables-length : length (firstTable words) + length (secondTable words) ≡ length words
+  unfolding firstTable secondTable
+  tables-length = omega (
+    arith,
+    length-take-le (firstLength words) words first-inside,
+    length-drop (firstLength words) words,
+    first-inside,
+  )
+
+  -- `&words[..k]` and `&words[k..]`
+  pub first-part : (k : ℕ) → k ≡ firstLength words → take k words ≡ firstTable words
+  unfolding firstTable
+  first-part k e = ap (λ (j : ℕ). take j words) e
+
+  pub second-part : (k : ℕ) → k ≡ firstLength words → rest k words ≡ secondTable words
+  unfolding secondTable
+  second-part k e = rest-drop k words ∙ ap (λ (j : ℕ). drop j words) e

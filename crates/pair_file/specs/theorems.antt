@@ -1,0 +1,2 @@
+pub mod FileExamples
+pub mod NeverNine

@@ -1,0 +1,80 @@
+-- The quartet table of a pair call has all of demand 3.
+-- Assumes nothing.
+use mathlib.Core.Path.{_≡_, refl, sym, _∙_}
+use mathlib.Core.Logic.{_≢_}
+use Prim.Native.Nat.{ℕ, zero, suc, _+_, _*_, _-_, _%_}
+use native.Mathlib.Omega.{arith}
+use Rattle.tree_check.specs.Table.{Table}
+use Rattle.tree_check.specs.Refusals.{refusal, ifAccepted}
+use Rattle.tree_check.specs.theorems.RefusalLaws.{if-accepted, if-refused}
+use Rattle.counting.specs.Cases.{A, B, C, D, E, quartets}
+use Rattle.counting.specs.theorems.QuartetTheorem.{QuartetTheorem, quartet-theorem}
+use Rattle.pair_check.specs.PairOrder.{PairWithCells, pairOrder}
+use Rattle.pair_check.specs.theorems.PairCheck.{pair-check}
+use Rattle.quartets.specs.QuartetAnswer.{casesOfPair, refusedTable, quartetAnswer, DemandThree}
+
+module _ (t u : Table) (cells : ℕ) where
+  pub accepted : PairWithCells t u cells → quartetAnswer t u cells ≡ casesOfPair t u
+  unfolding quartetAnswer
+  accepted p = if-accepted _ _ _ (pair-check t u cells .1 p)
+
+  pub refused : refusal (pairOrder t u cells) ≢ 0
+      → quartetAnswer t u cells ≡ refusedTable (refusal (pairOrder t u cells))
+  unfolding quartetAnswer
+  refused d = if-refused _ _ _ d
+
+  pub theorem : PairWithCells t u cells → QuartetTheorem t u
+  theorem p = quartet-theorem t u (p .pair .first) (p .pair .second) (p .pair .same-tips)
+
+  own-number : (k : ℕ) → ifAccepted k (casesOfPair t u) (refusedTable k) .refusal ≡ k
+  unfolding ifAccepted
+  own-number zero = refl
+  own-number (suc k) = refl
+
+  multiple : (x y : ℕ) → 24 * x ≡ y → y % 24 ≡ 0
+  multiple x y e = omega arith
+
+  pub demand-three : DemandThree t u cells (quartetAnswer t u cells)
+  unfolding quartetAnswer
+  demand-three = record {
+    number = own-number (refusal (pairOrder t u cells));
+    refused = λ n. rw (refused (λ z. n (own-number (refusal (pairOrder t u cells)) ∙ z)))
+        (refl, refl, refl, refl, refl, refl);
+    formulas = λ p. rw (accepted p) (let h = theorem p in (
+      sym (h .A-counts),
+      sym (h .B-counts),
+      sym (h .C-counts),
+      sym (h .D-counts),
+      sym (h .E-counts),
+    ));
+    counts = λ p. rw (accepted p) (refl, refl, refl, refl, refl);
+    exact = λ p. let h = theorem p in (h .S-even, h .S'-even, h .S2-even, h .S3-fourfold, multiple _ _ (h .all-exact));
+    fits = λ p. rw (accepted p) (let h = theorem p in (
+      h .S-most,
+      h .S'-most,
+      h .S2-most,
+      h .S3-most,
+      h .count-most A,
+      h .count-most B,
+      h .count-most C,
+      h .count-most D,
+      h .count-most E,
+      omega (arith, h .C-fits, h .A-counts, h .B-counts),
+      omega (arith, h .D-fits, h .A-counts, h .B-counts),
+      omega (arith, h .E-fits, h .A-counts, h .B-counts, h .C-counts, h .D-counts),
+    ));
+    total = λ p. rw (accepted p) (let h = theorem p in omega (
+      arith,
+      h .total,
+      h .A-counts,
+      h .B-counts,
+      h .C-counts,
+      h .D-counts,
+      h .E-counts,
+    ));
+    distance = λ p. rw (accepted p) refl;
+    zero-distance = λ p. rw (accepted p) (let h = theorem p in (
+      λ z. h .distance-zero .0 (h .distance-counts ∙ z),
+      λ s. sym (h .distance-counts) ∙ h .distance-zero .1 s,
+    ));
+  }

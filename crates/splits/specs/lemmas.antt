@@ -1,0 +1,3 @@
+pub mod SplitCells
+pub mod SplitLoops
+pub mod SplitsCounted

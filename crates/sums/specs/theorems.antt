@@ -1,0 +1,11 @@
+pub mod BitLaws
+pub mod CountLaws
+pub mod Exclusion
+pub mod FoursLaws
+pub mod Grids
+pub mod Pairings
+pub mod Partners
+pub mod Products
+pub mod SetLaws
+pub mod SumLaws
+pub mod TestLaws

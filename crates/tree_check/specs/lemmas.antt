@@ -1,0 +1,3 @@
+pub mod CheckOutcomes
+pub mod TableParts
+pub mod Tally

@@ -1,0 +1,4 @@
+pub mod CheckLaws
+pub mod RefusalLaws
+pub mod RootedTables
+pub mod TreeCheck

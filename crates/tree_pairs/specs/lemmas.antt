@@ -1,0 +1,11 @@
+pub mod CellSizes
+pub mod Cleared
+pub mod CrossingTotals
+pub mod Filling
+pub mod Grid
+pub mod LentTables
+pub mod NodeCells
+pub mod RowTotals
+pub mod Rows
+pub mod RowsUp
+pub mod TipRows

@@ -1,0 +1,55 @@
+-- A crossing count is a total over the first tree: of the tips at or below a node, those beyond an edge of the second.
+-- Assumes nothing.
+use mathlib.Core.Path.{_≡_, sym, _∙_, ap}
+use mathlib.Core.Bool.{_&&_}
+use Prim.Native.Nat.{ℕ, zero, suc, _*_, _≤_, _<_}
+use native.Mathlib.Omega.{arith}
+use lib.Dec.{ltb}
+use Rattle.sums.specs.theorems.SumLaws.{sum-ext}
+use Rattle.sums.specs.Bits.{bit}
+use Rattle.sums.specs.theorems.BitLaws.{is-other}
+use Rattle.sums.specs.theorems.Products.{bit-and}
+use Rattle.sums.specs.theorems.CountLaws.{count-le}
+use Rattle.shapes.specs.Ancestors.{anc}
+use Rattle.shapes.specs.theorems.AncestorLaws.{anc-at-zero}
+use Rattle.shapes.specs.theorems.Totals.{total}
+use Rattle.tree_check.specs.Table.{Table, tips, nodes, parent, label, nodeOf, beyond}
+use Rattle.tree_check.specs.IsTree.{IsTree}
+use Rattle.tree_check.specs.theorems.RootedTables.{rooted}
+use Rattle.trees.specs.Labels.{node-at, sum-over-tips}
+use Rattle.tree_pairs.specs.Crossings.{edgeCrossing}
+
+-- 1 if node x of the first tree is a tip whose label lies beyond edge j of the second
+abbrev pub tipBeyond : Table → Table → ℕ → ℕ → ℕ
+tipBeyond t u j x = bit (ltb (label t x) (tips t)) * bit (anc (parent u) j (nodeOf u (label t x)))
+
+module _ (t u : Table) (g : IsTree t) where
+  pub crossing-total : (v j : ℕ) → 1 ≤ v → (cells : ℕ → ℕ)
+      → ((x : ℕ) → 1 ≤ x → x < nodes t → cells x ≡ tipBeyond t u j x)
+      → total (parent t) (nodes t) cells v ≡ edgeCrossing t u v j
+  unfolding total edgeCrossing beyond
+  crossing-total v j lv cells h =
+      sum-ext (nodes t) _ _ term
+      ∙ sum-over-tips t g (λ x. bit (anc (parent t) v x) * bit (anc (parent u) j (nodeOf u (label t x))))
+      ∙ sum-ext (tips t) _ _ (λ y l.
+      ap (λ (z : ℕ). bit (anc (parent t) v (nodeOf t y)) * bit (anc (parent u) j (nodeOf u z))) (node-at t g y l .1)
+      ∙ sym (bit-and (anc (parent t) v (nodeOf t y)) (anc (parent u) j (nodeOf u y))))
+    where
+      regroup : (a b c : ℕ) → a * (b * c) ≡ b * (a * c)
+      regroup a b c = omega arith
+
+      none : bit (anc (parent t) v 0) ≡ 0
+      none = anc-at-zero (parent t) (rooted t g) v ∙ is-other v 0 (omega arith)
+
+      gone : (a x b c : ℕ) → a ≡ 0 → a * x ≡ b * (a * c)
+      gone a x b c e = rw e (omega arith)
+
+      term : (x : ℕ) → x < nodes t → bit (anc (parent t) v x) * cells x
+          ≡ bit (ltb (label t x) (tips t)) * (bit (anc (parent t) v x) * bit (anc (parent u) j (nodeOf u (label t x))))
+      term zero l = gone _ (cells 0) _ _ none
+      term (suc x) l = ap (λ (z : ℕ). bit (anc (parent t) v (suc x)) * z) (h (suc x) (omega arith) l) ∙ regroup _ _ _
+
+  -- no more than there are tips
+  pub crossing-most : (v j : ℕ) → edgeCrossing t u v j ≤ 256
+  unfolding edgeCrossing
+  crossing-most v j = omega (arith, count-le (tips t) (λ x. beyond t v x && beyond u j x), g .tips-range)

@@ -1,0 +1,83 @@
+-- Two tables filled through their arrays, as code lends them.
+-- Assumes nothing.
+use mathlib.Core.Path.{_≡_, sym, _∙_, ap₂, subst}
+use mathlib.Core.Logic.{_≢_}
+use mathlib.Core.List.{List}
+use Prim.Native.Nat.{ℕ, _+_, _*_, _-_}
+use native.Mathlib.Omega.{arith}
+use lib.ListN.{length, take, drop}
+use Rattle.tree_check.specs.Table.{Table, word, tips, nodes, parents, labels}
+use Rattle.tree_check.specs.lemmas.TableParts.{rest, tableOf, to-parts, of-parts}
+use Rattle.tree_check.specs.lemmas.TableParts.{parents-length, table-of-parts}
+use Rattle.tree_check.specs.Refusals.{refusal}
+use Rattle.tree_check.specs.theorems.RefusalLaws.{if-accepted, if-refused}
+use Rattle.trees.specs.Arrays.{TreeArrays, tree-arrays}
+use Rattle.pair_check.specs.PairOrder.{PairWithCells, pairOrder}
+use Rattle.pair_check.specs.theorems.PairCheck.{pair-check}
+use Rattle.tree_pairs.specs.Crossings.{crossed, afterCrossings}
+use Rattle.tree_pairs.specs.lemmas.Filling.{PairArrays}
+
+-- the first word is the number of tips, ..
+pub lent-tips : (t : Table) (n : ℕ) → n ≡ word t 0 → n ≡ tips t
+unfolding tips
+lent-tips t n e = e
+
+-- .. the second that of nodes
+pub lent-nodes : (t : Table) (m : ℕ) → m ≡ word t 1 → m ≡ nodes t
+unfolding nodes
+lent-nodes t m e = e
+
+-- the parents `&t[2..2 + m]`
+abbrev pub lentParents : Table → ℕ → List ℕ
+lentParents t m = take (2 + m - 2) (drop 2 t)
+
+-- the labels `&t[2 + m..]`
+abbrev lentLabels : Table → ℕ → List ℕ
+lentLabels t m = rest (2 + m) t
+
+module _ (t u : Table) (work : List ℕ) (h : PairWithCells t u (length work)) (n m k : ℕ)
+    (en : n ≡ word t 0) (em : m ≡ word t 1) (ek : k ≡ word u 1) where
+  pub lent-lengths : (length t ≡ 2 + 2 * m) × (length u ≡ 2 + 2 * k)
+  lent-lengths = (omega (arith, h .pair .first .words, lent-nodes t m em), omega (arith, h .pair .second .words, lent-nodes u k ek))
+
+  own-arrays : PairArrays (tips u) (parents t) (labels t) (parents u) (labels u) work
+  own-arrays = record {
+    first = subst (λ (x : ℕ). TreeArrays x (parents t) (labels t)) (h .pair .same-tips) (tree-arrays t (h .pair .first));
+    second = tree-arrays u (h .pair .second);
+    room = rw (parents-length t (h .pair .first .words), parents-length u (h .pair .second .words)) (h .room);
+  }
+
+  pub lent-arrays : PairArrays n (lentParents t m) (lentLabels t m) (lentParents u k) (lentLabels u k) work
+  lent-arrays =
+      to-parts (λ x ps ls. PairArrays x ps ls (lentParents u k) (lentLabels u k) work)
+      t n m (h .pair .first .words) (lent-tips t n en) (lent-nodes t m em)
+      (to-parts (λ x qs ms. PairArrays x (parents t) (labels t) qs ms work)
+      u (tips t) k (h .pair .second .words) (h .pair .same-tips) (lent-nodes u k ek) own-arrays)
+
+  pub lent-crossed : (new : List ℕ)
+      → new ≡ crossed (tableOf n (lentParents t m) (lentLabels t m)) (tableOf n (lentParents u k) (lentLabels u k)) work
+      → new ≡ crossed t u work
+  lent-crossed new e =
+      of-parts (λ x qs ms. new ≡ crossed (tableOf (tips t) (parents t) (labels t)) (tableOf x qs ms) work)
+      u (tips t) k (h .pair .second .words) (h .pair .same-tips) (lent-nodes u k ek)
+      (of-parts (λ x ps ls. new ≡ crossed (tableOf x ps ls) (tableOf x (lentParents u k) (lentLabels u k)) work)
+      t n m (h .pair .first .words) (lent-tips t n en) (lent-nodes t m em) e)
+      ∙ ap₂ (λ (x y : Table). crossed x y work)
+      (table-of-parts t (h .pair .first .words)) (table-of-parts u (h .pair .second .words))
+
+-- ---- the lent cells afterwards
+
+pub crossings-accepted : (t u : Table) (work new : List ℕ) → PairWithCells t u (length work) → new ≡ crossed t u work
+    → new ≡ afterCrossings t u work
+unfolding afterCrossings
+crossings-accepted t u work new p h = h ∙ sym (if-accepted _ _ _ (pair-check t u (length work) .1 p))
+
+pub crossings-are : (t u : Table) (work new : List ℕ) → PairWithCells t u (length work) → new ≡ afterCrossings t u work
+    → new ≡ crossed t u work
+unfolding afterCrossings
+crossings-are t u work new p h = h ∙ if-accepted _ _ _ (pair-check t u (length work) .1 p)
+
+pub crossings-refused : (t u : Table) (work : List ℕ) (k : ℕ) → k ≡ refusal (pairOrder t u (length work))
+    → k ≢ 0 → work ≡ afterCrossings t u work
+unfolding afterCrossings
+crossings-refused t u work k e d = sym (if-refused _ _ _ (λ z. d (e ∙ z)))

@@ -1,0 +1,40 @@
+-- The definitions computed on document 01's reference pairs.
+-- Assumes nothing.
+use mathlib.Core.Path.{_≡_, refl}
+use mathlib.Core.List.{[], _∷_}
+use Rattle.sums.specs.Sum.{sum}
+use Rattle.sums.specs.Bits.{bit}
+use Rattle.sums.specs.Tests.{some, every}
+use Rattle.shapes.specs.Ancestors.{ancIn, anc}
+use Rattle.tree_check.specs.Table.{tips, nodes, parents, labels, parent, label, nodeBelow, nodeOf, beyond}
+use Rattle.tree_check.specs.Refusals.{refusal}
+use Rattle.tree_check.specs.TreeOrder.{tipsFit, nodesFit, parentFits, labelFits, standing, labelsFit}
+use Rattle.tree_check.specs.TreeOrder.{isChild, children, misplaced, arraysOrder, treeOrder}
+use Rattle.trees.specs.Examples.{P, Q, TwoTips}
+use Rattle.pair_check.specs.PairOrder.{plus, tipsOrder, tablesOrder, workOrder, pairOrder, cellsNeeded}
+use Rattle.tree_pairs.specs.Crossings.{edgeCrossing, inOrder, cellOf}
+
+-- 'Work for P and Q: 41 cells give 9, 42 pass.' Then 8, a refused second table, and a refused first one
+pub edges-of-a-pair :
+    refusal (pairOrder P Q 41) ∷ refusal (pairOrder P Q 42) ∷ refusal (pairOrder P TwoTips 42)
+    ∷ refusal (pairOrder P [] 0) ∷ refusal (pairOrder [] [] 0) ∷ []
+    ≡ 9 ∷ 0 ∷ 8 ∷ 101 ∷ 1 ∷ []
+unfolding
+    refusal pairOrder tablesOrder tipsOrder workOrder plus treeOrder arraysOrder tipsFit nodesFit parentFits
+    labelFits standing labelsFit isChild children misplaced sum bit some every tips nodes parents labels parent label
+edges-of-a-pair = refl
+
+-- P's edges have {1 2 3 4}, {1}, {2 3 4}, {2}, {3 4}, {3}, {4} beyond them, Q's {1 2 3 4}, {1}, {2 3 4}, {2}, {3},
+-- {4}
+pub crossings-of-P-and-Q :
+    inOrder (cellsNeeded P Q) (cellOf P Q)
+    ≡ 4 ∷ 1 ∷ 3 ∷ 1 ∷ 1 ∷ 1
+    ∷ 1 ∷ 1 ∷ 0 ∷ 0 ∷ 0 ∷ 0
+    ∷ 3 ∷ 0 ∷ 3 ∷ 1 ∷ 1 ∷ 1
+    ∷ 1 ∷ 0 ∷ 1 ∷ 1 ∷ 0 ∷ 0
+    ∷ 2 ∷ 0 ∷ 2 ∷ 0 ∷ 1 ∷ 1
+    ∷ 1 ∷ 0 ∷ 1 ∷ 0 ∷ 1 ∷ 0
+    ∷ 1 ∷ 0 ∷ 1 ∷ 0 ∷ 0 ∷ 1 ∷ []
+unfolding
+    inOrder cellOf edgeCrossing sum bit ancIn anc tips nodes parents labels parent label nodeBelow nodeOf beyond
+crossings-of-P-and-Q = refl
