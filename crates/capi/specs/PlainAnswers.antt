@@ -1,6 +1,6 @@
 -- The answers of the libraries as plain structs, field by field.
 -- Assumes nothing.
-use Rattle.trees.specs.declared.edges.PartBeyond.{PartBeyond}
+use Rattle.walks.specs.declared.edges.PartBeyond.{PartBeyond}
 use Rattle.trees.specs.declared.centres.CentreAnswer as trees-centre
 use Rattle.trees.specs.declared.quartet.TopologyAnswer as trees-topology
 use Rattle.trees.specs.Topology.{butterflyOf, partnerOf}
@@ -15,7 +15,7 @@ use Rattle.capi.specs.declared.answers.QuartetTableAnswer.{QuartetTableA
 use Rattle.capi.specs.declared.answers.SplitCountsAnswer.{SplitCountsAnswer}
 
 unfoldable pub plainBeyond : PartBeyond → BeyondAnswer
-plainBeyond a = record { refusal = a .refusal; start = a .start; labels = a .labels }
+plainBeyond a = record { refusal = a .refusal; start = a .start; labels = a .count }
 
 unfoldable pub plainCentre : trees-centre.CentreAnswer → CentreAnswer
 plainCentre a = record { refusal = a .refusal; node = a .node }

@@ -9,6 +9,8 @@ use quartets::claim_sums;
 use quartets::crossings;
 use quartets::quartet_table;
 use quartets::split_counts;
+use table_words::Cell;
+use table_words::as_count;
 use trees::Topology;
 use trees::centre;
 use trees::check;
@@ -20,8 +22,8 @@ ghost use mathlib.Core.Path.{_≡_};
 ghost use lib.ListN.{length};
 ghost use Rattle.tree_check.specs.Refusals.{refusal};
 ghost use Rattle.tree_check.specs.TreeOrder.{treeOrder};
-ghost use Rattle.trees.specs.Orders.{walkOrder};
-ghost use Rattle.trees.specs.Walk.{afterWalk, placeBeyond};
+ghost use Rattle.walks.specs.WalkOrders.{walkOrder};
+ghost use Rattle.walks.specs.Walk.{afterWalk, placeBeyond};
 ghost use Rattle.trees.specs.Centre.{centreAnswer};
 ghost use Rattle.trees.specs.Topology.{topologyAnswer};
 ghost use Rattle.pair_check.specs.PairOrder.{pairOrder};
@@ -60,7 +62,7 @@ pub extern "C" fn leskwyn_beyond(table: &[u16], edge: u16, cells: usize) -> Beyo
     BeyondAnswer {
         refusal: part.refusal,
         start: part.start,
-        labels: part.labels,
+        labels: part.count,
     }
 }
 
@@ -99,7 +101,7 @@ pub extern "C" fn leskwyn_topology(table: &[u16], a: u16, b: u16, c: u16, d: u16
 
 // The pair's number, and the crossings in the lent cells.
 #[no_mangle]
-pub extern "C" fn leskwyn_crossings(first: &[u16], second: &[u16], work: &mut [u16]) -> u16
+pub extern "C" fn leskwyn_crossings(first: &[u16], second: &[u16], work: &mut [Cell]) -> u16
     ensures { λ r. ⌜
         (r ≡ refusal (pairOrder (now (first .entry)) (now (second .entry)) (length (now (work .entry)))))
         × (now (work .exit) ≡ afterCrossings (now (first .entry)) (now (second .entry)) (now (work .entry)))
@@ -113,7 +115,7 @@ pub extern "C" fn leskwyn_crossings(first: &[u16], second: &[u16], work: &mut [u
 pub extern "C" fn leskwyn_claim_sums(
     first: &[u16],
     second: &[u16],
-    work: &mut [u16],
+    work: &mut [Cell],
 ) -> ClaimSumsAnswer
     ensures { λ r. ⌜
         (r ≡ plainClaims (claimAnswer (now (first .entry)) (now (second .entry)) (length (now (work .entry)))))
@@ -135,7 +137,7 @@ pub extern "C" fn leskwyn_claim_sums(
 pub extern "C" fn leskwyn_quartet_table(
     first: &[u16],
     second: &[u16],
-    work: &mut [u16],
+    work: &mut [Cell],
 ) -> QuartetTableAnswer
     ensures { λ r. ⌜
         (r ≡ plainTable (quartetAnswer (now (first .entry)) (now (second .entry)) (length (now (work .entry)))))
@@ -155,19 +157,12 @@ pub extern "C" fn leskwyn_quartet_table(
     }
 }
 
-// A count as a wider one.
-fn widened(x: u16) -> u64
-    ensures { λ r. ⌜ r ≡ x ⌝ }
-{
-    x as u64
-}
-
 // The split counts, and the crossings in the lent cells.
 #[no_mangle]
 pub extern "C" fn leskwyn_split_counts(
     first: &[u16],
     second: &[u16],
-    work: &mut [u16],
+    work: &mut [Cell],
 ) -> SplitCountsAnswer
     ensures { λ r. ⌜
         (r ≡ plainSplits (splitAnswer (now (first .entry)) (now (second .entry)) (length (now (work .entry)))))
@@ -177,9 +172,9 @@ pub extern "C" fn leskwyn_split_counts(
     let counts = split_counts(first, second, work);
     SplitCountsAnswer {
         refusal: counts.refusal,
-        first: widened(counts.first),
-        second: widened(counts.second),
-        common: widened(counts.common),
-        distance: widened(counts.distance),
+        first: as_count(counts.first),
+        second: as_count(counts.second),
+        common: as_count(counts.common),
+        distance: as_count(counts.distance),
     }
 }

@@ -8,7 +8,7 @@ use lib.ListN.{length}
 use Rattle.sums.specs.Sum.{sum}
 use Rattle.sums.specs.theorems.SumLaws.{sum-ext, sum-cong}
 use Rattle.tree_check.specs.Table.{word}
-use Rattle.node_pairs.specs.Cells.{pairS2, pairS3}
+use Rattle.node_pairs.specs.theorems.Cells.{pairS2, pairS3}
 use Rattle.node_pairs.specs.theorems.Aggregates.{transposed, rowSum, columnSum, down, along}
 use Rattle.node_pairs.specs.theorems.Transposed.{pairS2-transposed, pairS3-transposed}
 use Rattle.node_pairs.specs.theorems.CellForms.{pairS2-cells}

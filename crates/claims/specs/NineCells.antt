@@ -7,7 +7,7 @@ use native.Mathlib.Omega.{arith}
 use Rattle.sums.specs.theorems.Products.{product-le}
 use Rattle.shapes.specs.Claims.{choose2}
 use Rattle.shapes.specs.theorems.OrderedClaims.{choose2-square}
-use Rattle.node_pairs.specs.Cells.{pairS2, pairS3}
+use Rattle.node_pairs.specs.theorems.Cells.{pairS2, pairS3}
 use Rattle.node_pairs.specs.theorems.ThreeByThree.{termS2, termS3, sumRow, sumNine, pairS2-three, pairS3-three}
 
 -- the nine cells are crossings of at most 256 tips

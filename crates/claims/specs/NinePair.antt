@@ -5,7 +5,7 @@ use mathlib.Core.List.{List}
 use Prim.Native.Nat.{ℕ, zero, suc, _+_, _*_, _-_, _≤_, _<_}
 use native.Mathlib.Omega.{arith}
 use lib.ListN.{length}
-use Rattle.node_pairs.specs.Cells.{pairS2, pairS3}
+use Rattle.node_pairs.specs.theorems.Cells.{pairS2, pairS3}
 use Rattle.node_pairs.specs.theorems.CellsAlike.{pairS2-ext, pairS3-ext}
 use Rattle.tree_check.specs.Table.{word}
 use Rattle.claims.specs.CodeCells.{CellRoom, codeCell, ownCell, childCell}

@@ -9,7 +9,7 @@ use lib.ListN.{length}
 use Rattle.sums.specs.Sum.{sum}
 use Rattle.sums.specs.theorems.SumLaws.{sum-ext}
 use Rattle.shapes.specs.Claims.{choose2}
-use Rattle.node_pairs.specs.Cells.{sumApart, pairS2, pairS3}
+use Rattle.node_pairs.specs.theorems.Cells.{sumApart, pairS2, pairS3}
 use Rattle.node_pairs.specs.theorems.CellTotals.{apart-few, pairS2-few, pairS3-few}
 use Rattle.node_pairs.specs.theorems.CellsAlike.{apart-ext, pairS2-ext, pairS3-ext}
 use Rattle.tree_check.specs.Table.{Table, tips, nodes, parents}

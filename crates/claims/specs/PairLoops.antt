@@ -10,7 +10,7 @@ use lib.ListN.{length}
 use Rattle.sums.specs.Sum.{sum}
 use Rattle.sums.specs.theorems.SumLaws.{sum-suc, sum-ext, sum-cong, sum-none, sum-ge, sum-part}
 use Rattle.sums.specs.theorems.Products.{product-le}
-use Rattle.node_pairs.specs.Cells.{pairS2, pairS3}
+use Rattle.node_pairs.specs.theorems.Cells.{pairS2, pairS3}
 use Rattle.node_pairs.specs.theorems.CellTotals.{pairS2-few, pairS3-few}
 use Rattle.node_pairs.specs.theorems.CellsAlike.{pairS2-ext, pairS3-ext}
 use Rattle.tree_check.specs.Table.{word}

@@ -8,7 +8,7 @@ use lib.ListN.{length}
 use Rattle.sums.specs.Sum.{sum}
 use Rattle.sums.specs.theorems.Products.{product-le}
 use Rattle.sums.specs.theorems.Exclusion.{pair-apart}
-use Rattle.node_pairs.specs.Cells.{pairS2, pairS3}
+use Rattle.node_pairs.specs.theorems.Cells.{pairS2, pairS3}
 use Rattle.node_pairs.specs.theorems.ThreeRows.{products, weighed, products3, weighed3, products-turned, weighed-turned}
 use Rattle.node_pairs.specs.theorems.ThreeRows.{three-rows-S2, three-rows-S3}
 use Rattle.claims.specs.Lines.{lineCell}

@@ -9,7 +9,7 @@ use super::three_lines::three_lines;
 ghost use mathlib.Core.Path.{_≡_};
 ghost use Prim.Native.Nat.{_≤_};
 ghost use lib.ListN.{length};
-ghost use Rattle.node_pairs.specs.Cells.{pairS2, pairS3};
+ghost use Rattle.node_pairs.specs.theorems.Cells.{pairS2, pairS3};
 ghost use Rattle.claims.specs.Block.{Block, Scratch, blockCell};
 ghost use Rattle.claims.specs.BlockCells.{Summed};
 ghost use Rattle.claims.specs.BlockTerms.{Rectangles};

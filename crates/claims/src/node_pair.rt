@@ -11,7 +11,7 @@ use super::words::big;
 ghost use mathlib.Core.Path.{_≡_};
 ghost use Prim.Native.Nat.{_+_, _≤_};
 ghost use lib.ListN.{length};
-ghost use Rattle.node_pairs.specs.Cells.{pairS2, pairS3};
+ghost use Rattle.node_pairs.specs.theorems.Cells.{pairS2, pairS3};
 ghost use Rattle.tree_check.specs.Table.{word};
 ghost use Rattle.claims.specs.Block.{Scratch};
 ghost use Rattle.claims.specs.CodeCells.{codeCell};

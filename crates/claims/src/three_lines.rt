@@ -3,7 +3,7 @@ use super::terms::PairTerms;
 use super::words::big;
 ghost use mathlib.Core.Path.{_≡_};
 ghost use Prim.Native.Nat.{_+_, _*_, _≤_};
-ghost use Rattle.node_pairs.specs.Cells.{pairS2, pairS3};
+ghost use Rattle.node_pairs.specs.theorems.Cells.{pairS2, pairS3};
 ghost use Rattle.node_pairs.specs.theorems.ThreeRows.{products3, weighed3};
 ghost use Rattle.claims.specs.LineDots.{FewLines, lineOf};
 ghost use Rattle.claims.specs.Lines.{lineCell};

@@ -10,8 +10,8 @@ use Rattle.trees.specs.declared.quartet.Topology.the-variants.{Butterfly, Star}
 use Rattle.tree_check.specs.Table.{Table, tips}
 use Rattle.trees.specs.Topology.{topology}
 
--- 'A same butterfly in both; B different butterflies; C butterfly in the first only; D butterfly in the second only;
--- E star in both.'
+-- A: the same butterfly in both trees; B: two different ones; C: a butterfly in the first tree alone; D: in the second
+-- alone; E: a star in both
 pub data Case : Type 0 where
   A : Case
   B : Case
@@ -37,6 +37,6 @@ caseNumber E = 4
 unfoldable pub isCase : Case → Case → Bool
 isCase c k = eqb (caseNumber c) (caseNumber k)
 
--- 'its case is read from its two topologies, one in each tree': how many sets of four are in the case k
+-- how many sets of four labels are in the case k
 unfoldable pub quartets : Table → Table → Case → ℕ
 quartets t u k = sets4 (tips t) (λ w x y z. bit (isCase (caseOf (topology t w x y z) (topology u w x y z)) k))

@@ -7,11 +7,11 @@ use Rattle.shapes.specs.Directions.{behind}
 use Rattle.shapes.specs.Claims.{sumClaims, claimTerm, equation1, dcount}
 use Rattle.tree_check.specs.Table.{Table, tips, nodes, parent, nodeOf}
 
--- 'A directed edge is an edge with a direction, two for each edge': codes below this number
+-- the codes of directed edges, two for each edge, are the numbers below this one
 unfoldable pub codes : Table → ℕ
 codes t = 2 * (nodes t - 1)
 
--- the label x is among 'the set of tips behind' the directed edge with the code c
+-- the label x lies behind the directed edge with the code c
 unfoldable pub behindEdge : Table → ℕ → ℕ → Bool
 behindEdge t c x = behind (parent t) c (nodeOf t x)
 
@@ -23,15 +23,15 @@ size t c = count (tips t) (behindEdge t c)
 unfoldable pub crossing : Table → Table → ℕ → ℕ → ℕ
 crossing t u c d = count (tips t) (λ x. behindEdge t c x && behindEdge u d x)
 
--- 'S is the sum over the first tree's claims of |T1|(|T1| − 1)/2 · |T2| · |T3|; S′ is the same for the second tree.'
+-- the sum over the claims of a tree of |T1|(|T1| − 1)/2 · |T2| · |T3|: S of the first tree, S′ of the second
 unfoldable pub S : Table → ℕ
 S t = sumClaims (parent t) (codes t) (claimTerm (size t))
 
--- 'S2 is the sum over all pairs of claims, one from each tree, of equation (1) in document 001.'
+-- the sum of equation (1) of document 001 over all pairs of claims, one of each tree
 unfoldable pub S2 : Table → Table → ℕ
 S2 t u =
     sumClaims (parent t) (codes t) (λ e f g. sumClaims (parent u) (codes u) (equation1 (crossing t u) e f g))
 
--- 'S3 is the sum over the same pairs of its four-term dcount expression, on the claims of the original trees'
+-- the sum of the four terms of dcount over the same pairs, on the claims of the trees as they are given
 unfoldable pub S3 : Table → Table → ℕ
 S3 t u = sumClaims (parent t) (codes t) (λ e f g. sumClaims (parent u) (codes u) (dcount (crossing t u) e f g))

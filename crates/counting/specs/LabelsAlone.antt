@@ -1,4 +1,5 @@
--- 'Tip labels alone count': what two tables with the same splits have in common.
+-- Labels alone: what two tables with the same splits have in common (docs/SPECIFICATION.md, 'Demand 2: acceptance,
+-- published figures, labels alone').
 -- Assumes nothing.
 use mathlib.Core.Path.{_≡_}
 use mathlib.Core.List.{[]}
@@ -24,7 +25,7 @@ pub record SameFigures (t u t' u' : Table) : Type 0 where
   pub common : commonSplits t u ≡ commonSplits t' u'
   pub robinson-foulds : robinsonFoulds t u ≡ robinsonFoulds t' u'
 
--- 'Tip labels alone count'
+-- what is counted depends on the labels of the tips alone
 pub record LabelsAlone (t t' : Table) : Type 0 where
   -- what topology_of answers of any four labels, refused or not
   pub topologies : (a b c d : ℕ) → topologyAnswer t a b c d ≡ topologyAnswer t' a b c d

@@ -41,20 +41,20 @@ refusedWord = 114 ∷ 101 ∷ 102 ∷ 117 ∷ 115 ∷ 101 ∷ 100 ∷ []
 
 -- ---- the lines
 
--- 'prints tips; S S′ S2 S3; ..'
+-- n; S, S′, S2 and S3
 unfoldable pub firstLines : Figures → List ℕ
 firstLines f =
     line leavesWord (f .tips ∷ [])
     ++ line claimsWord (f .claims .first ∷ f .claims .second ∷ f .claims .same ∷ f .claims .different ∷ [])
 
--- '.. A to E; distance; ..'
+-- A to E; the distance
 unfoldable pub quartetLines : Figures → List ℕ
 quartetLines f =
     line quartetsWord
     (f .quartets .a ∷ f .quartets .b ∷ f .quartets .c ∷ f .quartets .d ∷ f .quartets .e ∷ [])
     ++ line distanceWord (f .distance ∷ [])
 
--- '.. splits of the first, of the second, common, Robinson-Foulds distance'
+-- the four split counts
 unfoldable pub splitLine : Figures → List ℕ
 splitLine f =
     line splitsWord (f .splits .first ∷ f .splits .second ∷ f .splits .common ∷ f .splits .distance ∷ [])
@@ -62,7 +62,7 @@ splitLine f =
 unfoldable pub lines : Figures → List ℕ
 lines f = firstLines f ++ quartetLines f ++ splitLine f
 
--- 'A refusal prints one line, as `refused 4`'
+-- five lines, or one line for a refusal, as `refused 4`
 unfoldable pub listed : Figures → List ℕ
 listed f = elim (eqb (f .refusal) 0) [ true ↦ lines f | false ↦ line refusedWord (f .refusal ∷ []) ]
 

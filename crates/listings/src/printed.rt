@@ -2,6 +2,7 @@
 use super::figures::Figures;
 use super::text::copy;
 use super::text::put_line;
+use table_words::as_count;
 ghost use mathlib.Core.Path.{_≡_};
 ghost use Prim.Native.Nat.{_≤_, _+_};
 ghost use lib.ListN.{length};
@@ -10,18 +11,12 @@ ghost use Rattle.listings.specs.lemmas.Written.{Written};
 ghost use Rattle.listings.specs.Listing.{firstLines, quartetLines, splitLine, lines, listed};
 ghost use Rattle.listings.specs.Listing.{bytesListed, afterListing};
 
-fn wide(x: u16) -> u64
-    ensures { λ r. ⌜ r ≡ x ⌝ }
-{
-    x as u64
-}
-
 // The lines of the tips and of the claim sums.
 fn put_first_lines(figures: Figures, out: &mut [u8]) -> usize
     requires { ⌜ 119 ≤ length (now out) ⌝ }
     ensures { λ r. ⌜ Written 0 (now (out .entry)) (firstLines figures) r (now (out .exit)) × (r ≤ 119) ⌝ }
 {
-    let tips = [wide(figures.tips)];
+    let tips = [as_count(figures.tips)];
     let sums = figures.claims;
     let claims = [sums.first, sums.second, sums.same, sums.different];
     let end = put_line(b"leaves", &tips, 0, out);
@@ -47,10 +42,10 @@ fn put_split_line(figures: Figures, at: usize, out: &mut [u8]) -> usize
 {
     let counts = figures.splits;
     let splits = [
-        wide(counts.first),
-        wide(counts.second),
-        wide(counts.common),
-        wide(counts.distance),
+        as_count(counts.first),
+        as_count(counts.second),
+        as_count(counts.common),
+        as_count(counts.distance),
     ];
     put_line(b"splits", &splits, at, out)
 }
@@ -73,7 +68,7 @@ fn put_listing(figures: Figures, out: &mut [u8]) -> usize
     if figures.refusal == 0 {
         return put_lines(figures, out);
     }
-    let refusal = [wide(figures.refusal)];
+    let refusal = [as_count(figures.refusal)];
     put_line(b"refused", &refusal, 0, out)
 }
 

@@ -2,6 +2,7 @@ pub mod Aggregates
 pub mod ApartSums
 pub mod CellForms
 pub mod CellTotals
+pub mod Cells
 pub mod CellsAlike
 pub mod ClosedForms
 pub mod CodeLists

@@ -21,7 +21,7 @@ checkedPair t u = verdict (refusal (tablesOrder t u)) t u
 unfoldable pub checkedWork : Table → Table → ℕ → CheckedPair
 checkedWork t u cells = verdict (refusal (pairOrder t u cells)) t u
 
--- document 01's number and values of each case: 0 with n and the edges of both trees, or the number with zeros
+-- the number and values of each case: 0 with n and the edges of both trees, or the number with zeros
 abbrev pub numberOf : CheckedPair → ℕ
 numberOf (Pair n rows columns) = 0
 numberOf (Refused k) = k

@@ -10,16 +10,16 @@ use Rattle.tree_check.specs.Refusals.{Rule}
 use Rattle.tree_check.specs.IsTree.{IsTree}
 use Rattle.tree_check.specs.TreeOrder.{treeOrder}
 
--- 'by the same numbers plus 100'
+-- the same rules, their numbers plus k
 unfoldable pub plus : ℕ → List Rule → List Rule
 plus k [] = []
 plus k (r ∷ rs) = (k + r .0, r .1) ∷ plus k rs
 
--- 'Then 8: the two n differ.'
+-- 8: the two n differ
 unfoldable pub tipsOrder : Table → Table → List Rule
 tipsOrder t u = (8, not (eqb (tips t) (tips u))) ∷ []
 
--- 'First tree by 1 to 7 .. Second tree by the same numbers plus 100. Then 8': what two tables alone are held to
+-- the first table by 1 to 7, the second by 101 to 107, then 8: what two tables alone are held to
 unfoldable pub tablesOrder : Table → Table → List Rule
 tablesOrder t u = treeOrder t ++ (plus 100 (treeOrder u) ++ tipsOrder t u)
 
@@ -27,7 +27,7 @@ tablesOrder t u = treeOrder t ++ (plus 100 (treeOrder u) ++ tipsOrder t u)
 abbrev pub cellsNeeded : Table → Table → ℕ
 cellsNeeded t u = (nodes t - 1) * (nodes u - 1)
 
--- 'Then 9: the work slice .. has fewer than (m − 1)(m′ − 1) cells'
+-- 9: there are fewer than (m − 1)(m′ − 1) work cells
 unfoldable pub workOrder : Table → Table → ℕ → List Rule
 workOrder t u cells = (9, ltb cells (cellsNeeded t u)) ∷ []
 

@@ -1,6 +1,5 @@
 // Two tree tables checked together, with the number of work cells or without. Every public function takes any words in
 // slices of any length, and tells a pair or one number.
-mod words; // words.rt: words as indices
 mod pairs; // pairs.rt: the pair check
 
 pub use pairs::CheckedPair;

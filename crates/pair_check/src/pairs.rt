@@ -1,5 +1,5 @@
 // The pair check: whether two tables are tree tables on the same tips, and whether the lent work has cells enough.
-use super::words::wide;
+use table_words::as_index;
 use tree_check::Checked;
 use tree_check::check;
 use tree_check::refusal_of;
@@ -18,7 +18,7 @@ pub enum CheckedPair {
     Refused(u16),
 }
 
-// Document 01's number of an answer: 0 for accepted.
+// The number of an answer: 0 for accepted.
 pub fn pair_refusal(answer: CheckedPair) -> u16
     ensures { λ r. ⌜ r ≡ numberOf answer ⌝ }
 {
@@ -44,7 +44,7 @@ pub fn check_pair(first: &[u16], second: &[u16]) -> CheckedPair
         return CheckedPair::Refused(refusal_of(answer));
     };
     let n = tips;
-    let rows = wide(nodes) - 1;
+    let rows = as_index(nodes) - 1;
     let other = check(second);
     let Checked::Tree { tips, nodes } = other else {
         return CheckedPair::Refused(100 + refusal_of(other));
@@ -55,7 +55,7 @@ pub fn check_pair(first: &[u16], second: &[u16]) -> CheckedPair
     CheckedPair::Pair {
         tips: n,
         rows,
-        columns: wide(nodes) - 1,
+        columns: as_index(nodes) - 1,
     }
 }
 

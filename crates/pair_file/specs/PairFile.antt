@@ -14,14 +14,14 @@ use Rattle.pair_check.specs.PairOrder.{pairOrder}
 use Rattle.listings.specs.declared.figures.Figures.{Figures}
 use Rattle.listings.specs.Listing.{ofRefusal}
 
--- 'Words are unsigned 16-bit numbers, little-endian in a file'; a last odd byte gives none
+-- words of 16 bits, the lower byte first; a last odd byte gives none
 unfoldable pub fileWords : List ℕ → List ℕ
 fileWords [] = []
 fileWords (x ∷ []) = []
 fileWords (x ∷ y ∷ bytes) = (x + 256 * y) ∷ fileWords bytes
 
--- 'The first tree takes 2 + 2m words by its own word 1, or every word present if there are fewer than that, or fewer
--- than two; ..'
+-- the first table has 2 + 2m words by its own word 1, or all words of the file if there are fewer than that, or fewer
+-- than two
 unfoldable pub firstLength : List ℕ → ℕ
 firstLength words =
     elim (ltb (length words) 2) [
@@ -32,7 +32,7 @@ firstLength words =
 unfoldable pub firstTable : List ℕ → Table
 firstTable words = take (firstLength words) words
 
--- '.. the second takes the rest.'
+-- the second table has the other words
 unfoldable pub secondTable : List ℕ → Table
 secondTable words = drop (firstLength words) words
 
@@ -42,11 +42,11 @@ wordsOrder words = pairOrder (firstTable words) (secondTable words) 15625
 
 unfoldable pub fileOrder : List ℕ → List Rule
 fileOrder bytes =
-    -- '14: more than 1016 bytes.'
+    -- more than 1016 bytes
     (14, ltb 1016 (length bytes))
-    -- '15: an odd number of bytes.'
+    -- an odd number of bytes
     ∷ (15, not (eqb (length bytes % 2) 0))
-    -- 'Then the pair's order.'
+    -- then the pair's order
     ∷ wordsOrder (fileWords bytes)
 
 -- the figures of two tables

@@ -14,6 +14,7 @@ use quartets::SplitCounts;
 use quartets::claim_sums;
 use quartets::quartet_table;
 use quartets::split_counts;
+use table_words::Cell;
 ghost use mathlib.Core.Path.{_≡_};
 ghost use Rattle.splits.specs.SplitAnswer.{splitAnswer};
 ghost use Rattle.claims.specs.SumsOf.{claimAnswer};
@@ -29,7 +30,7 @@ const CELLS: usize = 15625;
 fn claims_of(first: &[u16], second: &[u16]) -> ClaimSums
     ensures { λ r. ⌜ r ≡ claimAnswer (now (first .entry)) (now (second .entry)) 15625 ⌝ }
 {
-    let mut work = [0u16; CELLS];
+    let mut work: [Cell; CELLS] = [0; CELLS];
     claim_sums(first, second, &mut work)
 }
 
@@ -37,7 +38,7 @@ fn claims_of(first: &[u16], second: &[u16]) -> ClaimSums
 fn quartets_of(first: &[u16], second: &[u16]) -> QuartetTable
     ensures { λ r. ⌜ r ≡ quartetAnswer (now (first .entry)) (now (second .entry)) 15625 ⌝ }
 {
-    let mut work = [0u16; CELLS];
+    let mut work: [Cell; CELLS] = [0; CELLS];
     quartet_table(first, second, &mut work)
 }
 
@@ -45,7 +46,7 @@ fn quartets_of(first: &[u16], second: &[u16]) -> QuartetTable
 fn splits_of(first: &[u16], second: &[u16]) -> SplitCounts
     ensures { λ r. ⌜ r ≡ splitAnswer (now (first .entry)) (now (second .entry)) 15625 ⌝ }
 {
-    let mut work = [0u16; CELLS];
+    let mut work: [Cell; CELLS] = [0; CELLS];
     split_counts(first, second, &mut work)
 }
 

@@ -1,4 +1,5 @@
 // The words of a comparison file, and how many of them the first tree takes.
+use table_words::as_index;
 ghost use mathlib.Core.Path.{_≡_};
 ghost use Prim.Native.Nat.{_+_, _*_, _/_, _≤_, _<_};
 ghost use lib.ListN.{length, take};
@@ -9,13 +10,6 @@ fn word_of(low: u8, high: u8) -> u16
     ensures { λ r. ⌜ r ≡ low + 256 * high ⌝ }
 {
     low as u16 + 256 * (high as u16)
-}
-
-// A word as an index.
-fn wide(x: u16) -> usize
-    ensures { λ r. ⌜ (r ≡ x) × (r < 65536) ⌝ }
-{
-    x as usize
 }
 
 // The words of the bytes, in front of `words`; and how many there are. A last odd byte gives none.
@@ -42,7 +36,7 @@ pub(crate) fn first_length(words: &[u16]) -> usize
     if words.len() < 2 {
         return words.len();
     }
-    let whole = 2 + 2 * wide(words[1]);
+    let whole = 2 + 2 * as_index(words[1]);
     if words.len() < whole {
         return words.len();
     }

@@ -1,4 +1,4 @@
--- The quartet table of a pair call, and demand 3 in one record.
+-- The quartet table of a pair call, and demand 3 in one record (docs/SPECIFICATION.md, 'Demand 3: the quartet table').
 -- Assumes nothing.
 use mathlib.Core.Path.{_≡_}
 use mathlib.Core.Logic.{_≢_, _↔_}
@@ -42,31 +42,31 @@ pub record DemandThree (t u : Table) (cells : ℕ) (r : QuartetTable) : Type 0 w
   -- one refusal number in a fixed order, and then zero counts
   pub number : r .refusal ≡ refusal (pairOrder t u cells)
   pub refused : r .refusal ≢ 0 → (r .a ≡ 0) × (r .b ≡ 0) × (r .c ≡ 0) × (r .d ≡ 0) × (r .e ≡ 0) × (r .distance ≡ 0)
-  -- 'the quartet table is formed by its five formulas from the four claim sums and the number of tips alone'
+  -- the table is formed from the four claim sums and n, and from nothing else, by the five formulas
   pub formulas : PairWithCells t u cells
       → (r .a ≡ formulaA (S2 t u))
       × (r .b ≡ formulaB (S3 t u))
       × (r .c ≡ formulaC (S t) (S2 t u) (S3 t u))
       × (r .d ≡ formulaD (S u) (S2 t u) (S3 t u))
       × (r .e ≡ formulaE (tips t) (S t) (S u) (S2 t u) (S3 t u))
-  -- 'each of A to E equals the number of four-tip sets whose topologies put them in that case'
+  -- each of A to E is the number of sets of four whose two topologies put them in that case
   pub counts : PairWithCells t u cells
       → (r .a ≡ quartets t u A)
       × (r .b ≡ quartets t u B)
       × (r .c ≡ quartets t u C)
       × (r .d ≡ quartets t u D)
       × (r .e ≡ quartets t u E)
-  -- 'Every division leaves nothing over': the halves, the quarter, and all sets of four by 24
+  -- no division leaves a remainder: the halves, the quarter, and all sets of four by 24
   pub exact : PairWithCells t u cells
       → (S t % 2 ≡ 0) × (S u % 2 ≡ 0) × (S2 t u % 2 ≡ 0) × (S3 t u % 4 ≡ 0)
       × (tips t * (tips t - 1) * (tips t - 2) * (tips t - 3) % 24 ≡ 0)
-  -- 'nothing wraps up to 256 tips': the sums and the counts are at most these, and nothing is cut off at 0
+  -- nothing wraps: the sums and the counts are at most these, and no subtraction is cut off at 0
   pub fits : PairWithCells t u cells
       → (S t ≤ 349585280) × (S u ≤ 349585280) × (S2 t u ≤ 349585280) × (S3 t u ≤ 699170560)
       × (r .a ≤ 174792640) × (r .b ≤ 174792640) × (r .c ≤ 174792640) × (r .d ≤ 174792640) × (r .e ≤ 174792640)
       × (r .a + r .b ≤ S t / 2) × (r .a + r .b ≤ S u / 2) × (r .a + r .b + r .c + r .d ≤ fours (tips t))
-  -- 'the five add up to all sets of four'
+  -- the five add up to all sets of four
   pub total : PairWithCells t u cells → r .a + r .b + r .c + r .d + r .e ≡ fours (tips t)
-  -- 'the distance B + C + D is zero exactly when the trees have the same splits'
+  -- the distance B + C + D is 0 exactly if the two trees have the same splits
   pub distance : PairWithCells t u cells → r .distance ≡ r .b + r .c + r .d
   pub zero-distance : PairWithCells t u cells → (r .distance ≡ 0) ↔ HaveSameSplits t u

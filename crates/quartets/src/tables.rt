@@ -4,6 +4,8 @@ use claims::claim_sums;
 use pair_check::CheckedPair;
 use pair_check::check_work;
 use pair_check::pair_refusal;
+use table_words::Cell;
+use table_words::as_index;
 ghost use mathlib.Core.Path.{_≡_};
 ghost use lib.ListN.{length};
 ghost use Rattle.tree_pairs.specs.Crossings.{afterCrossings};
@@ -29,13 +31,6 @@ fn widened(x: u32) -> u64
     x as u64
 }
 
-// A word as an index.
-fn wide(x: u16) -> usize
-    ensures { λ r. ⌜ r ≡ x ⌝ }
-{
-    x as usize
-}
-
 // The five formulas, from the four claim sums and n alone.
 fn form_table(first: u64, second: u64, same: u64, different: u64, n: u16) -> QuartetTable
     requires { ⌜ TableFits n first second same different ⌝ }
@@ -45,7 +40,7 @@ fn form_table(first: u64, second: u64, same: u64, different: u64, n: u16) -> Qua
     let b = different / 4;
     let c = first / 2 - a - b;
     let d = second / 2 - a - b;
-    let all = widened(sets_of_four(wide(n)));
+    let all = widened(sets_of_four(as_index(n)));
     let e = all - a - b - c - d;
     let distance = b + c + d;
     QuartetTable {
@@ -60,7 +55,7 @@ fn form_table(first: u64, second: u64, same: u64, different: u64, n: u16) -> Qua
 }
 
 // The quartet table, with the crossings in the cells afterwards.
-pub fn quartet_table(first: &[u16], second: &[u16], work: &mut [u16]) -> QuartetTable
+pub fn quartet_table(first: &[u16], second: &[u16], work: &mut [Cell]) -> QuartetTable
     ensures { λ r. ⌜
         (r ≡ quartetAnswer (now (first .entry)) (now (second .entry)) (length (now (work .entry))))
         × DemandThree (now (first .entry)) (now (second .entry)) (length (now (work .entry))) r

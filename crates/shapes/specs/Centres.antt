@@ -4,7 +4,7 @@ use mathlib.Core.Bool.{Bool, true, false, _&&_}
 use Prim.Native.Nat.{ℕ, zero, suc}
 use Rattle.shapes.specs.Paths.{onPath}
 
--- 'the node where the three paths between them join': v is on all three
+-- v is on all three paths between three nodes
 unfoldable pub onAll : (ℕ → ℕ) → ℕ → ℕ → ℕ → ℕ → ℕ → Bool
 onAll up k v a b c = onPath up k v a b && onPath up k v a c && onPath up k v b c
 

@@ -1,4 +1,4 @@
--- Claims, and the claim sums of document 01 over two trees given by parents.
+-- Claims, and the claim sums over two trees given by parents (docs/SPECIFICATION.md, 'Claims', 'The claim sums').
 -- Assumes nothing.
 use mathlib.Core.Bool.{Bool, true, false, _&&_}
 use Prim.Native.Nat.{ℕ, zero, suc, _+_, _*_, _-_, _/_}
@@ -15,9 +15,9 @@ sumIf (suc n) q f = elim (q n) [ true ↦ sumIf n q f + f n | false ↦ sumIf n 
 unfoldable pub meet : (ℕ → ℕ) → ℕ → ℕ → Bool
 meet up e f = elim (eqb e f) [ true ↦ false | false ↦ eqb (head up e) (head up f) ]
 
--- 'A claim is a directed edge e with an unordered pair of different subtrees T2, T3 at the node e points to, neither of
--- them through e': three different codes e; f < g with one head. The sum of F over the claims of e in a tree with that
--- many codes, ..
+-- A claim is a directed edge e and two different subtrees T2 and T3, without an order, at the node that e points to,
+-- neither of them behind e: three different codes e, f and g with one head and f < g. The sum of F over the claims of e
+-- in a tree with that many codes, ..
 unfoldable pub sumClaimsOf : (ℕ → ℕ) → ℕ → ℕ → (ℕ → ℕ → ℕ) → ℕ
 sumClaimsOf up codes e F =
     sumIf codes (meet up e) (λ g. sumIf g (λ f. meet up e f && meet up f g) (λ f. F f g))

@@ -13,7 +13,7 @@ Sides = ℕ → ℕ → Bool
 
 -- ---- executable, for n labels; the edges are 1 to k in the one tree, and 1 to l in the other
 
--- 'A split is an edge with at least two tips on each side.'
+-- an edge with two tips or more on each side
 unfoldable pub isSplit : ℕ → Sides → ℕ → Bool
 isSplit n b i = leb 2 (count n (b i)) && leb 2 (count n (λ x. not (b i x)))
 
@@ -25,15 +25,15 @@ sameSides n b c i j = every n (λ x. Bool·beq (b i x) (c j x)) || every n (λ x
 unfoldable pub occurs : ℕ → Sides → ℕ → Sides → ℕ → Bool
 occurs n b l c i = some l (λ j. sameSides n b c i (suc j))
 
--- 'The split counts are: the first tree's, the second's, ..'
+-- how many splits a tree has
 unfoldable pub splitsOf : ℕ → ℕ → Sides → ℕ
 splitsOf n k b = count k (λ i. isSplit n b (suc i))
 
--- '.. those whose two tip sets also occur in the other tree, ..'
+-- how many of them have tip sets that the other tree has too
 unfoldable pub commonOf : ℕ → ℕ → Sides → ℕ → Sides → ℕ
 commonOf n k b l c = count k (λ i. isSplit n b (suc i) && occurs n b l c (suc i))
 
--- '.. and the Robinson-Foulds distance, first + second − 2 · common.'
+-- the Robinson-Foulds distance, first + second − 2 · common
 unfoldable pub robinsonFouldsOf : ℕ → ℕ → Sides → ℕ → Sides → ℕ
 robinsonFouldsOf n k b l c = splitsOf n k b + splitsOf n l c - 2 * commonOf n k b l c
 
@@ -41,8 +41,7 @@ robinsonFouldsOf n k b l c = splitsOf n k b + splitsOf n l c - 2 * commonOf n k 
 unfoldable pub allOccur : ℕ → ℕ → Sides → ℕ → Sides → Bool
 allOccur n k b l c = every k (λ i. not (isSplit n b (suc i)) || occurs n b l c (suc i))
 
--- 'Two trees have the same splits if the two tip sets of each split of either tree are also the two tip sets
--- of a split of the other; two trees without any split have the same.'
+-- for each split of either tree, the other has one with the same tip sets
 unfoldable pub sameSplitsOf : ℕ → ℕ → Sides → ℕ → Sides → Bool
 sameSplitsOf n k b l c = allOccur n k b l c && allOccur n l c k b
 

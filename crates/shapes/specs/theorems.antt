@@ -1,5 +1,4 @@
 pub mod AncestorLaws
-pub mod CentreLaws
 pub mod ClaimCounts
 pub mod ClaimPairs
 pub mod ClaimsOfAnEdge
@@ -9,6 +8,7 @@ pub mod EulerCentre
 pub mod FourLabels
 pub mod Holders
 pub mod LabelSums
+pub mod OneCentre
 pub mod OrderedClaims
 pub mod PartedFours
 pub mod PathLaws

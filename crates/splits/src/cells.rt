@@ -1,5 +1,6 @@
 // Splits counted in the cells: rows whose first column and first row are the sizes.
-use super::words::wide;
+use table_words::Cell;
+use table_words::cell_count;
 ghost use mathlib.Core.Bool.{_&&_};
 ghost use mathlib.Core.Path.{_≡_};
 ghost use Prim.Native.Nat.{_≤_};
@@ -10,10 +11,10 @@ ghost use Rattle.splits.specs.lemmas.SplitCells.{splitSize, rowSplits, c
 ghost use Rattle.splits.specs.lemmas.SplitLoops.{SplitRoom, RowRoom};
 
 // Whether an edge with `size` of n tips beyond it is a split.
-pub(crate) fn is_split(size: u16, n: usize) -> bool
+pub(crate) fn is_split(size: Cell, n: u64) -> bool
     ensures { λ r. ⌜ r ≡ splitSize n size ⌝ }
 {
-    let s = wide(size);
+    let s = cell_count(size);
     if s < 2 {
         return false;
     }
@@ -21,7 +22,7 @@ pub(crate) fn is_split(size: u16, n: usize) -> bool
 }
 
 // How many rows are splits.
-pub(crate) fn row_splits(work: &[u16], rows: usize, width: usize, n: usize) -> u16
+pub(crate) fn row_splits(work: &[Cell], rows: usize, width: usize, n: u64) -> u16
     requires { ⌜ SplitRoom (length (now work)) rows width n ⌝ }
     ensures { λ r. ⌜ r ≡ rowSplits n rows width (now (work .entry)) ⌝ }
 {
@@ -37,7 +38,7 @@ pub(crate) fn row_splits(work: &[u16], rows: usize, width: usize, n: usize) -> u
 }
 
 // How many columns are splits.
-pub(crate) fn column_splits(work: &[u16], rows: usize, width: usize, n: usize) -> u16
+pub(crate) fn column_splits(work: &[Cell], rows: usize, width: usize, n: u64) -> u16
     requires { ⌜ SplitRoom (length (now work)) rows width n × (1 ≤ rows) ⌝ }
     ensures { λ r. ⌜ r ≡ columnSplits n width (now (work .entry)) ⌝ }
 {
@@ -53,7 +54,7 @@ pub(crate) fn column_splits(work: &[u16], rows: usize, width: usize, n: usize) -
 }
 
 // Whether x is y and z.
-fn is_both(x: u16, y: u16, z: u16) -> bool
+fn is_both(x: Cell, y: Cell, z: Cell) -> bool
     ensures { λ r. ⌜ r ≡ (eqb x y && eqb x z) ⌝ }
 {
     if x != y {
@@ -63,7 +64,7 @@ fn is_both(x: u16, y: u16, z: u16) -> bool
 }
 
 // Whether a cell of the row that begins at `base` has the row's size and the column's.
-pub(crate) fn shared_row(work: &[u16], base: usize, width: usize) -> bool
+pub(crate) fn shared_row(work: &[Cell], base: usize, width: usize) -> bool
     requires { ⌜ RowRoom (length (now work)) base width ⌝ }
     ensures { λ r. ⌜ r ≡ sharedRow width (now (work .entry)) base ⌝ }
 {
@@ -78,7 +79,7 @@ pub(crate) fn shared_row(work: &[u16], base: usize, width: usize) -> bool
 }
 
 // Whether the row that begins at `base` is a split of both trees.
-fn is_common(work: &[u16], base: usize, width: usize, n: usize) -> bool
+fn is_common(work: &[Cell], base: usize, width: usize, n: u64) -> bool
     requires { ⌜ RowRoom (length (now work)) base width × (1 ≤ width) ⌝ }
     ensures { λ r. ⌜
         r ≡ (splitSize n (word (now (work .entry)) base) && sharedRow width (now (work .entry)) base)
@@ -91,7 +92,7 @@ fn is_common(work: &[u16], base: usize, width: usize, n: usize) -> bool
 }
 
 // How many rows are splits of both trees.
-pub(crate) fn common_rows(work: &[u16], rows: usize, width: usize, n: usize) -> u16
+pub(crate) fn common_rows(work: &[Cell], rows: usize, width: usize, n: u64) -> u16
     requires { ⌜ SplitRoom (length (now work)) rows width n ⌝ }
     ensures { λ r. ⌜ r ≡ commonRows n rows width (now (work .entry)) ⌝ }
 {

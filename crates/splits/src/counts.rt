@@ -2,9 +2,10 @@
 use super::cells::column_splits;
 use super::cells::common_rows;
 use super::cells::row_splits;
-use super::words::wide;
 use pair_check::CheckedPair;
 use pair_check::pair_refusal;
+use table_words::Cell;
+use table_words::as_count;
 use tree_pairs::cross_pair;
 ghost use mathlib.Core.Path.{_≡_};
 ghost use lib.ListN.{length};
@@ -22,7 +23,7 @@ pub struct SplitCounts {
 }
 
 // The splits of rows and columns, counted in the cells.
-fn count_splits(work: &[u16], rows: usize, width: usize, n: usize) -> SplitCounts
+fn count_splits(work: &[Cell], rows: usize, width: usize, n: u64) -> SplitCounts
     requires { ⌜ SplitsCountable (now work) rows width n ⌝ }
     ensures { λ r. ⌜ r ≡ counted (now (work .entry)) rows width n ⌝ }
 {
@@ -39,7 +40,7 @@ fn count_splits(work: &[u16], rows: usize, width: usize, n: usize) -> SplitCount
 }
 
 // The split counts, with the crossings in the cells afterwards. Tip edges are no splits.
-pub fn split_counts(first: &[u16], second: &[u16], work: &mut [u16]) -> SplitCounts
+pub fn split_counts(first: &[u16], second: &[u16], work: &mut [Cell]) -> SplitCounts
     ensures { λ r. ⌜
         (r ≡ splitAnswer (now (first .entry)) (now (second .entry)) (length (now (work .entry))))
         × (now (work .exit) ≡ afterCrossings (now (first .entry)) (now (second .entry)) (now (work .entry)))
@@ -60,5 +61,5 @@ pub fn split_counts(first: &[u16], second: &[u16], work: &mut [u16]) -> SplitCou
             distance: 0,
         };
     };
-    count_splits(work, rows, columns, wide(tips))
+    count_splits(work, rows, columns, as_count(tips))
 }

@@ -1,4 +1,4 @@
--- Boolean tests, and what each says in ordinary mathematics.
+-- Tests over ranges: some index below n passes, or every one.
 -- Assumes nothing.
 use mathlib.Core.Bool.{Bool, true, false}
 use Prim.Native.Nat.{ℕ, zero, suc}

@@ -3,8 +3,8 @@ pub mod CountLaws
 pub mod Exclusion
 pub mod FoursLaws
 pub mod Grids
+pub mod Matchings
 pub mod Pairings
-pub mod Partners
 pub mod Products
 pub mod SetLaws
 pub mod SumLaws

@@ -16,7 +16,7 @@ verdict (suc k) t = Refused (suc k)
 unfoldable pub checked : Table → Checked
 checked t = verdict (refusal (treeOrder t)) t
 
--- document 01's number and values of each case: 0 with n and m, or the number with zeros
+-- the number and values of each case: 0 with n and m, or the number with zeros
 abbrev pub numberOf : Checked → ℕ
 numberOf (Tree n m) = 0
 numberOf (Refused k) = k

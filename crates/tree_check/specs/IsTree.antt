@@ -1,9 +1,10 @@
--- 'A tree table' of document 01, rule by rule, in ordinary mathematics.
+-- A tree table, rule by rule, in ordinary mathematics (docs/SPECIFICATION.md, 'Rules').
 -- Assumes nothing.
 use mathlib.Core.Path.{_≡_}
 use mathlib.Core.Logic.{_⊎_, _↔_}
 use Prim.Native.Nat.{ℕ, _+_, _*_, _-_, _≤_, _<_}
 use lib.ListN.{length}
+use Rattle.table_words.specs.Sizes.{innerLabel, tipsMost}
 use Rattle.tree_check.specs.Table.{Table, tips, nodes, parent, label}
 
 -- node j is a child of node i
@@ -28,23 +29,23 @@ pub record TwoChildren (t : Table) (i : ℕ) : Type 0 where
   pub second : Child t i two
 
 pub record IsTree (t : Table) : Type 0 where
-  -- 'The table has exactly 2 + 2m words.'
+  -- it has 2 + 2m words, no fewer and no more
   pub words : length t ≡ 2 + 2 * nodes t
-  -- 'n is 2 to 256; m is n to 2n − 2.'
-  pub tips-range : (2 ≤ tips t) × (tips t ≤ 256)
+  -- n is 2 to 256, and m is n to 2n − 2
+  pub tips-range : (2 ≤ tips t) × (tips t ≤ tipsMost)
   pub nodes-range : (tips t ≤ nodes t) × (nodes t ≤ 2 * tips t - 2)
-  -- 'Node 0 is the tip labelled 0. Its parent word is 0.'
+  -- node 0 is tip 0, and its parent word is 0
   pub root-label : label t 0 ≡ 0
   pub root-parent : parent t 0 ≡ 0
-  -- 'It has exactly one child, node 1, whose parent word is 0.'
+  -- node 1 is the only child of node 0
   pub root-child : (j : ℕ) → Child t 0 j ↔ (j ≡ 1)
-  -- 'For i ≥ 2, node i's parent is at least 1 and less than i.'
+  -- the parent word of a node i ≥ 2 is 1 to i − 1
   pub parents-range : (i : ℕ) → 2 ≤ i → i < nodes t → (1 ≤ parent t i) × (parent t i < i)
-  -- 'A tip's label is 0 to n − 1 .. 65535 marks an inner node.'
-  pub labels-range : (i : ℕ) → i < nodes t → (label t i ≡ 65535) ⊎ (label t i < tips t)
-  -- '.. each standing once.'
+  -- each label word is 65535, for an inner node, or one of 0 to n − 1
+  pub labels-range : (i : ℕ) → i < nodes t → (label t i ≡ innerLabel) ⊎ (label t i < tips t)
+  -- each of 0 to n − 1 is the label of exactly one node
   pub once : (x : ℕ) → x < tips t → StandsOnce t x
-  -- 'A tip other than node 0 has no child.'
+  -- a tip other than node 0 has no children
   pub tip-bare : (i : ℕ) → 1 ≤ i → i < nodes t → label t i < tips t → (j : ℕ) → Child t i j → ⊥
-  -- 'An inner node has two children or more.'
-  pub inner-two : (i : ℕ) → i < nodes t → label t i ≡ 65535 → TwoChildren t i
+  -- an inner node has at least two children
+  pub inner-two : (i : ℕ) → i < nodes t → label t i ≡ innerLabel → TwoChildren t i

@@ -1,4 +1,4 @@
--- A tree table: its words, its parts, and which labels lie beyond an edge.
+-- A table: its words, its parts, and which labels lie beyond an edge (docs/SPECIFICATION.md, 'Layout', 'Edges').
 -- Assumes nothing.
 use mathlib.Core.Bool.{Bool, true, false}
 use mathlib.Core.List.{List, []}
@@ -14,19 +14,19 @@ Table = List ℕ
 abbrev pub word : List ℕ → ℕ → ℕ
 word l i = getD l i 0
 
--- 'Word 0 is n, the tips.'
+-- n, the number of tips
 unfoldable pub tips : Table → ℕ
 tips t = word t 0
 
--- 'Word 1 is m, the nodes.'
+-- m, the number of nodes
 unfoldable pub nodes : Table → ℕ
 nodes t = word t 1
 
--- 'The parents start at word 2, ..'
+-- the parent words: m words from word 2 on, one for each node in turn
 unfoldable pub parents : Table → List ℕ
 parents t = take (nodes t) (drop 2 t)
 
--- '.. the labels at word 2 + m. Each array has m words, one for each node 0 to m − 1.'
+-- the label words: m words from word 2 + m on, one for each node in turn
 unfoldable pub labels : Table → List ℕ
 labels t = take (nodes t) (drop (2 + nodes t) t)
 
@@ -45,6 +45,6 @@ nodeBelow lab (suc k) x = elim (eqb (lab k) x) [ true ↦ k | false ↦ nodeBelo
 unfoldable pub nodeOf : Table → ℕ → ℕ
 nodeOf t x = nodeBelow (label t) (nodes t) x
 
--- 'The labels beyond edge i are those on node i's side, away from tip 0.'
+-- the label x lies beyond edge i: its tip is on node i's side of the edge, which does not hold tip 0
 unfoldable pub beyond : Table → ℕ → ℕ → Bool
 beyond t i x = anc (parent t) i (nodeOf t x)

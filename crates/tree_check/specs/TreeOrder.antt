@@ -1,10 +1,11 @@
--- The rules of a tree table as tests, and the tree check's order of refusals.
+-- The rules of a tree table as tests, and the order of a table (docs/SPECIFICATION.md, 'The numbers', 'The orders').
 -- Assumes nothing.
 use mathlib.Core.Bool.{Bool, true, false, not, _&&_, _||_}
 use mathlib.Core.List.{List, [], _∷_}
 use Prim.Native.Nat.{ℕ, _+_, _*_, _-_}
 use lib.Dec.{eqb, ltb, leb}
 use lib.ListN.{length}
+use Rattle.table_words.specs.Sizes.{innerLabel, tipsMost}
 use Rattle.sums.specs.Counts.{count}
 use Rattle.sums.specs.Tests.{some, every}
 use Rattle.tree_check.specs.Table.{Table, tips, nodes, parent, label}
@@ -13,18 +14,18 @@ use Rattle.tree_check.specs.Refusals.{Rule}
 -- ---- the rules as tests: n tips and m nodes, `up` gives the parent words and `lab` the labels
 
 unfoldable pub tipsFit : ℕ → Bool
-tipsFit n = leb 2 n && leb n 256
+tipsFit n = leb 2 n && leb n tipsMost
 
 unfoldable pub nodesFit : ℕ → ℕ → Bool
 nodesFit n m = leb n m && leb m (2 * n - 2)
 
--- the parent word p of node i: 0 for the nodes 0 and 1, and from node 2 on 'at least 1 and less than i'
+-- the parent word p of node i: 0 for the nodes 0 and 1, and from node 2 on 1 to i − 1
 unfoldable pub parentFits : ℕ → ℕ → Bool
 parentFits i p = elim (ltb i 2) [ true ↦ eqb p 0 | false ↦ leb 1 p && ltb p i ]
 
 -- the label l: 65535 or below n
 unfoldable pub labelFits : ℕ → ℕ → Bool
-labelFits n l = eqb l 65535 || ltb l n
+labelFits n l = eqb l innerLabel || ltb l n
 
 -- how many of m nodes have the label x
 unfoldable pub standing : ℕ → (ℕ → ℕ) → ℕ → ℕ
@@ -42,30 +43,23 @@ isChild up i j = leb 1 j && eqb (up j) i
 unfoldable pub children : ℕ → (ℕ → ℕ) → ℕ → ℕ
 children m up i = count m (isChild up i)
 
--- node i, with label l and k children: an inner node 'has fewer than two', or a tip 'other than node 0 has a child'
+-- node i, with label l and k children: an inner node with fewer than two children, or a tip other than
+-- node 0 with a child
 unfoldable pub misplaced : ℕ → ℕ → ℕ → Bool
-misplaced i l k = elim (eqb l 65535) [ true ↦ ltb k 2 | false ↦ leb 1 i && leb 1 k ]
+misplaced i l k = elim (eqb l innerLabel) [ true ↦ ltb k 2 | false ↦ leb 1 i && leb 1 k ]
 
 -- the rules that the two arrays are held to
 unfoldable pub arraysOrder : ℕ → ℕ → (ℕ → ℕ) → (ℕ → ℕ) → List Rule
 arraysOrder n m up lab =
-    -- '5: a parent word breaks its rule.'
     (5, not (every m (λ i. parentFits i (up i))))
-    -- '6: node 0's label is not 0, a label is neither 65535 nor below n, or some label does not stand exactly once.'
     ∷ (6, not (labelsFit n m lab))
-    -- '7: a tip other than node 0 has a child, or an inner node has fewer than two.'
     ∷ (7, some m (λ i. misplaced i (lab i) (children m up i)))
     ∷ []
 
 unfoldable pub treeOrder : Table → List Rule
 treeOrder t =
-    -- '1: fewer than two words.'
     (1, ltb (length t) 2)
-    -- '2: n out of range.'
     ∷ (2, not (tipsFit (tips t)))
-    -- '3: m out of range.'
     ∷ (3, not (nodesFit (tips t) (nodes t)))
-    -- '4: the length is not 2 + 2m.'
     ∷ (4, not (eqb (length t) (2 + 2 * nodes t)))
-    -- 5 to 7
     ∷ arraysOrder (tips t) (nodes t) (parent t) (label t)

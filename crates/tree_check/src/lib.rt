@@ -1,5 +1,5 @@
 // A tree table checked. Every public function takes any words in slices of any length, and tells a tree or one number.
-mod words; // words.rt: words as indices, and counts of equal words
+mod tallies; // tallies.rt: how often each word stands
 mod table; // table.rt: the tree check
 
 pub use table::Checked;

@@ -1,10 +1,13 @@
 // The tree check: whether a table keeps the rules of 'A tree table', or the number of the first one broken.
-use super::words::tally;
-use super::words::wide;
+use super::tallies::tally;
+use table_words::INNER;
+use table_words::TIPS;
+use table_words::as_index;
 ghost use mathlib.Core.Path.{_≡_};
 ghost use Prim.Native.Nat.{_≤_};
 ghost use lib.Dec.{eqb};
 ghost use lib.ListN.{length};
+ghost use Rattle.table_words.specs.Sizes.{nodeRoom, tipsMost};
 ghost use Rattle.sums.specs.Tests.{some, every};
 ghost use Rattle.tree_check.specs.Table.{word};
 ghost use Rattle.tree_check.specs.Refusals.{refusal};
@@ -19,7 +22,7 @@ pub enum Checked {
     Refused(u16),
 }
 
-// Document 01's number of an answer: 0 for accepted.
+// The number of an answer: 0 for accepted.
 pub fn refusal_of(answer: Checked) -> u16
     ensures { λ r. ⌜ r ≡ numberOf answer ⌝ }
 {
@@ -48,7 +51,7 @@ fn parents_fit(parents: &[u16]) -> bool
 {
     let mut i = 0;
     while i < parents.len() {
-        if !parent_fits(i, wide(parents[i])) {
+        if !parent_fits(i, as_index(parents[i])) {
             return false;
         }
         i += 1;
@@ -60,7 +63,7 @@ fn parents_fit(parents: &[u16]) -> bool
 fn label_fits(n: usize, l: usize) -> bool
     ensures { λ r. ⌜ r ≡ labelFits n l ⌝ }
 {
-    if l == 65535 {
+    if l == INNER {
         return true;
     }
     l < n
@@ -72,7 +75,7 @@ fn labels_in_range(labels: &[u16], n: usize) -> bool
 {
     let mut i = 0;
     while i < labels.len() {
-        if !label_fits(n, wide(labels[i])) {
+        if !label_fits(n, as_index(labels[i])) {
             return false;
         }
         i += 1;
@@ -97,7 +100,7 @@ fn all_one(counts: &[u16], n: usize) -> bool
 
 // Whether the labels keep their rule: one pass counts them, another reads the counts of 0 to n - 1.
 fn labels_fit(labels: &[u16], n: usize) -> bool
-    requires { ⌜ (1 ≤ length (now labels)) × (length (now labels) ≤ 512) × (n ≤ 512) ⌝ }
+    requires { ⌜ (1 ≤ length (now labels)) × (length (now labels) ≤ nodeRoom) × (n ≤ nodeRoom) ⌝ }
     ensures { λ r. ⌜ r ≡ labelsFit n (length (now (labels .entry))) (word (now (labels .entry))) ⌝ }
 {
     if labels[0] != 0 {
@@ -114,7 +117,7 @@ fn labels_fit(labels: &[u16], n: usize) -> bool
 fn is_misplaced(i: usize, l: usize, k: usize) -> bool
     ensures { λ r. ⌜ r ≡ misplaced i l k ⌝ }
 {
-    if l == 65535 {
+    if l == INNER {
         return k < 2;
     }
     if i < 1 {
@@ -133,7 +136,7 @@ fn some_misplaced(labels: &[u16], kids: &[u16]) -> bool
 {
     let mut i = 0;
     while i < labels.len() {
-        if is_misplaced(i, wide(labels[i]), wide(kids[i])) {
+        if is_misplaced(i, as_index(labels[i]), as_index(kids[i])) {
             return true;
         }
         i += 1;
@@ -168,11 +171,11 @@ fn tips_fit(n: usize) -> bool
     if n < 2 {
         return false;
     }
-    n <= 256
+    n <= TIPS
 }
 
 fn nodes_fit(n: usize, m: usize) -> bool
-    requires { ⌜ (2 ≤ n) × (n ≤ 256) ⌝ }
+    requires { ⌜ (2 ≤ n) × (n ≤ tipsMost) ⌝ }
     ensures { λ r. ⌜ r ≡ nodesFit n m ⌝ }
 {
     if m < n {
@@ -188,8 +191,8 @@ fn tree_refusal(table: &[u16]) -> u16
     if table.len() < 2 {
         return 1;
     }
-    let n = wide(table[0]);
-    let m = wide(table[1]);
+    let n = as_index(table[0]);
+    let m = as_index(table[1]);
     if !tips_fit(n) {
         return 2;
     }

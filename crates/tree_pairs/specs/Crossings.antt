@@ -1,4 +1,5 @@
--- The crossing counts of two tables, and the work cells that hold them.
+-- The crossing counts of two tables, and the work cells that hold them (docs/SPECIFICATION.md, 'Crossings', 'Work
+-- cells').
 -- Assumes nothing.
 use mathlib.Core.Bool.{_&&_}
 use mathlib.Core.List.{List, [], _∷_, _++_}
@@ -9,7 +10,7 @@ use Rattle.tree_check.specs.Table.{Table, tips, nodes, beyond}
 use Rattle.tree_check.specs.Refusals.{refusal, ifAccepted}
 use Rattle.pair_check.specs.PairOrder.{cellsNeeded, pairOrder}
 
--- 'how many labels lie beyond both edge i of the first tree and edge j of the second'
+-- how many labels lie beyond both edge i of the first tree and edge j of the second
 unfoldable pub edgeCrossing : Table → Table → ℕ → ℕ → ℕ
 edgeCrossing t u i j = count (tips t) (λ x. beyond t i x && beyond u j x)
 
@@ -18,14 +19,14 @@ unfoldable pub inOrder : ℕ → (ℕ → ℕ) → List ℕ
 inOrder zero f = []
 inOrder (suc k) f = f 0 ∷ inOrder k (λ i. f (suc i))
 
--- 'work cell (i − 1)(m′ − 1) + (j − 1)': which edges the cell c is for
+-- the crossing in the cell c = (i − 1)(m′ − 1) + (j − 1)
 unfoldable pub cellOf : Table → Table → ℕ → ℕ
 cellOf t u c = edgeCrossing t u (suc (c / (nodes u - 1))) (suc (c % (nodes u - 1)))
 
--- the cells once the crossings are written; 'later cells stay'
+-- the cells once the crossings are written; later cells stay
 unfoldable pub crossed : Table → Table → List ℕ → List ℕ
 crossed t u work = inOrder (cellsNeeded t u) (cellOf t u) ++ drop (cellsNeeded t u) work
 
--- 'A refused call gives .. no change to a lent cell.'
+-- the cells after a call; a refusal leaves every cell as it was
 unfoldable pub afterCrossings : Table → Table → List ℕ → List ℕ
 afterCrossings t u work = ifAccepted (refusal (pairOrder t u (length work))) (crossed t u work) work

@@ -1,7 +1,6 @@
 // Two tree tables: their crossings. Every public function takes any words in slices of any length, and
 // answers in full or refuses with one number.
-mod words; // words.rt: words as indices
-mod marks; // marks.rt: the rows of the first tree's tips
+mod rows_of_tips; // rows_of_tips.rt: the rows of the first tree's tips
 mod rows; // rows.rt: rows added up the first tree
 mod crosses; // crosses.rt: the crossing counts of two trees
 

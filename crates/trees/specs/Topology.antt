@@ -1,4 +1,4 @@
--- The topology of four labels in a tree table.
+-- The topology of four labels in a tree table (docs/SPECIFICATION.md, 'Topologies' and 'Topology').
 -- Assumes nothing.
 use mathlib.Core.Path.{_≡_}
 use mathlib.Core.Bool.{Bool, true, false}
@@ -12,17 +12,17 @@ use Rattle.trees.specs.declared.quartet.Topology.the-variants.{Butterfly
 use Rattle.trees.specs.declared.quartet.TopologyAnswer.{TopologyAnswer}
 use Rattle.tree_check.specs.Table.{Table, nodes, parent, nodeOf}
 use Rattle.tree_check.specs.Refusals.{refusal, ifAccepted}
-use Rattle.trees.specs.Orders.{labelOrder}
+use Rattle.trees.specs.LabelOrder.{labelOrder}
 
--- 'Four tips a, b, c, d are the butterfly ab|cd if some edge has a, b on one side and c, d on the other.'
+-- the four are the butterfly ab|cd: some edge has a and b on one side and c and d on the other
 unfoldable pub butterfly : Table → ℕ → ℕ → ℕ → ℕ → Bool
 butterfly t a b c d = parted (parent t) (nodes t - 1) (nodeOf t a) (nodeOf t b) (nodeOf t c) (nodeOf t d)
 
--- 'the partner of the smallest label' in ab|cd: the larger one of the pair that holds the smallest
+-- the partner of the smallest label in ab|cd: the larger one of the pair that holds the smallest
 unfoldable pub partner : ℕ → ℕ → ℕ → ℕ → ℕ
 partner a b c d = elim (ltb (min a b) (min c d)) [ true ↦ max a b | false ↦ max c d ]
 
--- the first test that is passed names its partner; 'They are a star if no edge parts them two and two.'
+-- the first test that is passed names its partner; where none is, they are a star
 unfoldable pub named : Bool → Bool → Bool → ℕ → ℕ → ℕ → Topology
 named x y z p q r = elim x [
   | true ↦ Butterfly p
@@ -40,14 +40,14 @@ topologyAnswer t a b c d =
     let number = refusal (labelOrder t (a ∷ b ∷ c ∷ d ∷ [])) in
     record { refusal = number; topology = ifAccepted number (topology t a b c d) Star }
 
--- ---- document 01's numbers and values of each case
+-- ---- what an answer tells, in numbers
 
 -- 1 for a butterfly, 0 for a star
 abbrev pub butterflyOf : Topology → ℕ
 butterflyOf (Butterfly p) = 1
 butterflyOf Star = 0
 
--- 'A butterfly names the partner of the smallest label; a star names nobody': 0
+-- the partner that a butterfly names, 0 for a star
 abbrev pub partnerOf : Topology → ℕ
 partnerOf (Butterfly p) = p
 partnerOf Star = 0
@@ -59,15 +59,15 @@ PartedIn t a b c d = Parted (parent t) (nodes t - 1) (nodeOf t a) (nodeOf t b) (
 -- what an answer tells of the edges
 pub record Told (t : Table) (a b c d : ℕ) (r : TopologyAnswer) : Type 0 where
   pub number-told : r .refusal ≡ refusal (labelOrder t (a ∷ b ∷ c ∷ d ∷ []))
-  -- 'A refused call gives .. star for a topology'
+  -- a refusal tells a star
   pub refused : r .refusal ≢ 0 → (butterflyOf (r .topology) ≡ 0) × (partnerOf (r .topology) ≡ 0)
-  -- 'the butterfly ab|cd if some edge has a, b on one side and c, d on the other'
+  -- the butterfly whose pairs some edge has on its two sides
   pub with-b : r .refusal ≡ 0 → PartedIn t a b c d
       → (butterflyOf (r .topology) ≡ 1) × (partnerOf (r .topology) ≡ partner a b c d)
   pub with-c : r .refusal ≡ 0 → PartedIn t a c b d
       → (butterflyOf (r .topology) ≡ 1) × (partnerOf (r .topology) ≡ partner a c b d)
   pub with-d : r .refusal ≡ 0 → PartedIn t a d b c
       → (butterflyOf (r .topology) ≡ 1) × (partnerOf (r .topology) ≡ partner a d b c)
-  -- 'They are a star if no edge parts them two and two.'
+  -- a star if no edge has two of them on each side
   pub star : r .refusal ≡ 0 → (PartedIn t a b c d → ⊥) → (PartedIn t a c b d → ⊥) → (PartedIn t a d b c → ⊥)
       → (butterflyOf (r .topology) ≡ 0) × (partnerOf (r .topology) ≡ 0)

@@ -1,5 +1,5 @@
 // The labels that a caller asks about: 10 and 11.
-use super::words::wide;
+use table_words::as_index;
 ghost use mathlib.Core.Path.{_≡_};
 ghost use Prim.Native.Nat.{_≤_};
 ghost use lib.Dec.{eqb};
@@ -7,7 +7,7 @@ ghost use lib.ListN.{length};
 ghost use Rattle.sums.specs.Tests.{some};
 ghost use Rattle.tree_check.specs.Table.{word, nodeBelow};
 ghost use Rattle.tree_check.specs.Refusals.{refusal};
-ghost use Rattle.trees.specs.Orders.{tooLarge, twoEqual, askedOrder};
+ghost use Rattle.trees.specs.LabelOrder.{tooLarge, twoEqual, askedOrder};
 
 // Whether one of the labels is n or more.
 fn some_too_large(asked: &[u16], n: usize) -> bool
@@ -15,7 +15,7 @@ fn some_too_large(asked: &[u16], n: usize) -> bool
 {
     let mut i = 0;
     while i < asked.len() {
-        if n <= wide(asked[i]) {
+        if n <= as_index(asked[i]) {
             return true;
         }
         i += 1;

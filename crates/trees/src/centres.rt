@@ -2,7 +2,7 @@
 use super::asked::asked_refusal;
 use super::asked::node_of;
 use super::words::narrow;
-use super::words::wide;
+use table_words::as_index;
 use tree_check::Checked;
 use tree_check::check;
 use tree_check::refusal_of;
@@ -11,8 +11,10 @@ ghost use Prim.Native.Nat.{_-_, _<_};
 ghost use lib.ListN.{length};
 ghost use Rattle.shapes.specs.Centres.{centreOf};
 ghost use Rattle.tree_check.specs.Table.{word};
-ghost use Rattle.trees.specs.Arrays.{RootedArrays};
-ghost use Rattle.trees.specs.Centre.{centreAnswer, centreOver, Climbable};
+ghost use Rattle.trees.specs.Centre.{centreAnswer};
+ghost use Rattle.trees.specs.lemmas.RootedArrays.{RootedArrays};
+ghost use Rattle.trees.specs.lemmas.CentreOutcomes.{centreOver};
+ghost use Rattle.trees.specs.lemmas.Climbing.{Climbable};
 
 // The number of the refusal with node 0, or 0 with the centre.
 pub struct CentreAnswer {
@@ -43,15 +45,15 @@ fn join(parents: &[u16], a: usize, b: usize, c: usize) -> usize
         }
         if y < x {
             if z < x {
-                x = wide(parents[x]);
+                x = as_index(parents[x]);
             } else {
-                z = wide(parents[z]);
+                z = as_index(parents[z]);
             }
         } else {
             if z < y {
-                y = wide(parents[y]);
+                y = as_index(parents[y]);
             } else {
-                z = wide(parents[z]);
+                z = as_index(parents[z]);
             }
         }
     };
@@ -70,14 +72,14 @@ pub fn centre(table: &[u16], a: u16, b: u16, c: u16) -> CentreAnswer
         };
     };
     let asked = [a, b, c];
-    let number = asked_refusal(&asked, wide(tips));
+    let number = asked_refusal(&asked, as_index(tips));
     if number != 0 {
         return CentreAnswer {
             refusal: number,
             node: 0,
         };
     }
-    let m = wide(nodes);
+    let m = as_index(nodes);
     CentreAnswer {
         refusal: 0,
         node: centre_node(&table[2..2 + m], &table[2 + m..], a, b, c),

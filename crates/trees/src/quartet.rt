@@ -1,18 +1,20 @@
 // The topology of four labels.
 use super::asked::asked_refusal;
 use super::asked::node_of;
-use super::sizes::add_up;
-use super::words::wide;
+use table_words::NODES;
+use table_words::as_index;
 use tree_check::Checked;
 use tree_check::check;
 use tree_check::refusal_of;
+use walks::add_up;
 ghost use mathlib.Core.Path.{_≡_};
 ghost use Prim.Native.Nat.{_≤_, min, max};
+ghost use Rattle.table_words.specs.Sizes.{nodeRoom};
 ghost use Rattle.trees.specs.Topology.{partner, topologyAnswer, Told};
-ghost use Rattle.trees.specs.Arrays.{RootedArrays};
-ghost use Rattle.trees.specs.Sides.{pairing, SidesAre, Shown, topologyShown};
+ghost use Rattle.trees.specs.lemmas.RootedArrays.{RootedArrays};
+ghost use Rattle.trees.specs.lemmas.Sides.{pairing, SidesAre, Shown, topologyShown};
 
-// 'A butterfly names the partner of the smallest label; a star names nobody.'
+// A butterfly names the partner of the smallest label; a star names nobody.
 pub enum Topology {
     Butterfly(u16),
     Star,
@@ -79,11 +81,11 @@ fn larger(a: u16, b: u16) -> u16
 }
 
 // Which of the four labels lie beyond each edge: 1 for a, 2 for b, 4 for c, 8 for d, added up the tree.
-fn sides_of(parents: &[u16], labels: &[u16], a: u16, b: u16, c: u16, d: u16) -> [usize; 512]
+fn sides_of(parents: &[u16], labels: &[u16], a: u16, b: u16, c: u16, d: u16) -> [usize; NODES]
     requires { ⌜ RootedArrays (now parents) (now labels) ⌝ }
     ensures { λ r. ⌜ SidesAre (now (parents .entry)) (now (labels .entry)) a b c d r ⌝ }
 {
-    let mut cells = [0usize; 512];
+    let mut cells = [0usize; NODES];
     let x = node_of(labels, a);
     let y = node_of(labels, b);
     let z = node_of(labels, c);
@@ -97,8 +99,8 @@ fn sides_of(parents: &[u16], labels: &[u16], a: u16, b: u16, c: u16, d: u16) -> 
 }
 
 // The pairing that the first edge shows which shows one; 0 where none does. Edges 1 to m - 1 are looked at.
-fn shown_pairing(sides: &[usize; 512], m: usize) -> usize
-    requires { ⌜ m ≤ 512 ⌝ }
+fn shown_pairing(sides: &[usize; NODES], m: usize) -> usize
+    requires { ⌜ m ≤ nodeRoom ⌝ }
     ensures { λ r. ⌜ Shown (now (sides .entry)) m r ⌝ }
 {
     let mut i = 1;
@@ -142,14 +144,14 @@ pub fn topology_of(table: &[u16], a: u16, b: u16, c: u16, d: u16) -> TopologyAns
         };
     };
     let asked = [a, b, c, d];
-    let number = asked_refusal(&asked, wide(tips));
+    let number = asked_refusal(&asked, as_index(tips));
     if number != 0 {
         return TopologyAnswer {
             refusal: number,
             topology: Topology::Star,
         };
     }
-    let m = wide(nodes);
+    let m = as_index(nodes);
     let sides = sides_of(&table[2..2 + m], &table[2 + m..], a, b, c, d);
     let k = shown_pairing(&sides, m);
     TopologyAnswer {

@@ -2,13 +2,6 @@
 ghost use mathlib.Core.Path.{_≡_};
 ghost use Prim.Native.Nat.{_<_};
 
-// A word as an index.
-pub(crate) fn wide(x: u16) -> usize
-    ensures { λ r. ⌜ (r ≡ x) × (r < 65536) ⌝ }
-{
-    x as usize
-}
-
 // An index as a word.
 pub(crate) fn narrow(x: usize) -> u16
     requires { ⌜ x < 65536 ⌝ }

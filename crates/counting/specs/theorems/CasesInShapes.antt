@@ -15,7 +15,7 @@ use Rattle.trees.specs.declared.quartet.Topology.the-variants.{Butterfly}
 use Rattle.tree_check.specs.Table.{Table, tips}
 use Rattle.tree_check.specs.IsTree.{IsTree}
 use Rattle.trees.specs.Topology.{butterfly, named, topology}
-use Rattle.trees.specs.Partners.{partner-of-smallest}
+use Rattle.trees.specs.theorems.PartnerLaws.{partner-of-smallest}
 use Rattle.counting.specs.Cases.{Case, A, B, caseOf, caseNumber, isCase, quartets}
 use Rattle.counting.specs.theorems.TreeShape.{shapeOf}
 

@@ -15,7 +15,7 @@ use Rattle.node_pairs.specs.theorems.CellTotals.{listed-behind-one}
 use Rattle.tree_check.specs.Table.{Table, tips, nodes, parent, nodeOf, beyond}
 use Rattle.tree_check.specs.IsTree.{IsTree}
 use Rattle.tree_check.specs.theorems.RootedTables.{rooted}
-use Rattle.trees.specs.Labels.{node-at}
+use Rattle.walks.specs.theorems.NodeLabels.{node-at}
 use Rattle.counting.specs.ClaimSums.{codes, behindEdge, size}
 use Rattle.counting.specs.theorems.TreeSplits.{labelled, zero-here}
 

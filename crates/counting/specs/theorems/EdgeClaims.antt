@@ -18,7 +18,7 @@ degreeOf t v = degree (parent t) (nodes t - 1) v
 abbrev pub headOf : Table → ℕ → ℕ
 headOf t c = head (parent t) c
 
--- 'So an edge into a node of degree d is in (d − 1)(d − 2)/2 claims.'
+-- an edge into a node of degree d is in (d − 1)(d − 2)/2 claims
 pub claims-of-a-code : (t : Table) → IsTree t → (c : ℕ) → c < codes t
     → sumClaimsOf (parent t) (codes t) c (λ f g. 1) ≡ (degreeOf t (headOf t c) - 1) * (degreeOf t (headOf t c) - 2) / 2
 unfolding codes degreeOf

@@ -4,6 +4,7 @@ use mathlib.Core.Path.{_≡_, refl, sym, _∙_}
 use mathlib.Core.Logic.{_↔_}
 use Prim.Native.Nat.{ℕ, _+_, _*_, _-_, _/_, _%_, _≤_}
 use native.Mathlib.Omega.{arith}
+use Rattle.table_words.specs.Sizes.{tipsMost}
 use Rattle.sums.specs.Fours.{fours}
 use Rattle.sums.specs.theorems.FoursLaws.{fours-exact, fours-of-256, fours-mono}
 use Rattle.shapes.specs.theorems.ZeroRule.{zero-rule}
@@ -39,13 +40,13 @@ abbrev pub tableDistance : Table → Table → ℕ
 tableDistance t u = formulaDistance (S t) (S u) (S2 t u) (S3 t u)
 
 pub record QuartetTheorem (t u : Table) : Type 0 where
-  -- 'each of A to E equals the number of four-tip sets whose topologies put them in that case'
+  -- each of A to E is the number of sets of four in that case
   pub A-counts : tableA t u ≡ quartets t u A
   pub B-counts : tableB t u ≡ quartets t u B
   pub C-counts : tableC t u ≡ quartets t u C
   pub D-counts : tableD t u ≡ quartets t u D
   pub E-counts : tableE t u ≡ quartets t u E
-  -- 'Every division leaves nothing over'
+  -- no division leaves a remainder
   pub S-even : S t % 2 ≡ 0
   pub S'-even : S u % 2 ≡ 0
   pub S2-even : S2 t u % 2 ≡ 0
@@ -55,16 +56,16 @@ pub record QuartetTheorem (t u : Table) : Type 0 where
   pub C-fits : tableA t u + tableB t u ≤ S t / 2
   pub D-fits : tableA t u + tableB t u ≤ S u / 2
   pub E-fits : tableA t u + tableB t u + tableC t u + tableD t u ≤ fours (tips t)
-  -- 'nothing wraps up to 256 tips'
+  -- nothing wraps
   pub S-most : S t ≤ 349585280
   pub S'-most : S u ≤ 349585280
   pub S2-most : S2 t u ≤ 349585280
   pub S3-most : S3 t u ≤ 699170560
   pub all-most : fours (tips t) ≤ 174792640
   pub count-most : (k : Case) → quartets t u k ≤ 174792640
-  -- 'the five add up to all sets of four'
+  -- the five add up to all sets of four
   pub total : tableA t u + tableB t u + tableC t u + tableD t u + tableE t u ≡ fours (tips t)
-  -- 'the distance B + C + D is zero exactly when the trees have the same splits'
+  -- the distance is 0 exactly if the two trees have the same splits
   pub distance-counts : tableDistance t u ≡ quartets t u B + quartets t u C + quartets t u D
   pub distance-zero : (tableDistance t u ≡ 0) ↔ HaveSameSplits t u
 
@@ -120,7 +121,7 @@ quartet-theorem t u g h e = record {
     f = formulas-count c
 
     most : fours (tips t) ≤ 174792640
-    most = omega (arith, fours-mono (tips t) 256 (g .tips-range .1), fours-of-256)
+    most = omega (arith, fours-mono (tips t) tipsMost (g .tips-range .1), fours-of-256)
 
     in-all : (k : Case) → quartets t u k
         ≤ quartets t u A + quartets t u B + quartets t u C + quartets t u D + quartets t u E

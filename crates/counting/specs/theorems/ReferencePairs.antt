@@ -1,4 +1,4 @@
--- Document 01's reference pairs K1 to K9, computed from the definitions: what they say is what 01 prints.
+-- The reference pairs K1 to K9, computed from the definitions (docs/SPECIFICATION.md, 'The figures K1 to K9').
 -- Assumes nothing.
 use mathlib.Core.Path.{_≡_, refl}
 use mathlib.Core.Bool.{true, false}
@@ -16,7 +16,7 @@ use Rattle.shapes.specs.Claims.{sumIf, meet, sumClaimsOf, sumClaims, choose2}
 use Rattle.shapes.specs.Splits.{isSplit, sameSides, occurs, splitsOf, commonOf, allOccur, sameSplitsOf}
 use Rattle.tree_check.specs.Table.{Table, tips, nodes, parents, labels, parent, label, nodeBelow, nodeOf, beyond}
 use Rattle.trees.specs.Topology.{butterfly, partner, named, topology}
-use Rattle.trees.specs.Examples.{X, P, Q, R, W, TwoTips, ThreeTips}
+use Rattle.walks.specs.theorems.WalkExamples.{X, P, Q, R, W, TwoTips, ThreeTips}
 use Rattle.counting.specs.ClaimSums.{codes, behindEdge, size, crossing, S, S2, S3}
 use Rattle.counting.specs.Cases.{A, B, C, D, E, caseOf, caseNumber, isCase, quartets}
 use Rattle.counting.specs.QuartetTable.{formulaA, formulaB, formulaC, formulaE, formulaDistance, formulaD}
@@ -71,7 +71,7 @@ reference-formulas = refl
 abbrev pub P' : Table
 P' = 5 ∷ 8 ∷ 0 ∷ 0 ∷ 1 ∷ 1 ∷ 2 ∷ 2 ∷ 5 ∷ 5 ∷ 0 ∷ X ∷ X ∷ 1 ∷ 2 ∷ X ∷ 3 ∷ 4 ∷ []
 
--- 'the same splits' looks at tip sets alone: P and R have the same parent words, P and P' have not
+-- the same splits are a matter of tip sets alone: P and R have the same parent words, P and P' have not
 pub reference-same-splits :
     sameSplits P Q ∷ sameSplits P R ∷ sameSplits P W ∷ sameSplits P P ∷ sameSplits P P' ∷ sameSplits W W ∷ []
     ≡ false ∷ false ∷ false ∷ true ∷ true ∷ true ∷ []

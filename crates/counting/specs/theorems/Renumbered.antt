@@ -14,7 +14,7 @@ use Rattle.shapes.specs.theorems.SplitLaws.{split-moves}
 use Rattle.tree_check.specs.Table.{Table, tips, nodes, parent, label, nodeOf, beyond}
 use Rattle.tree_check.specs.IsTree.{IsTree}
 use Rattle.tree_check.specs.theorems.RootedTables.{rooted}
-use Rattle.trees.specs.Labels.{node-at, node-only}
+use Rattle.walks.specs.theorems.NodeLabels.{node-at, node-only}
 use Rattle.counting.specs.SplitCounts.{HaveSameSplits}
 use Rattle.counting.specs.LabelsAlone.{LabelsAlone}
 use Rattle.counting.specs.theorems.TipLabels.{labels-alone}

@@ -17,7 +17,9 @@ use Rattle.trees.specs.declared.quartet.TopologyAnswer.{TopologyAnswer}
 use Rattle.tree_check.specs.Table.{Table, tips, beyond}
 use Rattle.tree_check.specs.IsTree.{IsTree}
 use Rattle.tree_check.specs.Refusals.{refusal, ifAccepted}
-use Rattle.trees.specs.Orders.{askedOrder, labelOrder, AllBelow, Different, tree-accepted, label-check}
+use Rattle.trees.specs.LabelOrder.{askedOrder, labelOrder}
+use Rattle.trees.specs.theorems.LabelOrderLaws.{AllBelow, Different, label-check}
+use Rattle.walks.specs.theorems.WalkOrderLaws.{tree-accepted}
 use Rattle.trees.specs.Topology.{butterfly, topology, topologyAnswer}
 use Rattle.counting.specs.Cases.{Case, A, B, C, D, caseOf, isCase, quartets}
 use Rattle.counting.specs.SplitCounts.{commonSplits, robinsonFoulds, HaveSameSplits}

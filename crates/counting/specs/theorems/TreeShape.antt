@@ -11,7 +11,7 @@ use Rattle.shapes.specs.theorems.Shape.{Leaf, Shape}
 use Rattle.tree_check.specs.Table.{Table, tips, nodes, parent, label, nodeOf}
 use Rattle.tree_check.specs.IsTree.{IsTree, Child}
 use Rattle.tree_check.specs.theorems.RootedTables.{rooted}
-use Rattle.trees.specs.Labels.{node-at}
+use Rattle.walks.specs.theorems.NodeLabels.{node-at}
 
 module _ (t : Table) (g : IsTree t) where
   -- a tip has a child only if it is node 0, and then the child is node 1

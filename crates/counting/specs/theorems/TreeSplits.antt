@@ -21,7 +21,7 @@ use Rattle.shapes.specs.theorems.SameSplits as ss
 use Rattle.tree_check.specs.Table.{Table, tips, nodes, parent, label, nodeOf, beyond}
 use Rattle.tree_check.specs.IsTree.{IsTree, Child}
 use Rattle.tree_check.specs.theorems.RootedTables.{rooted}
-use Rattle.trees.specs.Labels.{node-only}
+use Rattle.walks.specs.theorems.NodeLabels.{node-only}
 use Rattle.counting.specs.SplitCounts.{splits, commonSplits, robinsonFoulds, sameSplits, HaveSameSplits}
 
 module _ (t : Table) (g : IsTree t) where
@@ -163,7 +163,7 @@ unfolding commonSplits
 same-splits-in-common t u v e s = ss.same-splits-in-common
     (tips t) (nodes t - 1) (beyond t) (nodes u - 1) (beyond u) (nodes v - 1) (beyond v) (rw e s)
 
--- 'the same splits', as a test
+-- the same splits, as a test
 pub same-splits-test : (t u : Table) → T (sameSplits t u) ↔ HaveSameSplits t u
 unfolding sameSplits
 same-splits-test t u = same-splits-iff (tips t) (nodes t - 1) (beyond t) (nodes u - 1) (beyond u)

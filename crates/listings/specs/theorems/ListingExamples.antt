@@ -1,4 +1,4 @@
--- The listings that document 01 shows, computed.
+-- The listing of P and Q, and of two refusals, computed (docs/SPECIFICATION.md, 'The listing').
 -- Assumes nothing.
 use mathlib.Core.Path.{_≡_, refl}
 use mathlib.Core.List.{[], _∷_}
@@ -7,7 +7,7 @@ use Rattle.listings.specs.Decimal.{decimalIn, decimalOf}
 use Rattle.listings.specs.Lines.{spaced, spacedAll, line}
 use Rattle.listings.specs.Listing.{ofRefusal, firstLines, quartetLines, splitLine, lines, listed}
 
--- the figures of P and Q, K1 of document 01
+-- the figures of P and Q, K1
 abbrev pub ofPAndQ : Figures
 ofPAndQ = record {
   refusal = 0;

@@ -9,7 +9,7 @@ use Rattle.sums.specs.theorems.SumLaws.{sum-cong, sum-mul-left, sum-swap}
 use Rattle.sums.specs.Bits.{bit, ne}
 use Rattle.sums.specs.theorems.Exclusion.{threeApart, twoApart}
 use Rattle.sums.specs.theorems.Grids.{grid-mul-left}
-use Rattle.node_pairs.specs.Cells.{apart, sumApart}
+use Rattle.node_pairs.specs.theorems.Cells.{apart, sumApart}
 
 -- three different indices below three
 pub orders : (F : ℕ → ℕ → ℕ → ℕ) → sumApart 3 F ≡ F 0 1 2 + F 0 2 1 + F 1 0 2 + F 1 2 0 + F 2 0 1 + F 2 1 0

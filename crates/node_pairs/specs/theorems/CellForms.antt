@@ -10,7 +10,7 @@ use Rattle.sums.specs.Bits.{ne}
 use Rattle.sums.specs.theorems.BitLaws.{ne-sym}
 use Rattle.sums.specs.theorems.Grids.{grid-mul-left, grid-sum}
 use Rattle.shapes.specs.Claims.{choose2}
-use Rattle.node_pairs.specs.Cells.{apart, sumApart, pairS2, pairS3}
+use Rattle.node_pairs.specs.theorems.Cells.{apart, sumApart, pairS2, pairS3}
 use Rattle.node_pairs.specs.theorems.Aggregates.{struckOut, rest}
 
 -- the products of two cells in different rows and different columns, in either order

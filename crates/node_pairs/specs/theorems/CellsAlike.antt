@@ -3,7 +3,7 @@
 use mathlib.Core.Path.{_≡_, refl, ap}
 use Prim.Native.Nat.{ℕ, _*_, _<_}
 use Rattle.sums.specs.theorems.SumLaws.{sum-ext}
-use Rattle.node_pairs.specs.Cells.{apart, sumApart, pairS2, pairS3}
+use Rattle.node_pairs.specs.theorems.Cells.{apart, sumApart, pairS2, pairS3}
 
 pub apart-ext : (d : ℕ) (F G : ℕ → ℕ → ℕ → ℕ)
     → ((i j l : ℕ) → i < d → j < d → l < d → F i j l ≡ G i j l) → sumApart d F ≡ sumApart d G

@@ -13,7 +13,7 @@ use Rattle.sums.specs.theorems.Products.{twice-apart}
 use Rattle.sums.specs.theorems.Exclusion.{pair-apart}
 use Rattle.sums.specs.theorems.Grids.{grid-add, grid-mul-left}
 use Rattle.shapes.specs.Claims.{choose2}
-use Rattle.node_pairs.specs.Cells.{pairS2, pairS3}
+use Rattle.node_pairs.specs.theorems.Cells.{pairS2, pairS3}
 use Rattle.node_pairs.specs.theorems.Aggregates.{transposed, rowSquares, columnSquares}
 use Rattle.node_pairs.specs.theorems.CellForms.{hooksApart, pairS2-cells, pairS3-cells}
 use Rattle.node_pairs.specs.theorems.PairsOff.{pairsPlus, pairs-off-cell}

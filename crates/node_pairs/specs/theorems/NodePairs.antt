@@ -9,7 +9,7 @@ use Rattle.shapes.specs.Directions.{head}
 use Rattle.shapes.specs.Claims.{sumClaims, choose2, equation1, dcount}
 use Rattle.shapes.specs.theorems.OrderedClaims.{ordered-cong}
 use Rattle.shapes.specs.theorems.ClaimPairs.{sumPairs, same-ordered, different-ordered}
-use Rattle.node_pairs.specs.Cells.{sumApart, pairS2, pairS3}
+use Rattle.node_pairs.specs.theorems.Cells.{sumApart, pairS2, pairS3}
 use Rattle.node_pairs.specs.theorems.ApartSums.{apart-sum}
 use Rattle.node_pairs.specs.theorems.CodeLists.{Lists, degreeOf, codeAt, lists-codes}
 use Rattle.node_pairs.specs.theorems.NodeSums.{by-nodes}

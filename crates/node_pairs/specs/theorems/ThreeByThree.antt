@@ -4,7 +4,7 @@ use mathlib.Core.Path.{_≡_, _∙_}
 use Prim.Native.Nat.{ℕ, _+_, _*_}
 use native.Mathlib.Omega.{arith}
 use Rattle.shapes.specs.Claims.{choose2}
-use Rattle.node_pairs.specs.Cells.{sumApart, pairS2, pairS3}
+use Rattle.node_pairs.specs.theorems.Cells.{sumApart, pairS2, pairS3}
 use Rattle.node_pairs.specs.theorems.ApartSums.{orders}
 
 -- what a cell t gives, where the other two rows have p, q and r, s in the other two columns: for S2 ..

@@ -9,7 +9,7 @@ use Rattle.sums.specs.theorems.SumLaws.{sum-cong, sum-add, sum-mul-left}
 use Rattle.sums.specs.theorems.Exclusion.{threeApart, inclusion-exclusion}
 use Rattle.shapes.specs.Claims.{choose2}
 use Rattle.shapes.specs.theorems.OrderedClaims.{choose2-square}
-use Rattle.node_pairs.specs.Cells.{pairS2, pairS3}
+use Rattle.node_pairs.specs.theorems.Cells.{pairS2, pairS3}
 use Rattle.node_pairs.specs.theorems.ApartSums.{orders, apart-products, apart-hooks}
 
 -- ---- sums along rows of d cells

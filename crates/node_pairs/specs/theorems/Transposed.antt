@@ -4,7 +4,7 @@ use mathlib.Core.Path.{_≡_, _∙_}
 use Prim.Native.Nat.{ℕ, _*_}
 use native.Mathlib.Omega.{arith}
 use Rattle.shapes.specs.Claims.{choose2}
-use Rattle.node_pairs.specs.Cells.{pairS2, pairS3}
+use Rattle.node_pairs.specs.theorems.Cells.{pairS2, pairS3}
 use Rattle.node_pairs.specs.theorems.Aggregates.{transposed}
 use Rattle.node_pairs.specs.theorems.ApartSums.{apart-cong, apart-swap}
 

@@ -73,7 +73,7 @@ tables-kept t u =
       λ h. b .1 (tree-kept t (h .first), c .1 (p .1 (tree-kept u (h .second)), q .1 (h .same-tips))),
     )
 
--- two tables alone: 'accepted exactly if both keep the table rules and have the same tips'
+-- two tables alone are accepted exactly if both are tree tables and have the same n
 pub tables-check : (t u : Table) → (refusal (tablesOrder t u) ≡ 0) ↔ IsPair t u
 tables-check t u =
     let a = accepted (tablesOrder t u) (tables-numbered t u) in

@@ -54,19 +54,19 @@ words-all bytes words i e h = h ∙ take-all i (fileWords bytes) (omega (arith, 
 -- ---- the two tables
 
 module _ (words : List ℕ) where
-  -- 'every word present .. if fewer than two'
+  -- fewer than two words: all of them
   pub first-few : length words < 2 → length words ≡ firstLength words
   unfolding firstLength
   first-few l = rw (lt-ltb (length words) 2 l, firstLength)
 
   module _ (m : ℕ) (e : m ≡ word words 1) (l : 2 ≤ length words) where
-    -- 'every word present if there are fewer than that'
+    -- fewer than 2 + 2m words: all of them
     pub first-short : length words < 2 + 2 * m → length words ≡ firstLength words
     unfolding firstLength nodes
     first-short s =
         rw (le-ltb (length words) 2 l, firstLength) (rw (sym e) (rw (lt-ltb (length words) (2 + 2 * m) s) refl))
 
-    -- 'The first tree takes 2 + 2m words by its own word 1'
+    -- 2 + 2m words by word 1
     pub first-whole : 2 + 2 * m ≤ length words → 2 + 2 * m ≡ firstLength words
     unfolding firstLength nodes
     first-whole s =

@@ -1,4 +1,4 @@
--- The definitions computed on the files that document 01 names.
+-- The definitions computed on files: P and Q, and edge cases (docs/SPECIFICATION.md, 'Edge cases').
 -- Assumes nothing.
 use mathlib.Core.Path.{_≡_, refl}
 use mathlib.Core.List.{List, [], _∷_, _++_}
@@ -41,7 +41,7 @@ bytesOfQ =
     ∷ 0 ∷ 0 ∷ 255 ∷ 255 ∷ 1 ∷ 0 ∷ 255 ∷ 255 ∷ 2 ∷ 0 ∷ 3 ∷ 0 ∷ 4 ∷ 0
     ∷ []
 
--- 'The comparing program, given the bytes of P then Q, prints ..'
+-- the figures of the bytes of P, then Q
 pub comparison-of-P-and-Q : comparison (bytesOfP ++ bytesOfQ) ≡ ofPAndQ
 unfolding
     comparison figuresOf fileOrder wordsOrder fileWords firstTable secondTable firstLength refusal ifAccepted
@@ -53,7 +53,7 @@ unfolding
     ancIn anc edge rising head behind tips nodes parents labels parent label nodeBelow nodeOf beyond
 comparison-of-P-and-Q = refl
 
--- no byte ('Empty input prints `refused 1`'), one byte, P without its last word, P alone, P and Q and one word more
+-- no byte, one byte, P without its last word, P alone, P and Q and one word more
 pub edges-of-a-file :
     refusal (fileOrder [])
     ∷ refusal (fileOrder (5 ∷ []))

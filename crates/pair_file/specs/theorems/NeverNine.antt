@@ -1,4 +1,4 @@
--- '9 never occurs here with 15625 cells': the two trees of a file have at most 252 nodes between them.
+-- With 15625 cells the number of a file is never 9: the two trees of a file have at most 252 nodes between them.
 -- Assumes nothing.
 use mathlib.Core.Path.{_≡_, refl, sym, _∙_, ap}
 use mathlib.Core.Logic.{_≢_}
@@ -63,7 +63,7 @@ never-pair t u few z = elim (ℕ-discrete (refusal (tablesOrder t u)) 0) [
   | no d ↦ tables-never-nine t u (sym (tables-refused t u 15625 _ refl d) ∙ z)
 ]
 
--- '9 never occurs here with 15625 cells.'
+-- the number of a file is never 9
 pub never-nine : (bytes : List ℕ) → refusal (fileOrder bytes) ≢ 9
 never-nine bytes z = elim (decLe (length bytes) 1016) [
   | yes l ↦ elim (ℕ-discrete (length bytes % 2) 0) [

@@ -4,6 +4,7 @@ use mathlib.Core.Path.{_≡_, refl, sym, _∙_, ap, subst}
 use mathlib.Core.Logic.{_≢_}
 use Prim.Native.Nat.{ℕ, zero, suc, _+_, _-_, _/_, _≤_}
 use native.Mathlib.Omega.{arith}
+use Rattle.table_words.specs.Sizes.{tipsMost}
 use Rattle.sums.specs.Fours.{fours}
 use Rattle.tree_check.specs.Table.{Table, tips}
 use Rattle.tree_check.specs.Refusals.{refusal}
@@ -35,7 +36,7 @@ formed n s s' s2 s3 = record {
 
 -- no subtraction goes below 0, and nothing wraps
 pub record TableFits (n s s' s2 s3 : ℕ) : Type 0 where
-  pub tips-few : n ≤ 256
+  pub tips-few : n ≤ tipsMost
   pub S-most : s ≤ 349585280
   pub S'-most : s' ≤ 349585280
   pub C-fits : s2 / 2 + s3 / 4 ≤ s / 2

@@ -33,7 +33,7 @@ table-rule f xs t k h = rule-from f xs 0 t k h ∙ ap f (zero-add k)
 
 -- ---- the table of sets of four
 
--- 'A constant table holds the number of four-element subsets of k things, for each k from 0 to 256', as the code has it
+-- the constant table, as the code has it: the number of subsets with four elements of k, for each k from 0 to 256
 unfoldable pub foursTable : List ℕ
 foursTable =
     0 ∷ 0 ∷ 0 ∷ 0 ∷ 1 ∷ 5 ∷ 15 ∷ 35
@@ -69,7 +69,7 @@ foursTable =
     ∷ 134810340 ∷ 137085620 ∷ 139389580 ∷ 141722460 ∷ 144084501 ∷ 146475945 ∷ 148897035 ∷ 151348015
     ∷ 153829130 ∷ 156340626 ∷ 158882750 ∷ 161455750 ∷ 164059875 ∷ 166695375 ∷ 169362501 ∷ 172061505 ∷ 174792640 ∷ []
 
--- 'k(k − 1)(k − 2)(k − 3)/24, ending in 174792640'
+-- entry k is k(k − 1)(k − 2)(k − 3)/24, and the last is 174792640
 pub fours-table : (k : ℕ) → k ≤ 256 → getD foursTable k 0 ≡ fours k
 unfolding foursTable fours
 fours-table k l = table-rule fours foursTable tt k (omega arith)

@@ -66,7 +66,7 @@ module _ (up : ℕ → ℕ) (r : Rooted up) where
     is-self (head up e),
   )
 
-  -- 'an edge into a node of degree d is in (d − 1)(d − 2)/2 claims'
+  -- an edge into a node of degree d is in (d − 1)(d − 2)/2 claims
   pub claims-of-an-edge : (k e : ℕ) → e < 2 * k
       → sumClaimsOf up (2 * k) e (λ f g. 1)
       ≡ (degree up k (head up e) - 1) * (degree up k (head up e) - 2) / 2

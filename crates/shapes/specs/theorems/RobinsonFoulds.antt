@@ -11,7 +11,7 @@ use Rattle.sums.specs.Bits.{bit}
 use Rattle.sums.specs.theorems.TestLaws.{and-iff, same-test, some-ext}
 use Rattle.sums.specs.Tests.{some}
 use Rattle.sums.specs.Counts.{count}
-use Rattle.sums.specs.theorems.Partners.{count-mono, count-same, some-and, partners}
+use Rattle.sums.specs.theorems.Matchings.{count-mono, count-same, some-and, partners}
 use Rattle.shapes.specs.Splits.{Sides, isSplit, sameSides, occurs, splitsOf, commonOf, robinsonFouldsOf}
 use Rattle.shapes.specs.Splits.{Split, SameSides, AllOccur, SameSplits}
 use Rattle.shapes.specs.theorems.SplitLaws.{Distinct, sides-sym}

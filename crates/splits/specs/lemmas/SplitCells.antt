@@ -13,7 +13,7 @@ use Rattle.sums.specs.theorems.TestLaws.{and-iff, eq-iff, le-iff, same-test, so
 use Rattle.sums.specs.Tests.{some}
 use Rattle.sums.specs.theorems.Products.{bit-and, bit-sq}
 use Rattle.sums.specs.Counts.{count}
-use Rattle.sums.specs.theorems.Partners.{count-same}
+use Rattle.sums.specs.theorems.Matchings.{count-same}
 use Rattle.shapes.specs.Splits.{Sides, isSplit, sameSides, occurs, splitsOf, commonOf}
 use Rattle.shapes.specs.Splits.{SameSides, same, turned}
 use Rattle.shapes.specs.theorems.SplitLaws.{same-sides-iff}

@@ -7,6 +7,7 @@ use native.Mathlib.Nat.{mul-le-mul-right}
 use native.Mathlib.Numerals.{add-one}
 use native.Mathlib.Omega.{arith}
 use lib.Dec.{T}
+use Rattle.table_words.specs.Sizes.{nodeRoom, tipsMost}
 use Rattle.sums.specs.Sum.{sum}
 use Rattle.sums.specs.theorems.SumLaws.{sum-suc}
 use Rattle.sums.specs.Bits.{bit}
@@ -19,22 +20,22 @@ use Rattle.sums.specs.theorems.CountLaws.{count-le}
 
 -- `cells` cells hold the rows
 pub record SplitRoom (cells rows width n : ℕ) : Type 0 where
-  pub few : rows ≤ 512
-  pub narrow : width ≤ 512
+  pub few : rows ≤ nodeRoom
+  pub narrow : width ≤ nodeRoom
   pub some : 1 ≤ width
   pub inside : rows * width ≤ cells
-  pub tips : n ≤ 256
+  pub tips : n ≤ tipsMost
 
 -- `cells` cells hold the row that begins at `base`
 pub record RowRoom (cells base width : ℕ) : Type 0 where
   pub low : base ≤ 262144
-  pub narrow : width ≤ 512
+  pub narrow : width ≤ nodeRoom
   pub inside : base + width ≤ cells
 
 pub row-room : (cells rows width n : ℕ) → SplitRoom cells rows width n → (i : ℕ) → i < rows
     → RowRoom cells (i * width) width
 row-room cells rows width n a i l = record {
-  low = omega (arith, product-le 512 512 i width (omega (arith, a .few)) (a .narrow));
+  low = omega (arith, product-le nodeRoom nodeRoom i width (omega (arith, a .few)) (a .narrow));
   narrow = a .narrow;
   inside = omega (arith, a .inside, ends);
 }

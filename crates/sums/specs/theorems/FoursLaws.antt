@@ -10,7 +10,7 @@ use Rattle.sums.specs.theorems.SumLaws.{sum-const}
 use Rattle.sums.specs.SetsOfFour.{sets2, sets3, sets4}
 use Rattle.sums.specs.Fours.{fours}
 
--- 'A set of four is four different labels, the order aside': w < x < y < z below k, each counted once
+-- how many sets of four labels below k there are: w < x < y < z, each counted once
 unfoldable pub setsOfFour : ℕ → ℕ
 setsOfFour k = sets4 k (λ w x y z. 1)
 
@@ -74,7 +74,7 @@ fours-none (suc (suc zero)) l = refl
 fours-none (suc (suc (suc zero))) l = refl
 fours-none (suc (suc (suc (suc k)))) l = absurd (omega arith)
 
--- '.. ending in 174792640'
+-- all sets of four of 256 labels
 pub fours-of-256 : fours 256 ≡ 174792640
 unfolding fours
 fours-of-256 = refl

@@ -11,6 +11,7 @@ use borrow.Author.Tests.{le-leb}
 use lib.Dec.{eqb, leb}
 use lib.ListN.{length, replicate, set, getD-replicate, length-replicate, length-set}
 use lib.Seq.{getD-set-same, getD-set-other}
+use Rattle.table_words.specs.Sizes.{nodeRoom}
 use Rattle.sums.specs.Sum.{sum}
 use Rattle.sums.specs.theorems.SumLaws.{sum-suc, sum-first, sum-cong}
 use Rattle.sums.specs.Bits.{bit, is}
@@ -36,12 +37,12 @@ children-standing p ps i =
 
 -- each number below 512 with its count among the first k words
 pub record Tallied (ws : List ℕ) (k : ℕ) (counts : List ℕ) : Type 0 where
-  pub long : length counts ≡ 512
-  pub cells : (x : ℕ) → x < 512 → word counts x ≡ standing k (word ws) x
+  pub long : length counts ≡ nodeRoom
+  pub cells : (x : ℕ) → x < nodeRoom → word counts x ≡ standing k (word ws) x
 
-pub tallied-none : (ws : List ℕ) → Tallied ws 0 (replicate 512 0)
+pub tallied-none : (ws : List ℕ) → Tallied ws 0 (replicate nodeRoom 0)
 unfolding standing sum
-tallied-none ws = record { long = length-replicate {A = ℕ} 512 0; cells = λ x l. getD-replicate 512 x 0 0 l }
+tallied-none ws = record { long = length-replicate {A = ℕ} nodeRoom 0; cells = λ x l. getD-replicate nodeRoom x 0 0 l }
 
 standing-suc : (k : ℕ) (lab : ℕ → ℕ) (x : ℕ) → standing (k + 1) lab x ≡ standing k lab x + is (lab k) x
 unfolding standing
@@ -49,12 +50,12 @@ standing-suc k lab x = rw (add-one k) (sum-suc k _)
 
 module _ (ws : List ℕ) (k : ℕ) (counts : List ℕ) (h : Tallied ws k counts) where
   -- a count is at most the number of words counted
-  pub tallied-le : (x : ℕ) → x < 512 → word counts x ≤ k
+  pub tallied-le : (x : ℕ) → x < nodeRoom → word counts x ≤ k
   unfolding standing
   tallied-le x l = omega (arith, h .cells x l, count-le k (λ i. eqb (word ws i) x))
 
   -- one more word, with a count of its own
-  pub tallied-hit : (w : ℕ) → w ≡ word ws k → w < 512 → Tallied ws (k + 1) (set counts w (word counts w + 1))
+  pub tallied-hit : (w : ℕ) → w ≡ word ws k → w < nodeRoom → Tallied ws (k + 1) (set counts w (word counts w + 1))
   tallied-hit w e l = record {
     long = length-set counts w (word counts w + 1) ∙ h .long;
     cells = λ x m. elim (ℕ-discrete x w) [
@@ -67,7 +68,7 @@ module _ (ws : List ℕ) (k : ℕ) (counts : List ℕ) (h : Tallied ws k counts)
   }
 
   -- one more word, too large to be counted
-  pub tallied-skip : 512 ≤ word ws k → Tallied ws (k + 1) counts
+  pub tallied-skip : nodeRoom ≤ word ws k → Tallied ws (k + 1) counts
   tallied-skip l = record {
     long = h .long;
     cells = λ x m. omega (arith, h .cells x m, standing-suc k (word ws) x, is-other (word ws k) x (λ q. omega arith));
@@ -75,7 +76,7 @@ module _ (ws : List ℕ) (k : ℕ) (counts : List ℕ) (h : Tallied ws k counts)
 
 -- the counts of the parent words from node 1 on are the numbers of children
 pub tallied-children : (ps counts : List ℕ) (i : ℕ) → 1 ≤ length ps
-    → Tallied (rest 1 ps) (length (rest 1 ps)) counts → i < 512
+    → Tallied (rest 1 ps) (length (rest 1 ps)) counts → i < nodeRoom
     → children (length ps) (word ps) i ≡ word counts i
 tallied-children [] counts i l h m = absurd (omega arith)
 tallied-children (p ∷ ps) counts i l h m =

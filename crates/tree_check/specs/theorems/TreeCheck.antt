@@ -11,6 +11,7 @@ use native.Mathlib.Omega.{arith}
 use borrow.Author.Tests.{le-ltb, eq-eqb, ne-eqb}
 use lib.Dec.{T, eqb, ltb, leb, T-not, not-T}
 use lib.ListN.{length}
+use Rattle.table_words.specs.Sizes.{innerLabel, nodeRoom, tipsMost}
 use Rattle.sums.specs.Counts.{count}
 use Rattle.sums.specs.theorems.CountLaws.{count-none, count-once, count-twice}
 use Rattle.sums.specs.theorems.TestLaws.{and-iff, or-iff, not-not, eq-iff, le-iff, lt-iff, not-lt-iff}
@@ -29,16 +30,16 @@ use Rattle.tree_check.specs.TreeOrder.{children, misplaced, arraysOrder,
 pub record ArraysFit (ps ls : List ℕ) (n : ℕ) : Type 0 where
   pub same : length ls ≡ length ps
   pub some : 1 ≤ length ps
-  pub few : length ps ≤ 512
-  pub tips-few : n ≤ 512
+  pub few : length ps ≤ nodeRoom
+  pub tips-few : n ≤ nodeRoom
 
 -- ---- what each test says
 
-pub tips-iff : (n : ℕ) → T (tipsFit n) ↔ (2 ≤ n) × (n ≤ 256)
+pub tips-iff : (n : ℕ) → T (tipsFit n) ↔ (2 ≤ n) × (n ≤ tipsMost)
 unfolding tipsFit
-tips-iff n = let a = and-iff (leb 2 n) (leb n 256) in (
-  λ h. let r = a .0 h in (le-iff 2 n .0 (r .0), le-iff n 256 .0 (r .1)),
-  λ h. a .1 (le-iff 2 n .1 (h .0), le-iff n 256 .1 (h .1)),
+tips-iff n = let a = and-iff (leb 2 n) (leb n tipsMost) in (
+  λ h. let r = a .0 h in (le-iff 2 n .0 (r .0), le-iff n tipsMost .0 (r .1)),
+  λ h. a .1 (le-iff 2 n .1 (h .0), le-iff n tipsMost .1 (h .1)),
 )
 
 pub nodes-iff : (n m : ℕ) → T (nodesFit n m) ↔ (n ≤ m) × (m ≤ 2 * n - 2)
@@ -62,11 +63,11 @@ later-parent-iff i p l = rw (le-ltb i 2 l, parentFits) (
       λ h. a .1 (le-iff 1 p .1 (h .0), lt-iff p i .1 (h .1)),
     ))
 
-label-iff : (n l : ℕ) → T (labelFits n l) ↔ (l ≡ 65535) ⊎ (l < n)
+label-iff : (n l : ℕ) → T (labelFits n l) ↔ (l ≡ innerLabel) ⊎ (l < n)
 unfolding labelFits
-label-iff n l = let o = or-iff (eqb l 65535) (ltb l n) in (
-  λ h. elim (o .0 h) [ inl e ↦ inl (eq-iff l 65535 .0 e) | inr m ↦ inr (lt-iff l n .0 m) ],
-  λ h. o .1 (elim h [ inl e ↦ inl (eq-iff l 65535 .1 e) | inr m ↦ inr (lt-iff l n .1 m) ]),
+label-iff n l = let o = or-iff (eqb l innerLabel) (ltb l n) in (
+  λ h. elim (o .0 h) [ inl e ↦ inl (eq-iff l innerLabel .0 e) | inr m ↦ inr (lt-iff l n .0 m) ],
+  λ h. o .1 (elim h [ inl e ↦ inl (eq-iff l innerLabel .1 e) | inr m ↦ inr (lt-iff l n .1 m) ]),
 )
 
 labels-iff : (n m : ℕ) (lab : ℕ → ℕ) → T (labelsFit n m lab)
@@ -142,8 +143,8 @@ module _ (t : Table) where
     ),
   )
 
-placed-iff : (i l k : ℕ) → (T (misplaced i l k) → ⊥) ↔ (1 ≤ i → l ≢ 65535 → k ≡ 0) × (l ≡ 65535 → 2 ≤ k)
-placed-iff i l k = elim (ℕ-discrete l 65535) [
+placed-iff : (i l k : ℕ) → (T (misplaced i l k) → ⊥) ↔ (1 ≤ i → l ≢ innerLabel → k ≡ 0) × (l ≡ innerLabel → 2 ≤ k)
+placed-iff i l k = elim (ℕ-discrete l innerLabel) [
   | yes e ↦ rw (inner e) (
     λ h. (λ o d. absurd (d e), λ q. not-lt-iff k 2 .0 (not-T (ltb k 2) h)),
     λ h t. omega (arith, lt-iff k 2 .0 t, h .1 e),
@@ -157,11 +158,11 @@ placed-iff i l k = elim (ℕ-discrete l 65535) [
   ))
 ]
   where
-    inner : l ≡ 65535 → misplaced i l k ≡ ltb k 2
-    inner e = unfold misplaced in rw (eq-eqb l 65535 e, misplaced)
+    inner : l ≡ innerLabel → misplaced i l k ≡ ltb k 2
+    inner e = unfold misplaced in rw (eq-eqb l innerLabel e, misplaced)
 
-    tip : l ≢ 65535 → misplaced i l k ≡ (leb 1 i && leb 1 k)
-    tip d = unfold misplaced in rw (ne-eqb l 65535 d, misplaced)
+    tip : l ≢ innerLabel → misplaced i l k ≡ (leb 1 i && leb 1 k)
+    tip d = unfold misplaced in rw (ne-eqb l innerLabel d, misplaced)
 
 -- ---- the theorem
 
@@ -219,7 +220,7 @@ module _ (t : Table) where
     ),
   )
     where
-      below : (i : ℕ) → i < nodes t → label t i ≢ 65535 → label t i < tips t
+      below : (i : ℕ) → i < nodes t → label t i ≢ innerLabel → label t i < tips t
       below i l d = elim (g .labels-range i l) [ inl e ↦ absurd (d e) | inr q ↦ q ]
 
       fine : (i : ℕ) → i < nodes t → T (misplaced i (label t i) (kids i)) → ⊥
@@ -254,7 +255,7 @@ module _ (t : Table) where
       }
     where
       fine : (i : ℕ) → i < nodes t
-          → (1 ≤ i → label t i ≢ 65535 → kids i ≡ 0) × (label t i ≡ 65535 → 2 ≤ kids i)
+          → (1 ≤ i → label t i ≢ innerLabel → kids i ≡ 0) × (label t i ≡ innerLabel → 2 ≤ kids i)
       fine i b = placed-iff i (label t i) (kids i) .0 (λ h.
           T-not (some (nodes t) bad) k7 (some-iff (nodes t) bad .1 (i, b, h)))
 

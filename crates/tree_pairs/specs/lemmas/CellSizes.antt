@@ -14,7 +14,7 @@ use Rattle.shapes.specs.theorems.AncestorLaws.{up-ind, anc-self, anc-down}
 use Rattle.tree_check.specs.Table.{Table, word, tips, nodes, parent, label, nodeOf, beyond}
 use Rattle.tree_check.specs.IsTree.{IsTree}
 use Rattle.tree_check.specs.theorems.RootedTables.{rooted}
-use Rattle.trees.specs.Labels.{node-at}
+use Rattle.walks.specs.theorems.NodeLabels.{node-at}
 use Rattle.counting.specs.theorems.TreeSplits.{zero-here}
 use Rattle.tree_pairs.specs.Crossings.{edgeCrossing, crossed}
 use Rattle.tree_pairs.specs.theorems.CrossingLaws.{cell-of-edges}

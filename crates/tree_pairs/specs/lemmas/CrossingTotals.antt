@@ -5,6 +5,7 @@ use mathlib.Core.Bool.{_&&_}
 use Prim.Native.Nat.{ℕ, zero, suc, _*_, _≤_, _<_}
 use native.Mathlib.Omega.{arith}
 use lib.Dec.{ltb}
+use Rattle.table_words.specs.Sizes.{tipsMost}
 use Rattle.sums.specs.theorems.SumLaws.{sum-ext}
 use Rattle.sums.specs.Bits.{bit}
 use Rattle.sums.specs.theorems.BitLaws.{is-other}
@@ -16,7 +17,7 @@ use Rattle.shapes.specs.theorems.Totals.{total}
 use Rattle.tree_check.specs.Table.{Table, tips, nodes, parent, label, nodeOf, beyond}
 use Rattle.tree_check.specs.IsTree.{IsTree}
 use Rattle.tree_check.specs.theorems.RootedTables.{rooted}
-use Rattle.trees.specs.Labels.{node-at, sum-over-tips}
+use Rattle.walks.specs.theorems.NodeLabels.{node-at, sum-over-tips}
 use Rattle.tree_pairs.specs.Crossings.{edgeCrossing}
 
 -- 1 if node x of the first tree is a tip whose label lies beyond edge j of the second
@@ -50,6 +51,6 @@ module _ (t u : Table) (g : IsTree t) where
       term (suc x) l = ap (λ (z : ℕ). bit (anc (parent t) v (suc x)) * z) (h (suc x) (omega arith) l) ∙ regroup _ _ _
 
   -- no more than there are tips
-  pub crossing-most : (v j : ℕ) → edgeCrossing t u v j ≤ 256
+  pub crossing-most : (v j : ℕ) → edgeCrossing t u v j ≤ tipsMost
   unfolding edgeCrossing
   crossing-most v j = omega (arith, count-le (tips t) (λ x. beyond t v x && beyond u j x), g .tips-range)

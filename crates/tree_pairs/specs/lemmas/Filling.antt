@@ -17,8 +17,8 @@ use Rattle.shapes.specs.Ancestors.{anc}
 use Rattle.shapes.specs.theorems.Totals.{total}
 use Rattle.tree_check.specs.Table.{Table, word, tips, nodes, label, nodeBelow, nodeOf}
 use Rattle.tree_check.specs.lemmas.TableParts.{tableOf, tips-of, nodes-of}
-use Rattle.trees.specs.Labels.{node-at}
-use Rattle.trees.specs.Arrays.{TreeArrays, parent-is, label-is, few-tips, few-nodes, rooted-parents}
+use Rattle.walks.specs.theorems.NodeLabels.{node-at}
+use Rattle.walks.specs.lemmas.TreeArrays.{TreeArrays, parent-is, label-is, few-tips, few-nodes, rooted-parents}
 use Rattle.tree_pairs.specs.lemmas.Grid.{cellAt}
 use Rattle.tree_pairs.specs.Crossings.{edgeCrossing, crossed, cellOf}
 use Rattle.tree_pairs.specs.theorems.CrossingLaws.{in-order-front}

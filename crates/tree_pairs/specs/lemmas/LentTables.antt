@@ -11,7 +11,7 @@ use Rattle.tree_check.specs.lemmas.TableParts.{rest, tableOf, to-parts, of-part
 use Rattle.tree_check.specs.lemmas.TableParts.{parents-length, table-of-parts}
 use Rattle.tree_check.specs.Refusals.{refusal}
 use Rattle.tree_check.specs.theorems.RefusalLaws.{if-accepted, if-refused}
-use Rattle.trees.specs.Arrays.{TreeArrays, tree-arrays}
+use Rattle.walks.specs.lemmas.TreeArrays.{TreeArrays, tree-arrays}
 use Rattle.pair_check.specs.PairOrder.{PairWithCells, pairOrder}
 use Rattle.pair_check.specs.theorems.PairCheck.{pair-check}
 use Rattle.tree_pairs.specs.Crossings.{crossed, afterCrossings}

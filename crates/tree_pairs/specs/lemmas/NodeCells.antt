@@ -9,16 +9,17 @@ use native.Mathlib.Omega.{arith}
 use borrow.Author.Tests.{eq-eqb, ne-eqb}
 use lib.ListN.{length, set, replicate, length-set, length-replicate, getD-replicate}
 use lib.Seq.{getD-set-same, getD-set-other}
+use Rattle.table_words.specs.Sizes.{nodeRoom}
 use Rattle.tree_check.specs.Table.{word, nodeBelow}
 
 -- in the cell of each label the last node below k that has it
 pub record NodesOf (ls : List ℕ) (k : ℕ) (nodes : List ℕ) : Type 0 where
-  pub long : length nodes ≡ 512
-  pub at : (x : ℕ) → x < 512 → word nodes x ≡ nodeBelow (word ls) k x
+  pub long : length nodes ≡ nodeRoom
+  pub at : (x : ℕ) → x < nodeRoom → word nodes x ≡ nodeBelow (word ls) k x
 
-pub nodes-none : (ls : List ℕ) → NodesOf ls 0 (replicate 512 0)
+pub nodes-none : (ls : List ℕ) → NodesOf ls 0 (replicate nodeRoom 0)
 unfolding nodeBelow
-nodes-none ls = record { long = length-replicate {A = ℕ} 512 0; at = λ x l. getD-replicate 512 x 0 0 l }
+nodes-none ls = record { long = length-replicate {A = ℕ} nodeRoom 0; at = λ x l. getD-replicate nodeRoom x 0 0 l }
 
 below-hit : (lab : ℕ → ℕ) (k x : ℕ) → lab k ≡ x → nodeBelow lab (k + 1) x ≡ k
 unfolding nodeBelow
@@ -29,7 +30,7 @@ unfolding nodeBelow
 below-other lab k x d = rw (add-one, ne-eqb _ _ d, nodeBelow)
 
 -- node k has the label y
-pub nodes-next : (ls : List ℕ) (k : ℕ) (nodes : List ℕ) (y : ℕ) → y ≡ word ls k → y < 512 → NodesOf ls k nodes
+pub nodes-next : (ls : List ℕ) (k : ℕ) (nodes : List ℕ) (y : ℕ) → y ≡ word ls k → y < nodeRoom → NodesOf ls k nodes
     → NodesOf ls (k + 1) (set nodes y k)
 nodes-next ls k nodes y e l h = record {
   long = length-set nodes y k ∙ h .long;
@@ -43,7 +44,7 @@ nodes-next ls k nodes y e l h = record {
 }
 
 -- node k has none
-pub nodes-skip : (ls : List ℕ) (k : ℕ) (nodes : List ℕ) → 512 ≤ word ls k → NodesOf ls k nodes
+pub nodes-skip : (ls : List ℕ) (k : ℕ) (nodes : List ℕ) → nodeRoom ≤ word ls k → NodesOf ls k nodes
     → NodesOf ls (k + 1) nodes
 nodes-skip ls k nodes l h = record {
   long = h .long;

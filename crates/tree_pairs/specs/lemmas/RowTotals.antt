@@ -6,6 +6,7 @@ use Prim.Native.Nat.{ℕ, zero, suc, _+_, _-_, _≤_, _<_}
 use native.Mathlib.Omega.{arith}
 use lib.ListN.{length, set, length-set}
 use lib.Seq.{getD-set-same, getD-set-other}
+use Rattle.table_words.specs.Sizes.{cellMost, nodeRoom}
 use Rattle.shapes.specs.theorems.AncestorLaws.{Rooted, parent-lt}
 use Rattle.shapes.specs.theorems.Totals.{total, Added, added-none, added-all-from, added-le, added-next}
 use Rattle.tree_check.specs.Table.{word}
@@ -14,12 +15,12 @@ use Rattle.tree_check.specs.Table.{word}
 pub record RowFits (ps work : List ℕ) (base : ℕ) : Type 0 where
   pub tree : Rooted (word ps)
   pub some : 2 ≤ length ps
-  pub few : length ps ≤ 512
+  pub few : length ps ≤ nodeRoom
   pub inner : (v : ℕ) → 2 ≤ v → v < length ps → 1 ≤ word ps v
   pub low : base ≤ 1048576
   pub inside : base + (length ps - 1) ≤ length work
   pub fits : (v : ℕ) → 1 ≤ v → v < length ps
-      → total (word ps) (length ps) (λ u. word work (base + (u - 1))) v ≤ 65535
+      → total (word ps) (length ps) (λ u. word work (base + (u - 1))) v ≤ cellMost
 
 -- what it leaves: in each node's cell the total over the nodes at or below it
 pub record RowUp (ps old new : List ℕ) (base : ℕ) : Type 0 where
@@ -94,7 +95,7 @@ module _ (ps old new : List ℕ) (base i : ℕ) (a : RowFits ps old base) (h : R
   row-inside p e = omega (arith, row-parent, h .to, h .long, a .inside, e)
 
   pub row-fits : (p : ℕ) → p ≡ word ps (i - 1)
-      → word new (base + (p - 1)) + word new (base + (i - 1 - 1)) ≤ 65535
+      → word new (base + (p - 1)) + word new (base + (i - 1 - 1)) ≤ cellMost
   row-fits p e = rw e (omega (
     arith,
     added-le (word ps) (a .tree) (length ps) (λ u. word old (base + (u - 1))) (rowValue old new base) (i - 1)

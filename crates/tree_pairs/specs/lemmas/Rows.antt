@@ -7,6 +7,7 @@ use native.Mathlib.Decide.{ℕ-discrete}
 use native.Mathlib.Omega.{arith}
 use lib.ListN.{length, set, length-set}
 use lib.Seq.{getD-set-same, getD-set-other}
+use Rattle.table_words.specs.Sizes.{cellMost, nodeRoom}
 use Rattle.tree_check.specs.Table.{word}
 
 -- the rows of w cells that begin at `to` and `from` lie apart and inside, and their sums fit a word
@@ -14,8 +15,8 @@ pub record RowsFit (work : List ℕ) (to from w : ℕ) : Type 0 where
   pub apart : to + w ≤ from
   pub inside : from + w ≤ length work
   pub near : from ≤ 262144
-  pub narrow : w ≤ 512
-  pub fits : (j : ℕ) → j < w → word work (to + j) + word work (from + j) ≤ 65535
+  pub narrow : w ≤ nodeRoom
+  pub fits : (j : ℕ) → j < w → word work (to + j) + word work (from + j) ≤ cellMost
 
 -- the first n cells of one row have been added to the other
 pub record RowAdded (old new : List ℕ) (to from n : ℕ) : Type 0 where
@@ -57,7 +58,7 @@ module _ (old new : List ℕ) (to from w n : ℕ) (f : RowsFit old to from w) (h
   pub row-room : from + n < length new
   row-room = omega (arith, f .inside, h .added .long)
 
-  pub row-fits : word new (to + n) + word new (from + n) ≤ 65535
+  pub row-fits : word new (to + n) + word new (from + n) ≤ cellMost
   row-fits = omega (arith, cells, f .fits n l)
 
   pub row-next : AddingRow old to from w (n + 1) (set new (to + n) (word new (to + n) + word new (from + n)))

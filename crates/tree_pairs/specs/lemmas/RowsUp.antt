@@ -8,6 +8,7 @@ use native.Mathlib.Nat.{suc-mul, mul-le-mul-right, lt-of-not-le}
 use native.Mathlib.Decide.{decLt}
 use native.Mathlib.Omega.{arith}
 use lib.ListN.{length}
+use Rattle.table_words.specs.Sizes.{cellMost, nodeRoom}
 use Rattle.sums.specs.theorems.Products.{product-le}
 use Rattle.shapes.specs.theorems.AncestorLaws.{Rooted, parent-lt}
 use Rattle.shapes.specs.theorems.Totals.{total, AddedFrom, added-from-none, added-from-all}
@@ -20,12 +21,12 @@ use Rattle.tree_pairs.specs.lemmas.Rows.{RowsFit, RowAdded}
 pub record Room (ps work : List ℕ) (w : ℕ) : Type 0 where
   pub tree : Rooted (word ps)
   pub some : 2 ≤ length ps
-  pub few : length ps ≤ 512
+  pub few : length ps ≤ nodeRoom
   pub inner : (v : ℕ) → 2 ≤ v → v < length ps → 1 ≤ word ps v
-  pub narrow : w ≤ 512
+  pub narrow : w ≤ nodeRoom
   pub inside : (length ps - 1) * w ≤ length work
   pub fits : (v j : ℕ) → 1 ≤ v → v < length ps → j < w
-      → total (word ps) (length ps) (λ u. cellAt work w u j) v ≤ 65535
+      → total (word ps) (length ps) (λ u. cellAt work w u j) v ≤ cellMost
 
 -- what it leaves: in each cell the column's total over the nodes at or below; later words as they were
 pub record RowsAdded (ps old new : List ℕ) (w : ℕ) : Type 0 where
@@ -48,8 +49,8 @@ row-end : (a b w : ℕ) → a < b → a * w + w ≤ b * w
 row-end a b w l = rw (← suc-mul) (mul-le-mul-right w l)
 
 -- a row begins at word 2¹⁸ or before
-pub row-near : (a w : ℕ) → a ≤ 512 → w ≤ 512 → a * w ≤ 262144
-row-near a w h k = product-le 512 512 a w h k
+pub row-near : (a w : ℕ) → a ≤ nodeRoom → w ≤ nodeRoom → a * w ≤ 262144
+row-near a w h k = product-le nodeRoom nodeRoom a w h k
 
 pub rows-none : (ps old : List ℕ) (w : ℕ) → Room ps old w → AddingRows ps old w (length ps) old
 rows-none ps old w a = record {

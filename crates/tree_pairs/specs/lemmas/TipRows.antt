@@ -9,6 +9,7 @@ use native.Mathlib.Omega.{arith}
 use lib.Dec.{ltb}
 use lib.ListN.{length, set, length-set}
 use lib.Seq.{getD-set-same, getD-set-other}
+use Rattle.table_words.specs.Sizes.{nodeRoom}
 use Rattle.sums.specs.theorems.Products.{product-le}
 use Rattle.sums.specs.theorems.SumLaws.{sum-ext}
 use Rattle.sums.specs.Bits.{bit, is}
@@ -27,7 +28,7 @@ use Rattle.tree_pairs.specs.lemmas.RowTotals.{RowFits, RowUp}
 pub record MarkRoom (ps work : List ℕ) (base at : ℕ) : Type 0 where
   pub tree : Rooted (word ps)
   pub some : 2 ≤ length ps
-  pub few : length ps ≤ 512
+  pub few : length ps ≤ nodeRoom
   pub inner : (v : ℕ) → 2 ≤ v → v < length ps → 1 ≤ word ps v
   pub low : base ≤ 1048576
   pub inside : base + (length ps - 1) ≤ length work
@@ -98,11 +99,11 @@ module _ (ps old : List ℕ) (base at : ℕ) (a : MarkRoom ps old base at) where
 pub record TipRoom (ls : List ℕ) (n : ℕ) (ps nodes work : List ℕ) : Type 0 where
   pub tree : Rooted (word ps)
   pub some : 2 ≤ length ps
-  pub few : length ps ≤ 512
+  pub few : length ps ≤ nodeRoom
   pub inner : (v : ℕ) → 2 ≤ v → v < length ps → 1 ≤ word ps v
-  pub rows : (1 ≤ length ls) × (length ls ≤ 512)
-  pub tips : n ≤ 512
-  pub long : length nodes ≡ 512
+  pub rows : (1 ≤ length ls) × (length ls ≤ nodeRoom)
+  pub tips : n ≤ nodeRoom
+  pub long : length nodes ≡ nodeRoom
   pub node : (v : ℕ) → 1 ≤ v → v < length ls → word ls v < n
       → (1 ≤ word nodes (word ls v)) × (word nodes (word ls v) < length ps)
   pub inside : (length ls - 1) * (length ps - 1) ≤ length work
@@ -155,7 +156,7 @@ module _ (ls : List ℕ) (n : ℕ) (ps nodes old : List ℕ) (a : TipRoom ls n p
   pub base-low : (v - 1) * (length ps - 1) ≤ 262144
   base-low = omega (
     arith,
-    product-le 512 512 (v - 1) (length ps - 1) (omega (arith, a .rows)) (omega (arith, a .few)),
+    product-le nodeRoom nodeRoom (v - 1) (length ps - 1) (omega (arith, a .rows)) (omega (arith, a .few)),
   )
 
   pub mark-room : (x : ℕ) → x ≡ word ls v → x < n

@@ -1,4 +1,4 @@
--- The definitions computed on document 01's reference pairs.
+-- The definitions computed on the reference pairs (docs/SPECIFICATION.md, 'The figures K1 to K9', 'Edge cases').
 -- Assumes nothing.
 use mathlib.Core.Path.{_≡_, refl}
 use mathlib.Core.List.{[], _∷_}
@@ -10,11 +10,11 @@ use Rattle.tree_check.specs.Table.{tips, nodes, parents, labels, parent, label,
 use Rattle.tree_check.specs.Refusals.{refusal}
 use Rattle.tree_check.specs.TreeOrder.{tipsFit, nodesFit, parentFits, labelFits, standing, labelsFit}
 use Rattle.tree_check.specs.TreeOrder.{isChild, children, misplaced, arraysOrder, treeOrder}
-use Rattle.trees.specs.Examples.{P, Q, TwoTips}
+use Rattle.walks.specs.theorems.WalkExamples.{P, Q, TwoTips}
 use Rattle.pair_check.specs.PairOrder.{plus, tipsOrder, tablesOrder, workOrder, pairOrder, cellsNeeded}
 use Rattle.tree_pairs.specs.Crossings.{edgeCrossing, inOrder, cellOf}
 
--- 'Work for P and Q: 41 cells give 9, 42 pass.' Then 8, a refused second table, and a refused first one
+-- for P and Q 41 cells give 9, and 42 are enough; then 8, a refused second table, and a refused first one
 pub edges-of-a-pair :
     refusal (pairOrder P Q 41) ∷ refusal (pairOrder P Q 42) ∷ refusal (pairOrder P TwoTips 42)
     ∷ refusal (pairOrder P [] 0) ∷ refusal (pairOrder [] [] 0) ∷ []

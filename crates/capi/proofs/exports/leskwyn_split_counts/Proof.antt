@@ -10,17 +10,17 @@ use Rattle.capi.proofs.exports.leskwyn_split_counts.Tie as tie
 split-counts-requires : tie.Need-split-counts-requires
 split-counts-requires c κs = search needs
 
-widened-requires : tie.Need-widened-requires
-widened-requires c κs = search needs
+as-count-requires : tie.Need-as-count-requires
+as-count-requires c κs = search needs
 
-widened-requires-2 : tie.Need-widened-requires-2
-widened-requires-2 c κs = search needs
+as-count-requires-2 : tie.Need-as-count-requires-2
+as-count-requires-2 c κs = search needs
 
-widened-requires-3 : tie.Need-widened-requires-3
-widened-requires-3 c κs = search needs
+as-count-requires-3 : tie.Need-as-count-requires-3
+as-count-requires-3 c κs = search needs
 
-widened-requires-4 : tie.Need-widened-requires-4
-widened-requires-4 c κs = search needs
+as-count-requires-4 : tie.Need-as-count-requires-4
+as-count-requires-4 c κs = search needs
 
 same-length : tie.Need-same-length
 same-length c = search needs
@@ -31,8 +31,8 @@ returns c =
     let w2 = w3 .before in
     let w1 = w2 .before in
     let x = w1 .before .before .before .split-counts .ensures in (
-      splits-plain _ _ _ _ _ (w1 .widened .ensures) (w2 .widened2 .ensures) (w3 .widened3 .ensures)
-          (c .widened4 .ensures)
+      splits-plain _ _ _ _ _ (w1 .as-count .ensures .0) (w2 .as-count2 .ensures .0) (w3 .as-count3 .ensures .0)
+          (c .as-count4 .ensures .0)
           ∙ ap plainSplits (x .0),
       x .1,
     )
@@ -42,9 +42,9 @@ leskwyn-split-counts-spec =
     tie.close
     (tie.spec
     split-counts-requires
-    widened-requires
-    widened-requires-2
-    widened-requires-3
-    widened-requires-4
+    as-count-requires
+    as-count-requires-2
+    as-count-requires-3
+    as-count-requires-4
     same-length
     returns)

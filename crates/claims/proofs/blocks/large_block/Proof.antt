@@ -3,7 +3,7 @@
 use mathlib.Core.Path.{_≡_}
 use Prim.Native.Nat.{_+_, _*_}
 use native.Mathlib.Omega.{arith}
-use Rattle.node_pairs.specs.Cells.{pairS3}
+use Rattle.node_pairs.specs.theorems.Cells.{pairS3}
 use Rattle.claims.specs.Block.{blockCell}
 use Rattle.claims.specs.BlockTerms.{pairs-come-to, hooks-come-to}
 use borrow.Author.Needs.{needs}

@@ -3,7 +3,7 @@
 use mathlib.Core.Path.{sym, _∙_, ap₂}
 use Prim.Native.Nat.{ℕ}
 use native.Mathlib.Omega.{arith}
-use Rattle.node_pairs.specs.Cells.{pairS2, pairS3}
+use Rattle.node_pairs.specs.theorems.Cells.{pairS2, pairS3}
 use Rattle.tree_check.specs.Table.{word}
 use Rattle.claims.specs.CodeCells.{codeCell}
 use Rattle.claims.specs.PairLoops.{few-S2, few-S3, block-room, filled-block, filled-S2, filled-S3}

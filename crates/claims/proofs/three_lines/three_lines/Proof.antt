@@ -4,7 +4,7 @@ use mathlib.Core.Path.{_≡_}
 use Prim.Native.Nat.{ℕ, _+_, _*_, _≤_}
 use native.Mathlib.Omega.{arith}
 use Rattle.sums.specs.theorems.Products.{product-le}
-use Rattle.node_pairs.specs.Cells.{pairS2, pairS3}
+use Rattle.node_pairs.specs.theorems.Cells.{pairS2, pairS3}
 use Rattle.claims.specs.Lines.{lineCell}
 use Rattle.claims.specs.LineDots.{FewLines, lineOf}
 use Rattle.claims.specs.ThreeLines.{ThreeSums, first-low, second-low, third-low, first-le, second-le, third-le}

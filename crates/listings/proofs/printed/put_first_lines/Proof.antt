@@ -6,8 +6,8 @@ use borrow.Author.Needs.{needs}
 use Rattle.listings.proofs.printed.put_first_lines.Statement.{statement}
 use Rattle.listings.proofs.printed.put_first_lines.Tie as tie
 
-wide-requires : tie.Need-wide-requires
-wide-requires c κs = search needs
+as-count-requires : tie.Need-as-count-requires
+as-count-requires c κs = search needs
 
 slice-aggregate-put-line : tie.Need-slice-aggregate-put-line
 slice-aggregate-put-line c = search needs
@@ -35,10 +35,10 @@ returns c =
     let p = c .before .before .put-line2 in
     let d = c .before .before .before .before .before .before .before .before in
     let m = d .put-line in
-    let w = d .before .before .before .before .before .wide in
+    let w = d .before .before .before .before .before .as-count in
     let s = d .before .before .before .before .before .before .before in (
       first-lines-written (s .args .figures) 0 (s .args .out .now) (m .result) (m .last .1 .1 .1 .0)
-          (p .result) (p .last .1 .1 .1 .0) (w .result) (w .ensures) (m .ensures .0) (p .ensures .0),
+          (p .result) (p .last .1 .1 .1 .0) (w .result) (w .ensures .0) (m .ensures .0) (p .ensures .0),
       omega arith,
     )
 
@@ -46,7 +46,7 @@ pub put-first-lines-spec : {M : Type 1} → statement M
 put-first-lines-spec =
     tie.close
     (tie.spec
-    wide-requires
+    as-count-requires
     slice-aggregate-put-line
     slice-aggregate-put-line-2
     put-line-requires

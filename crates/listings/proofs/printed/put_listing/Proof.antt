@@ -21,8 +21,8 @@ returns c =
       omega arith,
     )
 
-wide-requires : tie.Need-wide-requires
-wide-requires c κs = search needs
+as-count-requires : tie.Need-as-count-requires
+as-count-requires c κs = search needs
 
 slice-aggregate-put-line : tie.Need-slice-aggregate-put-line
 slice-aggregate-put-line c = search needs
@@ -40,9 +40,9 @@ returns-2 : tie.Need-returns-2
 returns-2 c =
     let p = c .before .before .put-line in
     let d = c .before .before .before .before .before .before in
-    let w = d .wide in
+    let w = d .as-count in
     let s = d .before .before .before .before in (
-      listed-refused (s .args .figures) (s .args .out .now) (p .result) (p .last .1 .1 .1 .0) (w .result) (w .ensures)
+      listed-refused (s .args .figures) (s .args .out .now) (p .result) (p .last .1 .1 .1 .0) (w .result) (w .ensures .0)
           (d .before .if1 .left) (p .ensures .0),
       omega arith,
     )
@@ -54,7 +54,7 @@ put-listing-spec =
     put-lines-requires
     same-length
     returns
-    wide-requires
+    as-count-requires
     slice-aggregate-put-line
     slice-aggregate-put-line-2
     put-line-requires

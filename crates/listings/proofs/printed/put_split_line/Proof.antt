@@ -6,17 +6,17 @@ use borrow.Author.Needs.{needs}
 use Rattle.listings.proofs.printed.put_split_line.Statement.{statement}
 use Rattle.listings.proofs.printed.put_split_line.Tie as tie
 
-wide-requires : tie.Need-wide-requires
-wide-requires c κs = search needs
+as-count-requires : tie.Need-as-count-requires
+as-count-requires c κs = search needs
 
-wide-requires-2 : tie.Need-wide-requires-2
-wide-requires-2 c κs = search needs
+as-count-requires-2 : tie.Need-as-count-requires-2
+as-count-requires-2 c κs = search needs
 
-wide-requires-3 : tie.Need-wide-requires-3
-wide-requires-3 c κs = search needs
+as-count-requires-3 : tie.Need-as-count-requires-3
+as-count-requires-3 c κs = search needs
 
-wide-requires-4 : tie.Need-wide-requires-4
-wide-requires-4 c κs = search needs
+as-count-requires-4 : tie.Need-as-count-requires-4
+as-count-requires-4 c κs = search needs
 
 slice-aggregate-put-line : tie.Need-slice-aggregate-put-line
 slice-aggregate-put-line c = search needs
@@ -36,8 +36,8 @@ returns c =
     let w = c .before .before .before .before .before .before in
     let s = w .before .before .before .before .before .before in (
       split-line-written (s .args .figures) (s .args .at) (s .args .out .now) (p .result) (p .last .1 .1 .1 .0)
-          _ _ _ _ (w .before .before .before .wide .ensures) (w .before .before .wide2 .ensures)
-          (w .before .wide3 .ensures) (w .wide4 .ensures) (p .ensures .0),
+          _ _ _ _ (w .before .before .before .as-count .ensures .0) (w .before .before .as-count2 .ensures .0)
+          (w .before .as-count3 .ensures .0) (w .as-count4 .ensures .0) (p .ensures .0),
       omega arith,
     )
 
@@ -45,10 +45,10 @@ pub put-split-line-spec : {M : Type 1} → statement M
 put-split-line-spec =
     tie.close
     (tie.spec
-    wide-requires
-    wide-requires-2
-    wide-requires-3
-    wide-requires-4
+    as-count-requires
+    as-count-requires-2
+    as-count-requires-3
+    as-count-requires-4
     slice-aggregate-put-line
     slice-aggregate-put-line-2
     put-line-requires

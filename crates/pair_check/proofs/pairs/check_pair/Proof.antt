@@ -44,11 +44,11 @@ returns c =
     (c .refusal-of .ensures) in
     pair-turned-away _ _ _ (first-refused _ _ _ (h .0) (h .1)) (h .1)
 
-wide-requires : tie.Need-wide-requires
-wide-requires c κs = search needs
+as-index-requires : tie.Need-as-index-requires
+as-index-requires c κs = search needs
 
 sub-rows : tie.Need-sub-rows
-sub-rows c = let t = first-tree (c .before) in omega (arith, edges-some _ (t .0), t .2, c .wide .ensures .0)
+sub-rows c = let t = first-tree (c .before) in omega (arith, edges-some _ (t .0), t .2, c .as-index .ensures .0)
 
 check-requires-2 : tie.Need-check-requires-2
 check-requires-2 c κs = search needs
@@ -82,11 +82,11 @@ returns-3 c =
     let u = second-tree (c .before) in
     pair-turned-away _ _ _ (tips-differ _ _ (t .0) (u .0) (λ e. omega (arith, c .if1 .taken, t .1, u .1, e))) (λ z. omega arith)
 
-wide-requires-2 : tie.Need-wide-requires-2
-wide-requires-2 c κs = search needs
+as-index-requires-2 : tie.Need-as-index-requires-2
+as-index-requires-2 c κs = search needs
 
 sub-t16 : tie.Need-sub-t16
-sub-t16 c = let u = second-tree (c .before .before) in omega (arith, edges-some _ (u .0), u .2, c .wide2 .ensures .0)
+sub-t16 c = let u = second-tree (c .before .before) in omega (arith, edges-some _ (u .0), u .2, c .as-index2 .ensures .0)
 
 returns-4 : tie.Need-returns-4
 returns-4 c =
@@ -95,8 +95,8 @@ returns-4 c =
     let u = second-tree o in
     pair-found _ _ _ _ _ (tables-accepted _ _ (t .0) (u .0) (omega (arith, c .before .if1 .left, t .1, u .1)))
     (t .1)
-    (ap (λ (x : ℕ). x - 1) (o .before .before .before .before .wide .ensures .0 ∙ t .2))
-    (ap (λ (x : ℕ). x - 1) (c .wide2 .ensures .0 ∙ u .2))
+    (ap (λ (x : ℕ). x - 1) (o .before .before .before .before .as-index .ensures .0 ∙ t .2))
+    (ap (λ (x : ℕ). x - 1) (c .as-index2 .ensures .0 ∙ u .2))
 
 pub check-pair-spec : {M : Type 1} → statement M
 check-pair-spec =
@@ -107,7 +107,7 @@ check-pair-spec =
     enum-told
     refusal-of-requires
     returns
-    wide-requires
+    as-index-requires
     sub-rows
     check-requires-2
     enum-known-other
@@ -116,6 +116,6 @@ check-pair-spec =
     add-t14
     returns-2
     returns-3
-    wide-requires-2
+    as-index-requires-2
     sub-t16
     returns-4)

@@ -11,11 +11,11 @@ returns c =
     let a = c .before .before .args in
     (first-few (a .words .now) (c .if1 .taken), omega arith)
 
-shared-slice-read-wide : tie.Need-shared-slice-read-wide
-shared-slice-read-wide c = search needs
+shared-slice-read-as-index : tie.Need-shared-slice-read-as-index
+shared-slice-read-as-index c = search needs
 
-wide-requires : tie.Need-wide-requires
-wide-requires c κs = search needs
+as-index-requires : tie.Need-as-index-requires
+as-index-requires c κs = search needs
 
 mul-whole : tie.Need-mul-whole
 mul-whole c = search needs
@@ -25,14 +25,14 @@ add-whole c = search needs
 
 returns-2 : tie.Need-returns-2
 returns-2 c =
-    let w = c .before .wide in
+    let w = c .before .as-index in
     let i = c .before .before .before in
     let a = i .before .before .args in
     (first-short (a .words .now) (w .result) (w .ensures .0) (omega arith) (c .if2 .taken), omega arith)
 
 returns-3 : tie.Need-returns-3
 returns-3 c =
-    let w = c .before .wide in
+    let w = c .before .as-index in
     let i = c .before .before .before in
     let a = i .before .before .args in
     (first-whole (a .words .now) (w .result) (w .ensures .0) (omega arith) (omega arith), omega arith)
@@ -40,4 +40,4 @@ returns-3 c =
 pub first-length-spec : {M : Type 1} → statement M
 first-length-spec =
     tie.close
-    (tie.spec returns shared-slice-read-wide wide-requires mul-whole add-whole returns-2 returns-3)
+    (tie.spec returns shared-slice-read-as-index as-index-requires mul-whole add-whole returns-2 returns-3)

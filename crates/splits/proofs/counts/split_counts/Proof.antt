@@ -45,8 +45,8 @@ returns c =
     let h = work-passed _ _ _ _ _ _ (x .0) (c .before .enum-told .given .1) (c .pair-refusal .ensures) in
     (split-refused _ _ _ _ (h .0) (h .1), x .2)
 
-wide-requires : tie.Need-wide-requires
-wide-requires c κs = search needs
+as-count-requires : tie.Need-as-count-requires
+as-count-requires c κs = search needs
 
 count-splits-requires : tie.Need-count-splits-requires
 count-splits-requires c κs =
@@ -54,9 +54,9 @@ count-splits-requires c κs =
     let p = pair k in
     let told = k .before .answer .given .0 in
     let x = k .before .before .before .before .before .cross-pair .ensures in
-    subst (λ (cells : List ℕ). SplitsCountable cells (told .1 .0) (told .1 .1 .0) (c .wide .result))
+    subst (λ (cells : List ℕ). SplitsCountable cells (told .1 .0) (told .1 .1 .0) (c .as-count .result))
     (sym (crossings-are _ _ _ _ (p .0) (x .2)))
-    (split-cells _ _ _ (p .0) _ _ _ (c .wide .ensures .0 ∙ p .1) (p .2) (p .3))
+    (split-cells _ _ _ (p .0) _ _ _ (c .as-count .ensures .0 ∙ p .1) (p .2) (p .3))
 
 same-length-2 : tie.Need-same-length-2
 same-length-2 c = search needs
@@ -68,9 +68,9 @@ returns-2 c =
     let told = k .before .answer .given .0 in
     let x = k .before .before .before .before .before .cross-pair .ensures in (
       c .count-splits .ensures
-          ∙ ap (λ (cells : List ℕ). counted cells (told .1 .0) (told .1 .1 .0) (c .before .wide .result))
+          ∙ ap (λ (cells : List ℕ). counted cells (told .1 .0) (told .1 .1 .0) (c .before .as-count .result))
           (crossings-are _ _ _ _ (p .0) (x .2))
-          ∙ split-accepted _ _ _ (p .0) _ _ _ (c .before .wide .ensures .0 ∙ p .1) (p .2) (p .3),
+          ∙ split-accepted _ _ _ (p .0) _ _ _ (c .before .as-count .ensures .0 ∙ p .1) (p .2) (p .3),
       x .2,
     )
 
@@ -84,7 +84,7 @@ split-counts-spec =
     pair-refusal-requires
     same-length
     returns
-    wide-requires
+    as-count-requires
     count-splits-requires
     same-length-2
     returns-2)

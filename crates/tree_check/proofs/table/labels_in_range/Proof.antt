@@ -25,20 +25,20 @@ told : (c : tie.After-label-fits Inv-loop μ-loop)
     → let s = c .before .before .before .before .before .before .args in
     labelFits (s .n) (word (s .labels .now) (c .before .before .before .before .loop .i)) ≡ c .label-fits .result
 told c =
-    ap (labelFits (c .before .before .before .before .before .before .args .n)) (sym (c .before .wide .ensures .0))
+    ap (labelFits (c .before .before .before .before .before .before .args .n)) (sym (c .before .as-index .ensures .0))
     ∙ sym (c .label-fits .ensures)
 
 loop-holds : tie.Need-loop-holds Inv-loop μ-loop
 loop-holds c = (omega arith, λ k l. absurd (omega arith))
 
-mul-wide : tie.Need-mul-wide Inv-loop μ-loop
-mul-wide c = search needs
+mul-as-index : tie.Need-mul-as-index Inv-loop μ-loop
+mul-as-index c = search needs
 
-shared-slice-read-wide : tie.Need-shared-slice-read-wide Inv-loop μ-loop
-shared-slice-read-wide c = search needs
+shared-slice-read-as-index : tie.Need-shared-slice-read-as-index Inv-loop μ-loop
+shared-slice-read-as-index c = search needs
 
-wide-requires : tie.Need-wide-requires Inv-loop μ-loop
-wide-requires c κs = search needs
+as-index-requires : tie.Need-as-index-requires Inv-loop μ-loop
+as-index-requires c κs = search needs
 
 label-fits-requires : tie.Need-label-fits-requires Inv-loop μ-loop
 label-fits-requires c κs = search needs
@@ -72,9 +72,9 @@ labels-in-range-spec =
     Inv-loop
     μ-loop
     loop-holds
-    mul-wide
-    shared-slice-read-wide
-    wide-requires
+    mul-as-index
+    shared-slice-read-as-index
+    as-index-requires
     label-fits-requires
     returns
     add-i

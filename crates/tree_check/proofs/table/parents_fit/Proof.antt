@@ -26,20 +26,20 @@ told : (c : tie.After-parent-fits Inv-loop μ-loop)
     let ps = c .before .before .before .before .before .before .args .parents .now in
     parentFits (l .i) (word ps (l .i)) ≡ c .parent-fits .result
 told c =
-    ap (parentFits (c .before .before .before .before .loop .i)) (sym (c .before .wide .ensures .0))
+    ap (parentFits (c .before .before .before .before .loop .i)) (sym (c .before .as-index .ensures .0))
     ∙ sym (c .parent-fits .ensures)
 
 loop-holds : tie.Need-loop-holds Inv-loop μ-loop
 loop-holds c = (omega arith, λ k l. absurd (omega arith))
 
-mul-wide : tie.Need-mul-wide Inv-loop μ-loop
-mul-wide c = search needs
+mul-as-index : tie.Need-mul-as-index Inv-loop μ-loop
+mul-as-index c = search needs
 
-shared-slice-read-wide : tie.Need-shared-slice-read-wide Inv-loop μ-loop
-shared-slice-read-wide c = search needs
+shared-slice-read-as-index : tie.Need-shared-slice-read-as-index Inv-loop μ-loop
+shared-slice-read-as-index c = search needs
 
-wide-requires : tie.Need-wide-requires Inv-loop μ-loop
-wide-requires c κs = search needs
+as-index-requires : tie.Need-as-index-requires Inv-loop μ-loop
+as-index-requires c κs = search needs
 
 parent-fits-requires : tie.Need-parent-fits-requires Inv-loop μ-loop
 parent-fits-requires c κs = search needs
@@ -73,9 +73,9 @@ parents-fit-spec =
     Inv-loop
     μ-loop
     loop-holds
-    mul-wide
-    shared-slice-read-wide
-    wide-requires
+    mul-as-index
+    shared-slice-read-as-index
+    as-index-requires
     parent-fits-requires
     returns
     add-i

@@ -28,30 +28,30 @@ told : (c : tie.After-is-misplaced Inv-loop μ-loop)
     ≡ c .is-misplaced .result
 told c =
     ap₂ (misplaced (c .before .before .before .before .before .before .loop .i))
-    (sym (c .before .before .before .wide .ensures .0))
-    (sym (c .before .wide2 .ensures .0))
+    (sym (c .before .before .before .as-index .ensures .0))
+    (sym (c .before .as-index2 .ensures .0))
     ∙ sym (c .is-misplaced .ensures)
 
 loop-holds : tie.Need-loop-holds Inv-loop μ-loop
 loop-holds c = (omega arith, λ k l. absurd (omega arith))
 
-mul-wide : tie.Need-mul-wide Inv-loop μ-loop
-mul-wide c = search needs
+mul-as-index : tie.Need-mul-as-index Inv-loop μ-loop
+mul-as-index c = search needs
 
-shared-slice-read-wide : tie.Need-shared-slice-read-wide Inv-loop μ-loop
-shared-slice-read-wide c = search needs
+shared-slice-read-as-index : tie.Need-shared-slice-read-as-index Inv-loop μ-loop
+shared-slice-read-as-index c = search needs
 
-wide-requires : tie.Need-wide-requires Inv-loop μ-loop
-wide-requires c κs = search needs
+as-index-requires : tie.Need-as-index-requires Inv-loop μ-loop
+as-index-requires c κs = search needs
 
-mul-wide-2 : tie.Need-mul-wide-2 Inv-loop μ-loop
-mul-wide-2 c = search needs
+mul-as-index-2 : tie.Need-mul-as-index-2 Inv-loop μ-loop
+mul-as-index-2 c = search needs
 
-shared-slice-read-wide-2 : tie.Need-shared-slice-read-wide-2 Inv-loop μ-loop
-shared-slice-read-wide-2 c = search needs
+shared-slice-read-as-index-2 : tie.Need-shared-slice-read-as-index-2 Inv-loop μ-loop
+shared-slice-read-as-index-2 c = search needs
 
-wide-requires-2 : tie.Need-wide-requires-2 Inv-loop μ-loop
-wide-requires-2 c κs = search needs
+as-index-requires-2 : tie.Need-as-index-requires-2 Inv-loop μ-loop
+as-index-requires-2 c κs = search needs
 
 is-misplaced-requires : tie.Need-is-misplaced-requires Inv-loop μ-loop
 is-misplaced-requires c κs = search needs
@@ -85,12 +85,12 @@ some-misplaced-spec =
     Inv-loop
     μ-loop
     loop-holds
-    mul-wide
-    shared-slice-read-wide
-    wide-requires
-    mul-wide-2
-    shared-slice-read-wide-2
-    wide-requires-2
+    mul-as-index
+    shared-slice-read-as-index
+    as-index-requires
+    mul-as-index-2
+    shared-slice-read-as-index-2
+    as-index-requires-2
     is-misplaced-requires
     returns
     add-i

@@ -22,7 +22,7 @@ known-n : (c : tie.After-tips-fit)
     → tipsFit (tips (c .before .before .before .before .before .before .before .args .table .now))
     ≡ c .tips-fit .result
 unfolding tips
-known-n c = ap tipsFit (sym (c .before .before .before .wide .ensures .0)) ∙ sym (c .tips-fit .ensures)
+known-n c = ap tipsFit (sym (c .before .before .before .as-index .ensures .0)) ∙ sym (c .tips-fit .ensures)
 
 -- what is known of m
 known-m : (c : tie.After-nodes-fit)
@@ -30,8 +30,8 @@ known-m : (c : tie.After-nodes-fit)
     nodesFit (tips t) (nodes t) ≡ c .nodes-fit .result
 unfolding tips nodes
 known-m c =
-    ap₂ nodesFit (sym (c .before .before .before .before .before .wide .ensures .0))
-    (sym (c .before .before .before .wide2 .ensures .0))
+    ap₂ nodesFit (sym (c .before .before .before .before .before .as-index .ensures .0))
+    (sym (c .before .before .before .as-index2 .ensures .0))
     ∙ sym (c .nodes-fit .ensures)
 
 abbrev table : tie.Else4 → Table
@@ -41,20 +41,20 @@ record Known (c : tie.Else4) : Type 0 where
   long : 2 ≤ length (table c)
   tips-fit : tipsFit (tips (table c)) ≡ true
   nodes-fit : nodesFit (tips (table c)) (nodes (table c)) ≡ true
-  n-is : c .before .before .before .before .before .before .before .wide .result ≡ tips (table c)
-  m-is : c .before .before .before .before .before .wide2 .result ≡ nodes (table c)
+  n-is : c .before .before .before .before .before .before .before .as-index .result ≡ tips (table c)
+  m-is : c .before .before .before .before .before .as-index2 .result ≡ nodes (table c)
   words : length (table c) ≡ 2 + 2 * nodes (table c)
 
 known : (c : tie.Else4) → Known c
 unfolding tips nodes
 known c =
     let b = c .before .before .before in
-    let m = b .before .before .wide2 .ensures .0 in
+    let m = b .before .before .as-index2 .ensures .0 in
     record {
       long = b .before .before .before .before .before .before .if1 .left;
       tips-fit = known-n (b .before) ∙ not-false _ (b .if2 .left);
       nodes-fit = known-m (c .before .before) ∙ not-false _ (c .before .if3 .left);
-      n-is = b .before .before .before .before .wide .ensures .0;
+      n-is = b .before .before .before .before .as-index .ensures .0;
       m-is = m;
       words = c .if4 .left ∙ ap (λ (k : ℕ). 2 + 2 * k) m;
     }
@@ -62,17 +62,17 @@ known c =
 returns : tie.Need-returns
 returns c = sym (too-short _ (c .if1 .taken))
 
-shared-slice-read-wide : tie.Need-shared-slice-read-wide
-shared-slice-read-wide c = search needs
+shared-slice-read-as-index : tie.Need-shared-slice-read-as-index
+shared-slice-read-as-index c = search needs
 
-wide-requires : tie.Need-wide-requires
-wide-requires c κs = search needs
+as-index-requires : tie.Need-as-index-requires
+as-index-requires c κs = search needs
 
-shared-slice-read-wide-2 : tie.Need-shared-slice-read-wide-2
-shared-slice-read-wide-2 c = search needs
+shared-slice-read-as-index-2 : tie.Need-shared-slice-read-as-index-2
+shared-slice-read-as-index-2 c = search needs
 
-wide-requires-2 : tie.Need-wide-requires-2
-wide-requires-2 c κs = search needs
+as-index-requires-2 : tie.Need-as-index-requires-2
+as-index-requires-2 c κs = search needs
 
 tips-fit-requires : tie.Need-tips-fit-requires
 tips-fit-requires c κs = search needs
@@ -86,7 +86,7 @@ nodes-fit-requires : tie.Need-nodes-fit-requires
 unfolding tips
 nodes-fit-requires c κs =
     let h = tips-iff _ .0 (subst T (sym (known-n (c .before) ∙ not-false _ (c .if2 .left))) tt) in
-    rw (c .before .before .before .before .wide .ensures .0) h
+    rw (c .before .before .before .before .as-index .ensures .0) h
 
 returns-3 : tie.Need-returns-3
 returns-3 c =
@@ -106,7 +106,7 @@ returns-4 c =
     let b = c .before .before .before in
     sym (length-wrong _ (b .before .before .before .before .before .before .if1 .left)
     (known-n (b .before) ∙ not-false _ (b .if2 .left)) (known-m (c .before .before) ∙ not-false _ (c .before .if3 .left))
-    (λ e. c .if4 .taken (e ∙ ap (λ (k : ℕ). 2 + 2 * k) (sym (b .before .before .wide2 .ensures .0)))))
+    (λ e. c .if4 .taken (e ∙ ap (λ (k : ℕ). 2 + 2 * k) (sym (b .before .before .as-index2 .ensures .0)))))
 
 add-arrays-refusal : tie.Need-add-arrays-refusal
 add-arrays-refusal c = search needs
@@ -153,10 +153,10 @@ tree-refusal-spec =
     tie.close
     (tie.spec
     returns
-    shared-slice-read-wide
-    wide-requires
-    shared-slice-read-wide-2
-    wide-requires-2
+    shared-slice-read-as-index
+    as-index-requires
+    shared-slice-read-as-index-2
+    as-index-requires-2
     tips-fit-requires
     returns-2
     nodes-fit-requires

@@ -10,36 +10,36 @@ use Rattle.tree_pairs.proofs.crosses.fill.Statement.{statement}
 use Rattle.tree_pairs.proofs.crosses.fill.Tie as tie
 
 -- as many words as their numbers of nodes tell
-record Lengths (c : tie.After-wide3) : Type 0 where
+record Lengths (c : tie.After-as-index3) : Type 0 where
   first : length (c .before .before .before .before .before .before .before .before .before .args .first .now)
-      ≡ 2 + 2 * c .before .before .wide2 .result
+      ≡ 2 + 2 * c .before .before .as-index2 .result
   second : length (c .before .before .before .before .before .before .before .before .before .args .second .now)
-      ≡ 2 + 2 * c .wide3 .result
+      ≡ 2 + 2 * c .as-index3 .result
 
-lengths : (c : tie.After-wide3) → Lengths c
+lengths : (c : tie.After-as-index3) → Lengths c
 lengths c =
     let s = c .before .before .before .before .before .before .before .before .before in
-    let l = lent-lengths _ _ (s .args .work .now) (s .pre) _ _ _ (c .before .before .before .before .wide .ensures .0)
-    (c .before .before .wide2 .ensures .0) (c .wide3 .ensures .0) in
+    let l = lent-lengths _ _ (s .args .work .now) (s .pre) _ _ _ (c .before .before .before .before .as-index .ensures .0)
+    (c .before .before .as-index2 .ensures .0) (c .as-index3 .ensures .0) in
     record { first = l .0; second = l .1 }
 
-shared-slice-read-wide : tie.Need-shared-slice-read-wide
-shared-slice-read-wide c = search needs
+shared-slice-read-as-index : tie.Need-shared-slice-read-as-index
+shared-slice-read-as-index c = search needs
 
-wide-requires : tie.Need-wide-requires
-wide-requires c κs = search needs
+as-index-requires : tie.Need-as-index-requires
+as-index-requires c κs = search needs
 
-shared-slice-read-wide-2 : tie.Need-shared-slice-read-wide-2
-shared-slice-read-wide-2 c = search needs
+shared-slice-read-as-index-2 : tie.Need-shared-slice-read-as-index-2
+shared-slice-read-as-index-2 c = search needs
 
-wide-requires-2 : tie.Need-wide-requires-2
-wide-requires-2 c κs = search needs
+as-index-requires-2 : tie.Need-as-index-requires-2
+as-index-requires-2 c κs = search needs
 
-shared-slice-read-wide-3 : tie.Need-shared-slice-read-wide-3
-shared-slice-read-wide-3 c = search needs
+shared-slice-read-as-index-3 : tie.Need-shared-slice-read-as-index-3
+shared-slice-read-as-index-3 c = search needs
 
-wide-requires-3 : tie.Need-wide-requires-3
-wide-requires-3 c κs = search needs
+as-index-requires-3 : tie.Need-as-index-requires-3
+as-index-requires-3 c κs = search needs
 
 add-fill-arrays : tie.Need-add-fill-arrays
 add-fill-arrays c = search needs
@@ -99,8 +99,8 @@ fill-arrays-requires : tie.Need-fill-arrays-requires
 fill-arrays-requires c κs =
     let w = c .before .before .before .before .before in
     let s = w .before .before .before .before .before .before .before .before .before in
-    lent-arrays _ _ _ (s .pre) _ _ _ (w .before .before .before .before .wide .ensures .0)
-    (w .before .before .wide2 .ensures .0) (w .wide3 .ensures .0)
+    lent-arrays _ _ _ (s .pre) _ _ _ (w .before .before .before .before .as-index .ensures .0)
+    (w .before .before .as-index2 .ensures .0) (w .as-index3 .ensures .0)
 
 same-length : tie.Need-same-length
 same-length c = search needs
@@ -110,19 +110,19 @@ returns c =
     let f = c .before .before in
     let w = f .before .before .before .before .before .before in
     let s = w .before .before .before .before .before .before .before .before .before in
-    lent-crossed _ _ _ (s .pre) _ _ _ (w .before .before .before .before .wide .ensures .0)
-    (w .before .before .wide2 .ensures .0) (w .wide3 .ensures .0) _ (f .fill-arrays .ensures)
+    lent-crossed _ _ _ (s .pre) _ _ _ (w .before .before .before .before .as-index .ensures .0)
+    (w .before .before .as-index2 .ensures .0) (w .as-index3 .ensures .0) _ (f .fill-arrays .ensures)
 
 pub fill-spec : {M : Type 1} → statement M
 fill-spec =
     tie.close
     (tie.spec
-    shared-slice-read-wide
-    wide-requires
-    shared-slice-read-wide-2
-    wide-requires-2
-    shared-slice-read-wide-3
-    wide-requires-3
+    shared-slice-read-as-index
+    as-index-requires
+    shared-slice-read-as-index-2
+    as-index-requires-2
+    shared-slice-read-as-index-3
+    as-index-requires-3
     add-fill-arrays
     sub-fill-arrays
     part-fill-arrays-start

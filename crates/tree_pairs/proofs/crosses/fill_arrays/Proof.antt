@@ -1,7 +1,7 @@
 -- Cleared, marked, added up: each call leaves what the next one asks.
 -- Assumes nothing.
 use native.Mathlib.Omega.{arith}
-use Rattle.trees.specs.Arrays.{few-nodes}
+use Rattle.walks.specs.lemmas.TreeArrays.{few-nodes}
 use Rattle.tree_pairs.specs.lemmas.Filling.{tip-room, rows-room, filled}
 use borrow.Author.Needs.{needs}
 use Rattle.tree_pairs.proofs.crosses.fill_arrays.Statement.{statement}

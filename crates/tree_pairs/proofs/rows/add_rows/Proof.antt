@@ -18,13 +18,13 @@ abbrev start : tie.At-loop Inv-loop μ-loop → tie.Start Inv-loop μ-loop
 start c = c .before .before .before
 
 -- the parent read has a row, and an earlier one
-parent : (c : tie.After-wide Inv-loop μ-loop)
-    → (1 ≤ c .wide .result) × (c .wide .result < c .before .before .before .loop .i - 1)
+parent : (c : tie.After-as-index Inv-loop μ-loop)
+    → (1 ≤ c .as-index .result) × (c .as-index .result < c .before .before .before .loop .i - 1)
 parent c =
     let l = c .before .before in
     omega (
       arith,
-      c .wide .ensures .0,
+      c .as-index .ensures .0,
       rows-parent _ _ _ _ _ (start (l .before) .pre) (l .before .loop .inv) (l .loop-test .taken),
     )
 
@@ -34,14 +34,14 @@ loop-holds c = rows-none _ _ _ (c .before .before .pre)
 sub-i : tie.Need-sub-i Inv-loop μ-loop
 sub-i c = search needs
 
-mul-wide : tie.Need-mul-wide Inv-loop μ-loop
-mul-wide c = search needs
+mul-as-index : tie.Need-mul-as-index Inv-loop μ-loop
+mul-as-index c = search needs
 
-shared-slice-read-wide : tie.Need-shared-slice-read-wide Inv-loop μ-loop
-shared-slice-read-wide c = omega (arith, c .before .before .loop .inv .to)
+shared-slice-read-as-index : tie.Need-shared-slice-read-as-index Inv-loop μ-loop
+shared-slice-read-as-index c = omega (arith, c .before .before .loop .inv .to)
 
-wide-requires : tie.Need-wide-requires Inv-loop μ-loop
-wide-requires c κs = search needs
+as-index-requires : tie.Need-as-index-requires Inv-loop μ-loop
+as-index-requires c κs = search needs
 
 sub-add-row : tie.Need-sub-add-row Inv-loop μ-loop
 sub-add-row c = omega (arith, parent (c .before))
@@ -51,7 +51,7 @@ mul-add-row c =
     let s = start (c .before .before .before .before) in
     omega (
       arith,
-      row-near (c .before .wide .result - 1) (s .args .width)
+      row-near (c .before .as-index .result - 1) (s .args .width)
           (omega (arith, parent (c .before), c .before .before .before .before .loop .inv .to, s .pre .few))
           (s .pre .narrow),
     )
@@ -75,7 +75,7 @@ add-row-requires c κs =
     let w = c .before in
     let l = w .before .before in
     rows-fit _ _ _ _ _ (start (l .before) .pre) (l .before .loop .inv) (l .loop-test .taken)
-    (w .wide .result) (w .wide .ensures .0)
+    (w .as-index .result) (w .as-index .ensures .0)
 
 loop-less : tie.Need-loop-less Inv-loop μ-loop
 loop-less c = search needs
@@ -85,7 +85,7 @@ loop-again c =
     let w = c .before .before .before .before in
     let l = w .before .before in
     rows-next _ _ _ _ _ (start (l .before) .pre) (l .before .loop .inv) (l .loop-test .taken)
-    (w .wide .result) (w .wide .ensures .0) _ (c .before .before .add-row .ensures)
+    (w .as-index .result) (w .as-index .ensures .0) _ (c .before .before .add-row .ensures)
 
 same-length : tie.Need-same-length Inv-loop μ-loop
 same-length c = search needs
@@ -101,9 +101,9 @@ add-rows-spec =
     μ-loop
     loop-holds
     sub-i
-    mul-wide
-    shared-slice-read-wide
-    wide-requires
+    mul-as-index
+    shared-slice-read-as-index
+    as-index-requires
     sub-add-row
     mul-add-row
     sub-add-row-2

@@ -3,7 +3,7 @@
 use mathlib.Core.Path.{sym, _∙_}
 use mathlib.Core.List.{[]}
 use Rattle.tree_check.specs.theorems.RefusalLaws.{refusal-none, refusal-here, refusal-next}
-use Rattle.trees.specs.Orders.{askedOrder}
+use Rattle.trees.specs.LabelOrder.{askedOrder}
 use borrow.Author.Needs.{needs}
 use Rattle.trees.proofs.asked.asked_refusal.Statement.{statement}
 use Rattle.trees.proofs.asked.asked_refusal.Tie as tie

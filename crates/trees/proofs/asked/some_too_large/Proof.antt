@@ -10,7 +10,7 @@ use lib.Dec.{leb}
 use lib.ListN.{length}
 use Rattle.sums.specs.theorems.TestLaws.{some-true, some-false}
 use Rattle.tree_check.specs.Table.{word}
-use Rattle.trees.specs.Orders.{tooLarge}
+use Rattle.trees.specs.LabelOrder.{tooLarge}
 use borrow.Author.Needs.{needs}
 use Rattle.trees.proofs.asked.some_too_large.Statement.{statement}
 use Rattle.trees.proofs.asked.some_too_large.Tie as tie
@@ -24,20 +24,20 @@ abbrev μ-loop : tie.MeasureT-loop
 loop-holds : tie.Need-loop-holds Inv-loop μ-loop
 loop-holds c = (omega arith, λ k l. absurd (omega arith))
 
-mul-wide : tie.Need-mul-wide Inv-loop μ-loop
-mul-wide c = search needs
+mul-as-index : tie.Need-mul-as-index Inv-loop μ-loop
+mul-as-index c = search needs
 
-shared-slice-read-wide : tie.Need-shared-slice-read-wide Inv-loop μ-loop
-shared-slice-read-wide c = search needs
+shared-slice-read-as-index : tie.Need-shared-slice-read-as-index Inv-loop μ-loop
+shared-slice-read-as-index c = search needs
 
-wide-requires : tie.Need-wide-requires Inv-loop μ-loop
-wide-requires c κs = search needs
+as-index-requires : tie.Need-as-index-requires Inv-loop μ-loop
+as-index-requires c κs = search needs
 
 returns : tie.Need-returns Inv-loop μ-loop
 unfolding tooLarge
 returns c =
     let l = c .before .before .before .before in
-    let w = c .before .wide .ensures .0 in
+    let w = c .before .as-index .ensures .0 in
     sym (some-true _ _ (l .loop .i) (c .before .before .before .loop-test .taken)
     (le-leb _ _ (rw w at (c .if1 .taken))))
 
@@ -50,7 +50,7 @@ loop-less c = search needs
 loop-again : tie.Need-loop-again Inv-loop μ-loop
 loop-again c =
     let l = c .before .before .before .before .loop in
-    let w = c .before .wide .ensures .0 in
+    let w = c .before .as-index .ensures .0 in
     (omega arith, below-more _ _ (l .inv .1) (lt-leb _ _ (rw w at (c .if1 .left))))
 
 returns-2 : tie.Need-returns-2 Inv-loop μ-loop
@@ -66,9 +66,9 @@ some-too-large-spec =
     Inv-loop
     μ-loop
     loop-holds
-    mul-wide
-    shared-slice-read-wide
-    wide-requires
+    mul-as-index
+    shared-slice-read-as-index
+    as-index-requires
     returns
     add-i
     loop-less

@@ -10,7 +10,7 @@ use lib.ListN.{length}
 use Rattle.sums.specs.Tests.{some}
 use Rattle.sums.specs.theorems.TestLaws.{some-true, some-false}
 use Rattle.tree_check.specs.Table.{word}
-use Rattle.trees.specs.Orders.{twoEqual}
+use Rattle.trees.specs.LabelOrder.{twoEqual}
 use borrow.Author.Needs.{needs}
 use Rattle.trees.proofs.asked.two_equal.Statement.{statement}
 use Rattle.trees.proofs.asked.two_equal.Tie as tie

@@ -8,14 +8,9 @@ use Rattle.tree_check.specs.lemmas.TableParts.{to-parts, of-parts}
 use Rattle.tree_check.specs.IsTree.{IsTree}
 use Rattle.tree_check.specs.Check.{numberOf}
 use Rattle.tree_check.specs.theorems.CheckLaws.{checked-accepted, checked-refusal}
-use Rattle.trees.specs.Arrays.{RootedArrays, rooted-arrays}
-use Rattle.trees.specs.Centre.{centreOver}
-use Rattle.trees.specs.CentreLaws.{
-  answer,
-  centre-refused,
-  centre-asked-refused,
-  centre-accepted,
-}
+use Rattle.trees.specs.lemmas.RootedArrays.{RootedArrays, rooted-arrays}
+use Rattle.trees.specs.lemmas.CentreOutcomes.{centreOver, answer, centre-refused, centre-asked-refused}
+use Rattle.trees.specs.lemmas.CentreOutcomes.{centre-accepted}
 use borrow.Author.Needs.{needs}
 use Rattle.trees.proofs.centres.centre.Statement.{statement}
 use Rattle.trees.proofs.centres.centre.Tie as tie
@@ -48,8 +43,8 @@ returns c =
 slice-aggregate-asked-refusal : tie.Need-slice-aggregate-asked-refusal
 slice-aggregate-asked-refusal c = search needs
 
-wide-requires : tie.Need-wide-requires
-wide-requires c κs = search needs
+as-index-requires : tie.Need-as-index-requires
+as-index-requires c κs = search needs
 
 asked-refusal-requires : tie.Need-asked-refusal-requires
 asked-refusal-requires c κs = search needs
@@ -57,11 +52,11 @@ asked-refusal-requires c κs = search needs
 returns-2 : tie.Need-returns-2
 returns-2 c =
     let k = known (c .before .before .before .before .before) in
-    centre-asked-refused _ _ _ _ (k .0) _ (c .before .before .wide .ensures .0 ∙ k .1) _
+    centre-asked-refused _ _ _ _ (k .0) _ (c .before .before .as-index .ensures .0 ∙ k .1) _
     (c .before .asked-refusal .ensures) (c .if1 .taken)
 
-wide-requires-2 : tie.Need-wide-requires-2
-wide-requires-2 c κs = search needs
+as-index-requires-2 : tie.Need-as-index-requires-2
+as-index-requires-2 c κs = search needs
 
 add-centre-node : tie.Need-add-centre-node
 add-centre-node c = search needs
@@ -100,7 +95,7 @@ centre-node-requires : tie.Need-centre-node-requires
 centre-node-requires c κs =
     let w = c .before .before in
     let k = known (w .before .before .before .before .before .before) in
-    to-parts (λ n ps ls. RootedArrays ps ls) _ _ _ (k .0 .words) (k .1) (w .wide2 .ensures .0 ∙ k .2)
+    to-parts (λ n ps ls. RootedArrays ps ls) _ _ _ (k .0 .words) (k .1) (w .as-index2 .ensures .0 ∙ k .2)
     (rooted-arrays _ (k .0))
 
 returns-3 : tie.Need-returns-3
@@ -110,10 +105,10 @@ returns-3 c =
     let a = i .before .before .before .before .before in
     let s = a .before .before .before .before .args in
     let k = known a in
-    centre-accepted _ _ _ _ (k .0) _ (i .before .before .wide .ensures .0 ∙ k .1) _ _
+    centre-accepted _ _ _ _ (k .0) _ (i .before .before .as-index .ensures .0 ∙ k .1) _ _
     (i .before .asked-refusal .ensures) (i .if1 .left)
     (of-parts (λ n ps ls. c .centre-node .result ≡ centreOver ps ls (s .a) (s .b) (s .c))
-    _ _ _ (k .0 .words) (k .1) (w .wide2 .ensures .0 ∙ k .2) (c .centre-node .ensures))
+    _ _ _ (k .0 .words) (k .1) (w .as-index2 .ensures .0 ∙ k .2) (c .centre-node .ensures))
 
 pub centre-spec : {M : Type 1} → statement M
 centre-spec =
@@ -125,10 +120,10 @@ centre-spec =
     refusal-of-requires
     returns
     slice-aggregate-asked-refusal
-    wide-requires
+    as-index-requires
     asked-refusal-requires
     returns-2
-    wide-requires-2
+    as-index-requires-2
     add-centre-node
     sub-centre-node
     part-centre-node-start

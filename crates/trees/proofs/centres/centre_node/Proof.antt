@@ -1,7 +1,7 @@
 -- The nodes of the three labels are nodes, so they can climb.
 -- Assumes nothing.
-use Rattle.trees.specs.Centre.{centreOver}
-use Rattle.trees.specs.Arrays.{node-found}
+use Rattle.trees.specs.lemmas.CentreOutcomes.{centreOver}
+use Rattle.trees.specs.lemmas.RootedArrays.{node-found}
 use borrow.Author.Needs.{needs}
 use Rattle.trees.proofs.centres.centre_node.Statement.{statement}
 use Rattle.trees.proofs.centres.centre_node.Tie as tie

@@ -3,17 +3,8 @@
 use Prim.Native.Nat.{_+_}
 use mathlib.Core.Path.{_≡_, refl, sym, _∙_}
 use native.Mathlib.Omega.{arith}
-use Rattle.trees.specs.Centre.{Climbable}
-use Rattle.trees.specs.CentreLaws.{
-  joinOf,
-  Climbed,
-  first-climbs,
-  second-climbs,
-  third-climbs,
-  first-second-met,
-  first-third-met,
-  second-third-met,
-}
+use Rattle.trees.specs.lemmas.Climbing.{Climbable, joinOf, Climbed, first-climbs, second-climbs, third-climbs}
+use Rattle.trees.specs.lemmas.Climbing.{first-second-met, first-third-met, second-third-met}
 use borrow.Author.Needs.{needs}
 use Rattle.trees.proofs.centres.join.Statement.{statement}
 use Rattle.trees.proofs.centres.join.Tie as tie
@@ -26,49 +17,49 @@ abbrev μ-loop : tie.MeasureT-loop
 μ-loop parents a b c x₀ y₀ z₀ x y z = x + y + z
 
 -- each arm replaces the largest of the three by its parent
-x-climbs : (c : tie.After-wide Inv-loop μ-loop)
+x-climbs : (c : tie.After-as-index Inv-loop μ-loop)
     → let l = c .before .before .before .before .before .before .before in
-    Climbed (l .before .before .args .parents .now) (c .wide .result) (l .loop .y) (l .loop .z)
+    Climbed (l .before .before .args .parents .now) (c .as-index .result) (l .loop .y) (l .loop .z)
     (l .loop .x) (l .loop .y) (l .loop .z)
 x-climbs c =
     let l = c .before .before .before .before .before .before .before .loop in
-    first-climbs _ _ _ _ (l .inv .0) _ (c .wide .ensures .0) (omega arith) (omega arith)
+    first-climbs _ _ _ _ (l .inv .0) _ (c .as-index .ensures .0) (omega arith) (omega arith)
 
-z-climbs-past-x : (c : tie.After-wide2 Inv-loop μ-loop)
+z-climbs-past-x : (c : tie.After-as-index2 Inv-loop μ-loop)
     → let l = c .before .before .before .before .before .before .before in
-    Climbed (l .before .before .args .parents .now) (l .loop .x) (l .loop .y) (c .wide2 .result)
+    Climbed (l .before .before .args .parents .now) (l .loop .x) (l .loop .y) (c .as-index2 .result)
     (l .loop .x) (l .loop .y) (l .loop .z)
 z-climbs-past-x c =
     let l = c .before .before .before .before .before .before .before .loop in
-    third-climbs _ _ _ _ (l .inv .0) _ (c .wide2 .ensures .0) (omega arith) (omega arith)
+    third-climbs _ _ _ _ (l .inv .0) _ (c .as-index2 .ensures .0) (omega arith) (omega arith)
 
-y-climbs : (c : tie.After-wide3 Inv-loop μ-loop)
+y-climbs : (c : tie.After-as-index3 Inv-loop μ-loop)
     → let l = c .before .before .before .before .before .before .before in
-    Climbed (l .before .before .args .parents .now) (l .loop .x) (c .wide3 .result) (l .loop .z)
+    Climbed (l .before .before .args .parents .now) (l .loop .x) (c .as-index3 .result) (l .loop .z)
     (l .loop .x) (l .loop .y) (l .loop .z)
 y-climbs c =
     let l = c .before .before .before .before .before .before .before .loop in
-    second-climbs _ _ _ _ (l .inv .0) _ (c .wide3 .ensures .0) (omega arith) (omega arith)
+    second-climbs _ _ _ _ (l .inv .0) _ (c .as-index3 .ensures .0) (omega arith) (omega arith)
 
-z-climbs-past-y : (c : tie.After-wide4 Inv-loop μ-loop)
+z-climbs-past-y : (c : tie.After-as-index4 Inv-loop μ-loop)
     → let l = c .before .before .before .before .before .before .before in
-    Climbed (l .before .before .args .parents .now) (l .loop .x) (l .loop .y) (c .wide4 .result)
+    Climbed (l .before .before .args .parents .now) (l .loop .x) (l .loop .y) (c .as-index4 .result)
     (l .loop .x) (l .loop .y) (l .loop .z)
 z-climbs-past-y c =
     let l = c .before .before .before .before .before .before .before .loop in
-    third-climbs _ _ _ _ (l .inv .0) _ (c .wide4 .ensures .0) (omega arith) (omega arith)
+    third-climbs _ _ _ _ (l .inv .0) _ (c .as-index4 .ensures .0) (omega arith) (omega arith)
 
 loop-holds : tie.Need-loop-holds Inv-loop μ-loop
 loop-holds c = (c .before .pre, refl)
 
-mul-wide : tie.Need-mul-wide Inv-loop μ-loop
-mul-wide c = search needs
+mul-as-index : tie.Need-mul-as-index Inv-loop μ-loop
+mul-as-index c = search needs
 
-shared-slice-read-wide : tie.Need-shared-slice-read-wide Inv-loop μ-loop
-shared-slice-read-wide c = search needs
+shared-slice-read-as-index : tie.Need-shared-slice-read-as-index Inv-loop μ-loop
+shared-slice-read-as-index c = search needs
 
-wide-requires : tie.Need-wide-requires Inv-loop μ-loop
-wide-requires c κs = search needs
+as-index-requires : tie.Need-as-index-requires Inv-loop μ-loop
+as-index-requires c κs = search needs
 
 loop-less : tie.Need-loop-less Inv-loop μ-loop
 loop-less c = x-climbs c .less
@@ -78,14 +69,14 @@ loop-again c =
     let s = x-climbs c in
     (s .three, s .same ∙ c .before .before .before .before .before .before .before .loop .inv .1)
 
-mul-wide-2 : tie.Need-mul-wide-2 Inv-loop μ-loop
-mul-wide-2 c = search needs
+mul-as-index-2 : tie.Need-mul-as-index-2 Inv-loop μ-loop
+mul-as-index-2 c = search needs
 
-shared-slice-read-wide-2 : tie.Need-shared-slice-read-wide-2 Inv-loop μ-loop
-shared-slice-read-wide-2 c = search needs
+shared-slice-read-as-index-2 : tie.Need-shared-slice-read-as-index-2 Inv-loop μ-loop
+shared-slice-read-as-index-2 c = search needs
 
-wide-requires-2 : tie.Need-wide-requires-2 Inv-loop μ-loop
-wide-requires-2 c κs = search needs
+as-index-requires-2 : tie.Need-as-index-requires-2 Inv-loop μ-loop
+as-index-requires-2 c κs = search needs
 
 loop-less-2 : tie.Need-loop-less-2 Inv-loop μ-loop
 loop-less-2 c = z-climbs-past-x c .less
@@ -95,14 +86,14 @@ loop-again-2 c =
     let s = z-climbs-past-x c in
     (s .three, s .same ∙ c .before .before .before .before .before .before .before .loop .inv .1)
 
-mul-wide-3 : tie.Need-mul-wide-3 Inv-loop μ-loop
-mul-wide-3 c = search needs
+mul-as-index-3 : tie.Need-mul-as-index-3 Inv-loop μ-loop
+mul-as-index-3 c = search needs
 
-shared-slice-read-wide-3 : tie.Need-shared-slice-read-wide-3 Inv-loop μ-loop
-shared-slice-read-wide-3 c = search needs
+shared-slice-read-as-index-3 : tie.Need-shared-slice-read-as-index-3 Inv-loop μ-loop
+shared-slice-read-as-index-3 c = search needs
 
-wide-requires-3 : tie.Need-wide-requires-3 Inv-loop μ-loop
-wide-requires-3 c κs = search needs
+as-index-requires-3 : tie.Need-as-index-requires-3 Inv-loop μ-loop
+as-index-requires-3 c κs = search needs
 
 loop-less-3 : tie.Need-loop-less-3 Inv-loop μ-loop
 loop-less-3 c = y-climbs c .less
@@ -112,14 +103,14 @@ loop-again-3 c =
     let s = y-climbs c in
     (s .three, s .same ∙ c .before .before .before .before .before .before .before .loop .inv .1)
 
-mul-wide-4 : tie.Need-mul-wide-4 Inv-loop μ-loop
-mul-wide-4 c = search needs
+mul-as-index-4 : tie.Need-mul-as-index-4 Inv-loop μ-loop
+mul-as-index-4 c = search needs
 
-shared-slice-read-wide-4 : tie.Need-shared-slice-read-wide-4 Inv-loop μ-loop
-shared-slice-read-wide-4 c = search needs
+shared-slice-read-as-index-4 : tie.Need-shared-slice-read-as-index-4 Inv-loop μ-loop
+shared-slice-read-as-index-4 c = search needs
 
-wide-requires-4 : tie.Need-wide-requires-4 Inv-loop μ-loop
-wide-requires-4 c κs = search needs
+as-index-requires-4 : tie.Need-as-index-requires-4 Inv-loop μ-loop
+as-index-requires-4 c κs = search needs
 
 loop-less-4 : tie.Need-loop-less-4 Inv-loop μ-loop
 loop-less-4 c = z-climbs-past-y c .less
@@ -151,24 +142,24 @@ join-spec =
     Inv-loop
     μ-loop
     loop-holds
-    mul-wide
-    shared-slice-read-wide
-    wide-requires
+    mul-as-index
+    shared-slice-read-as-index
+    as-index-requires
     loop-less
     loop-again
-    mul-wide-2
-    shared-slice-read-wide-2
-    wide-requires-2
+    mul-as-index-2
+    shared-slice-read-as-index-2
+    as-index-requires-2
     loop-less-2
     loop-again-2
-    mul-wide-3
-    shared-slice-read-wide-3
-    wide-requires-3
+    mul-as-index-3
+    shared-slice-read-as-index-3
+    as-index-requires-3
     loop-less-3
     loop-again-3
-    mul-wide-4
-    shared-slice-read-wide-4
-    wide-requires-4
+    mul-as-index-4
+    shared-slice-read-as-index-4
+    as-index-requires-4
     loop-less-4
     loop-again-4
     returns

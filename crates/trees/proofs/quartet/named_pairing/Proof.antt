@@ -2,7 +2,7 @@
 -- Assumes nothing.
 use mathlib.Core.Path.{sym, _∙_, ap}
 use borrow.Author.Tests.{eq-eqb, ne-eqb}
-use Rattle.trees.specs.Sides.{topologyShown}
+use Rattle.trees.specs.lemmas.Sides.{topologyShown}
 use Rattle.trees.specs.declared.quartet.Topology.the-variants.{Butterfly}
 use borrow.Author.Needs.{needs}
 use Rattle.trees.proofs.quartet.named_pairing.Statement.{statement}

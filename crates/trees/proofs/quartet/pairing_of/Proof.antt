@@ -2,7 +2,7 @@
 -- Assumes nothing.
 use mathlib.Core.Path.{sym, ap}
 use borrow.Author.Tests.{ne-eqb}
-use Rattle.trees.specs.Sides.{pairing}
+use Rattle.trees.specs.lemmas.Sides.{pairing}
 use Rattle.trees.proofs.quartet.pairing_of.Statement.{statement}
 use Rattle.trees.proofs.quartet.pairing_of.Tie as tie
 

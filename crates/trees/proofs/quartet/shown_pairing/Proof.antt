@@ -5,7 +5,7 @@ use mathlib.Core.Path.{_≡_, refl, sym, _∙_}
 use native.Mathlib.Omega.{arith}
 use borrow.Author.Count.{below-more}
 use Rattle.tree_check.specs.Table.{word}
-use Rattle.trees.specs.Sides.{pairing}
+use Rattle.trees.specs.lemmas.Sides.{pairing}
 use borrow.Author.Needs.{needs}
 use Rattle.trees.proofs.quartet.shown_pairing.Statement.{statement}
 use Rattle.trees.proofs.quartet.shown_pairing.Tie as tie

@@ -2,20 +2,8 @@
 -- Assumes nothing.
 use native.Mathlib.Omega.{arith}
 use borrow.Author.Needs.{fits-under}
-use Rattle.trees.specs.SideCells.{
-  FourNodes,
-  low-zeros,
-  low-x,
-  low-y,
-  low-z,
-  low-w,
-  small-x,
-  small-y,
-  small-z,
-  small-w,
-  marks-addable,
-  marks-added,
-}
+use Rattle.trees.specs.lemmas.SideCells.{FourNodes, low-zeros, low-x, low-y, low-z, low-w, small-x, small-y}
+use Rattle.trees.specs.lemmas.SideCells.{small-z, small-w, marks-added}
 use borrow.Author.Needs.{needs}
 use Rattle.trees.proofs.quartet.sides_of.Statement.{statement}
 use Rattle.trees.proofs.quartet.sides_of.Tie as tie
@@ -107,7 +95,7 @@ array-write-cells-4 : tie.Need-array-write-cells-4
 array-write-cells-4 c = low-w (nodes c)
 
 add-up-requires : tie.Need-add-up-requires
-add-up-requires c κs = marks-addable (nodes (c .before)) low-zeros
+add-up-requires c κs = search needs
 
 returns : tie.Need-returns
 returns c = marks-added (nodes (c .before .before)) low-zeros _ (c .add-up .ensures)

@@ -7,13 +7,13 @@ use Rattle.tree_check.specs.Table.{tips, nodes}
 use Rattle.tree_check.specs.lemmas.TableParts.{to-parts, of-parts}
 use Rattle.tree_check.specs.Refusals.{refusal}
 use Rattle.tree_check.specs.IsTree.{IsTree}
-use Rattle.trees.specs.Orders.{askedOrder}
+use Rattle.trees.specs.LabelOrder.{askedOrder}
+use Rattle.trees.specs.lemmas.Sides.{SidesAre}
+use Rattle.trees.specs.lemmas.RootedArrays.{RootedArrays, rooted-arrays}
+use Rattle.trees.specs.lemmas.TopologyOutcomes.{topology-refused, topology-asked-refused, topology-found}
+use Rattle.trees.specs.lemmas.TopologyOutcomes.{topology-told}
 use Rattle.tree_check.specs.Check.{numberOf}
 use Rattle.tree_check.specs.theorems.CheckLaws.{checked-accepted, checked-refusal}
-use Rattle.trees.specs.Sides.{SidesAre}
-use Rattle.trees.specs.Arrays.{RootedArrays, rooted-arrays}
-use Rattle.trees.specs.TopologyOutcomes.{topology-refused, topology-asked-refused}
-use Rattle.trees.specs.TopologyOutcomes.{topology-found, topology-told}
 use borrow.Author.Needs.{needs}
 use Rattle.trees.proofs.quartet.topology_of.Statement.{statement}
 use Rattle.trees.proofs.quartet.topology_of.Tie as tie
@@ -29,17 +29,17 @@ asked : (c : tie.After-asked-refusal)
     → let s = c .before .before .before .before .before .before .before .before .args in
     refusal (askedOrder (tips (s .table .now)) (s .a ∷ s .b ∷ s .c ∷ s .d ∷ [])) ≡ c .asked-refusal .result
 asked c =
-    let e = c .before .wide .ensures .0 ∙ tree (c .before .before .before .before) .1 in
+    let e = c .before .as-index .ensures .0 ∙ tree (c .before .before .before .before) .1 in
     sym (rw e at (c .asked-refusal .ensures))
 
--- the same, with m as an index
-table : (c : tie.After-wide2)
+-- the same, with m as an as-index
+table : (c : tie.After-as-index2)
     → let b = c .before .before .before .before .before .before in
     let t = b .before .before .before .before .args .table .now in
-    IsTree t × (c .wide2 .result ≡ nodes t)
+    IsTree t × (c .as-index2 .result ≡ nodes t)
 table c =
     let g = tree (c .before .before .before .before .before .before) in
-    (g .0, c .wide2 .ensures .0 ∙ g .2)
+    (g .0, c .as-index2 .ensures .0 ∙ g .2)
 
 check-requires : tie.Need-check-requires
 check-requires c κs = search needs
@@ -63,8 +63,8 @@ returns c =
 slice-aggregate-asked-refusal : tie.Need-slice-aggregate-asked-refusal
 slice-aggregate-asked-refusal c = search needs
 
-wide-requires : tie.Need-wide-requires
-wide-requires c κs = search needs
+as-index-requires : tie.Need-as-index-requires
+as-index-requires c κs = search needs
 
 asked-refusal-requires : tie.Need-asked-refusal-requires
 asked-refusal-requires c κs = search needs
@@ -74,8 +74,8 @@ returns-2 c =
     let g = tree (c .before .before .before .before .before) in
     topology-told _ _ _ _ _ _ (sym (topology-asked-refused _ _ _ _ _ (g .0) _ (asked (c .before)) (c .if1 .taken)))
 
-wide-requires-2 : tie.Need-wide-requires-2
-wide-requires-2 c κs = search needs
+as-index-requires-2 : tie.Need-as-index-requires-2
+as-index-requires-2 c κs = search needs
 
 add-sides-of : tie.Need-add-sides-of
 add-sides-of c = search needs
@@ -146,10 +146,10 @@ topology-of-spec =
     refusal-of-requires
     returns
     slice-aggregate-asked-refusal
-    wide-requires
+    as-index-requires
     asked-refusal-requires
     returns-2
-    wide-requires-2
+    as-index-requires-2
     add-sides-of
     sub-sides-of
     part-sides-of-start

@@ -1,0 +1,41 @@
+// The words of tables and the cells of the work: their sizes, and the numbers that code makes of them.
+// specs/Sizes has the same sizes for contracts.
+ghost use mathlib.Core.Path.{_≡_};
+ghost use Prim.Native.Nat.{_≤_, _<_};
+ghost use Rattle.table_words.specs.Sizes.{cellMost};
+
+// The most tips of a tree.
+pub const TIPS: usize = 256;
+
+// The label of an inner node.
+pub const INNER: usize = 65535;
+
+// The length of an array that has a cell for each node, or for each label.
+pub const NODES: usize = 512;
+
+// The length of an array that has a cell for each directed edge.
+pub const CODES: usize = 1024;
+
+// A cell of the work: how many labels lie beyond two edges.
+pub type Cell = u16;
+
+// A word as an index.
+pub fn as_index(x: u16) -> usize
+    ensures { λ r. ⌜ (r ≡ x) × (r < 65536) ⌝ }
+{
+    x as usize
+}
+
+// A word as a count.
+pub fn as_count(x: u16) -> u64
+    ensures { λ r. ⌜ (r ≡ x) × (r < 65536) ⌝ }
+{
+    x as u64
+}
+
+// A cell as a count.
+pub fn cell_count(x: Cell) -> u64
+    ensures { λ r. ⌜ (r ≡ x) × (r ≤ cellMost) ⌝ }
+{
+    x as u64
+}

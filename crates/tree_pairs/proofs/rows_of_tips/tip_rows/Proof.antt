@@ -1,0 +1,112 @@
+-- The invariant: the rows of the nodes below `v` are marked.
+-- Assumes nothing.
+use Prim.Native.Nat.{_≤_, _-_}
+use mathlib.Core.Logic.{⊎-elim}
+use native.Mathlib.Omega.{arith}
+use lib.ListN.{length}
+use Rattle.tree_pairs.specs.lemmas.TipRows.{TipRows, rows-none, base-low, mark-room}
+use Rattle.tree_pairs.specs.lemmas.TipRows.{rows-skip, rows-next, rows-all}
+use borrow.Author.Needs.{needs}
+use Rattle.tree_pairs.proofs.rows_of_tips.tip_rows.Statement.{statement}
+use Rattle.tree_pairs.proofs.rows_of_tips.tip_rows.Tie as tie
+
+abbrev Inv-loop : tie.InvT-loop
+Inv-loop labels n parents nodes work₀ width v₀ work v =
+    (1 ≤ v) × (v ≤ length labels) × TipRows labels n parents nodes v work₀ work
+
+abbrev μ-loop : tie.MeasureT-loop
+μ-loop labels n parents nodes work₀ width v₀ work v = length labels - v
+
+sub-width : tie.Need-sub-width Inv-loop μ-loop
+sub-width c = search needs
+
+loop-holds : tie.Need-loop-holds Inv-loop μ-loop
+loop-holds c = (omega arith, c .before .before .before .pre .rows .0, rows-none _ _ _ _ _)
+
+mul-as-index : tie.Need-mul-as-index Inv-loop μ-loop
+mul-as-index c = search needs
+
+shared-slice-read-as-index : tie.Need-shared-slice-read-as-index Inv-loop μ-loop
+shared-slice-read-as-index c = search needs
+
+as-index-requires : tie.Need-as-index-requires Inv-loop μ-loop
+as-index-requires c κs = search needs
+
+sub-tip-row : tie.Need-sub-tip-row Inv-loop μ-loop
+sub-tip-row c = search needs
+
+mul-tip-row : tie.Need-mul-tip-row Inv-loop μ-loop
+mul-tip-row c =
+    let l = c .before .before .before .before .before in
+    let s = l .before .before .before .before in
+    omega (
+      arith,
+      base-low _ _ _ _ _ (s .pre) _ (l .loop .v) (l .loop .inv .0)
+          (c .before .before .before .before .loop-test .taken) (l .loop .inv .2),
+    )
+
+mul-tip-row-2 : tie.Need-mul-tip-row-2 Inv-loop μ-loop
+mul-tip-row-2 c = search needs
+
+element-copy-out-tip-row : tie.Need-element-copy-out-tip-row Inv-loop μ-loop
+element-copy-out-tip-row c = search needs
+
+tip-row-requires : tie.Need-tip-row-requires Inv-loop μ-loop
+tip-row-requires c κs =
+    let w = c .before .before .before in
+    let l = w .before .before .before in
+    let s = l .before .before .before .before in
+    mark-room _ _ _ _ _ (s .pre) _ (l .loop .v) (l .loop .inv .0) (w .before .before .loop-test .taken)
+    (l .loop .inv .2) (w .as-index .result) (w .as-index .ensures .0) (c .before .before .if1 .taken)
+
+add-v : tie.Need-add-v Inv-loop μ-loop
+add-v c = search needs
+
+loop-less : tie.Need-loop-less Inv-loop μ-loop
+loop-less c = search needs
+
+loop-again : tie.Need-loop-again Inv-loop μ-loop
+loop-again c =
+    let w = c .before in
+    let l = w .before .before .before in
+    let s = l .before .before .before .before in
+    let t = w .before .before .loop-test .taken in (
+      omega arith,
+      omega arith,
+      ⊎-elim
+          (λ h. rw (h .6) (rows-next _ _ _ _ _ (s .pre) _ (l .loop .v) (l .loop .inv .0) t (l .loop .inv .2)
+          (w .as-index .result) (w .as-index .ensures .0) (h .0 .taken) _ (h .3 .ensures)))
+          (λ h. rw (h .1) (rows-skip _ _ _ _ _ (s .pre) _ (l .loop .v) (l .loop .inv .0) t (l .loop .inv .2)
+          (omega (arith, h .0 .left, w .as-index .ensures .0))))
+          (c .if1 .came),
+    )
+
+same-length : tie.Need-same-length Inv-loop μ-loop
+same-length c = search needs
+
+returns : tie.Need-returns Inv-loop μ-loop
+returns c =
+    let l = c .before .loop in
+    rows-all _ _ _ _ _ _ (l .v) (l .inv .1) (c .loop-test .left) (l .inv .2)
+
+pub tip-rows-spec : {M : Type 1} → statement M
+tip-rows-spec =
+    tie.close
+    (tie.spec
+    Inv-loop
+    μ-loop
+    sub-width
+    loop-holds
+    mul-as-index
+    shared-slice-read-as-index
+    as-index-requires
+    sub-tip-row
+    mul-tip-row
+    mul-tip-row-2
+    element-copy-out-tip-row
+    tip-row-requires
+    add-v
+    loop-less
+    loop-again
+    same-length
+    returns)

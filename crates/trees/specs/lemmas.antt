@@ -1,0 +1,7 @@
+pub mod CentreOutcomes
+pub mod Climbing
+pub mod RootedArrays
+pub mod ShownPairings
+pub mod SideCells
+pub mod Sides
+pub mod TopologyOutcomes

@@ -1,0 +1,78 @@
+-- The labels of node i start where they end, less how many they are.
+-- Assumes nothing.
+use Prim.Native.Nat.{_≤_}
+use native.Mathlib.Omega.{arith}
+use Rattle.tree_check.specs.Table.{word}
+use Rattle.walks.specs.lemmas.TreeArrays.{few-tips, few-nodes}
+use Rattle.walks.specs.lemmas.Positions.{part-bounds, place-between}
+use borrow.Author.Needs.{needs}
+use Rattle.walks.proofs.edges.part_of.Statement.{statement}
+use Rattle.walks.proofs.edges.part_of.Tie as tie
+
+bounds : (c : tie.After-ends) → let s = c .before .before .before .before .before in
+    (word (c .before .before .sizes .result) (s .args .i) ≤ word (c .ends .result) (s .args .i))
+    × (word (c .ends .result) (s .args .i) ≤ s .args .n)
+bounds c =
+    let s = c .before .before .before .before .before in
+    part-bounds _ _ _ (s .pre .0) _ _ (c .before .before .sizes .ensures) (c .ends .ensures) (s .args .i) (s .pre .1)
+
+sizes-requires : tie.Need-sizes-requires
+sizes-requires c κs = search needs
+
+ends-requires : tie.Need-ends-requires
+ends-requires c κs = search needs
+
+mul-count : tie.Need-mul-count
+mul-count c =
+    let s = c .before .before .before .before .before in
+    omega (arith, few-nodes _ _ _ (s .pre .0), s .pre .1)
+
+array-read-count : tie.Need-array-read-count
+array-read-count c =
+    let s = c .before .before .before .before .before in
+    omega (arith, few-nodes _ _ _ (s .pre .0), s .pre .1)
+
+mul-from : tie.Need-mul-from
+mul-from c =
+    let s = c .before .before .before .before .before in
+    omega (arith, few-nodes _ _ _ (s .pre .0), s .pre .1)
+
+array-read-from : tie.Need-array-read-from
+array-read-from c =
+    let s = c .before .before .before .before .before in
+    omega (arith, few-nodes _ _ _ (s .pre .0), s .pre .1)
+
+sub-from : tie.Need-sub-from
+sub-from c = bounds c .0
+
+narrow-requires : tie.Need-narrow-requires
+narrow-requires c κs =
+    let s = c .before .before .before .before .before in
+    omega (arith, bounds c, few-tips _ _ _ (s .pre .0))
+
+narrow-requires-2 : tie.Need-narrow-requires-2
+narrow-requires-2 c κs =
+    let s = c .before .before .before .before .before .before in
+    omega (arith, bounds (c .before), few-tips _ _ _ (s .pre .0))
+
+returns : tie.Need-returns
+returns c =
+    let b = c .before .before in
+    let s = b .before .before .before .before .before in
+    place-between _ _ _ (s .pre .0) _ _ (b .before .before .sizes .ensures) (b .ends .ensures) (s .args .i) (s .pre .1)
+    _ _ (c .narrow2 .ensures) (omega (arith, c .before .narrow .ensures, c .narrow2 .ensures))
+
+pub part-of-spec : {M : Type 1} → statement M
+part-of-spec =
+    tie.close
+    (tie.spec
+    sizes-requires
+    ends-requires
+    mul-count
+    array-read-count
+    mul-from
+    array-read-from
+    sub-from
+    narrow-requires
+    narrow-requires-2
+    returns)

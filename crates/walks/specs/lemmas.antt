@@ -1,0 +1,5 @@
+pub mod Adding
+pub mod Positions
+pub mod TreeArrays
+pub mod WalkOutcomes
+pub mod Writing

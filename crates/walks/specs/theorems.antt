@@ -1,0 +1,9 @@
+pub mod AddUpLaws
+pub mod BeyondAfterWalk
+pub mod NodeLabels
+pub mod Reach
+pub mod WalkExamples
+pub mod WalkFrom
+pub mod WalkLaws
+pub mod WalkOrderLaws
+pub mod Weights
