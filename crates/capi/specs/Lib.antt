@@ -1,1 +1,2 @@
 pub mod PlainAnswers
+pub mod Version
