@@ -3,16 +3,17 @@
 
     python3 tests/library_tests.py
 
-Each block of code on the page is the text of the file that is named before it. The calls that it lists are the public functions
-of the libraries with their parameters, and the functions for C are the same in crates/capi, in the header, in Rust and on the page.
+Each block of code on the page is the text of the file that is named before it. The calls that it lists are the public
+functions of the libraries with their parameters, and the functions for C are the same in crates/capi, in the header, in
+Rust and on the page.
 """
 import pathlib
 import re
 import unittest
 
 ROOT = pathlib.Path(__file__).resolve().parent.parent
-PROGRAMS = ["crates/library_example/src/main.rt", "crates/library_example/proofs/distance/Proof.antt", "examples/compare.c",
-            "bindings/examples/distance.rs"]
+PROGRAMS = ["crates/library_example/src/main.rt", "crates/library_example/proofs/distance/Proof.antt",
+            "examples/compare.c", "bindings/examples/distance.rs"]
 LIBRARIES = ["trees", "quartets", "pair_file"]
 
 

@@ -46,7 +46,8 @@ class Versions(unittest.TestCase):
     def test_header_and_library(self) -> None:
         with tempfile.TemporaryDirectory() as folder:
             program = pathlib.Path(folder) / "asks"
-            printed(os.environ.get("CC", "cc"), "-Iinclude", "-x", "c", "-", "-x", "none", LIBRARY, "-o", program, given=ASKS)
+            compiler = os.environ.get("CC", "cc")
+            printed(compiler, "-Iinclude", "-x", "c", "-", "-x", "none", LIBRARY, "-o", program, given=ASKS)
             self.assertEqual(printed(program), f"{number(newest())} {number(newest())}")
 
     def test_definition(self) -> None:
