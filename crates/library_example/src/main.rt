@@ -3,7 +3,8 @@ use quartets::quartet_table;
 ghost use mathlib.Core.Path.{_≡_};
 ghost use Rattle.quartets.specs.QuartetAnswer.{quartetAnswer};
 
-const INNER: u16 = 65535;
+// The label word of an inner node.
+const X: u16 = 65535;
 
 // The distance of two trees whose (m - 1)(m' - 1) is at most 42; 0 for a refused pair.
 fn distance(first: &[u16], second: &[u16]) -> u64
@@ -15,8 +16,8 @@ fn distance(first: &[u16], second: &[u16]) -> u64
 }
 
 fn main() {
-    let p = [5u16, 8, 0, 0, 1, 1, 3, 3, 5, 5, 0, INNER, 1, INNER, 2, INNER, 3, 4];
-    let q = [5u16, 7, 0, 0, 1, 1, 3, 3, 3, 0, INNER, 1, INNER, 2, 3, 4];
+    let p = [5u16, 8, 0, 0, 1, 1, 3, 3, 5, 5, 0, X, 1, X, 2, X, 3, 4];
+    let q = [5u16, 7, 0, 0, 1, 1, 3, 3, 3, 0, X, 1, X, 2, 3, 4];
     io::write_all(1, b"distance ");
     io::print_decimal(1, distance(&p, &q));
     io::write_all(1, b"\n");
