@@ -53,7 +53,7 @@
 extern "C" {
 #endif
 
-/* The version of this header, 0.2.0 as one number: major * 1000000 + minor * 1000 + patch. */
+/* The version of this header as one number: major * 1000000 + minor * 1000 + patch. */
 #define LESKWYN_VERSION 2000
 
 /* The label word of an inner node. */
