@@ -1,7 +1,8 @@
 -- Field by field.
 -- Assumes nothing.
 use mathlib.Core.Path.{_∙_, ap}
-use Rattle.capi.specs.PlainAnswers.{plainSplits, splits-plain}
+use Rattle.capi.specs.PlainAnswers.{plainSplits}
+use Rattle.capi.specs.lemmas.PlainSteps.{splits-plain}
 use borrow.Author.Needs.{needs}
 use Rattle.capi.proofs.exports.leskwyn_split_counts.Statement.{statement}
 use Rattle.capi.proofs.exports.leskwyn_split_counts.Tie as tie

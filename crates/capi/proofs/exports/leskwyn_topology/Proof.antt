@@ -1,7 +1,8 @@
 -- A butterfly with its partner, or a star.
 -- Assumes nothing.
 use mathlib.Core.Path.{_∙_, ap}
-use Rattle.capi.specs.PlainAnswers.{plainTopology, butterfly-plain, star-plain}
+use Rattle.capi.specs.PlainAnswers.{plainTopology}
+use Rattle.capi.specs.lemmas.PlainSteps.{butterfly-plain, star-plain}
 use borrow.Author.Needs.{needs}
 use Rattle.capi.proofs.exports.leskwyn_topology.Statement.{statement}
 use Rattle.capi.proofs.exports.leskwyn_topology.Tie as tie
