@@ -1,5 +1,5 @@
-//! Finds the static library that `rt staticlib capi` builds: in ../target/staticlib, or in the folder that
-//! LESKWYN_LIB_DIR names.
+//! Finds the static library that `rt staticlib capi` builds: in `../target/staticlib`, or in the folder that
+//! `LESKWYN_LIB_DIR` names.
 
 use std::env;
 use std::path::PathBuf;

@@ -1,4 +1,4 @@
-/* The quartet distance of P and Q, the first reference pair of document 01. */
+/* The quartet distance of two trees, (0,1,(2,(3,4))) and (0,1,(2,3,4)). */
 #include <leskwyn.h>
 #include <stdio.h>
 
@@ -7,6 +7,6 @@ int main(void) {
     const uint16_t q[] = {5, 7, 0, 0, 1, 1, 3, 3, 3, 0, x, 1, x, 2, 3, 4};
     uint16_t work[7 * 6];
     leskwyn_quartet_table_answer table = leskwyn_quartet_table(p, 18, q, 16, work, 7 * 6);
-    printf("%llu\n", (unsigned long long)table.distance);
-    return table.refusal != 0;
+    printf("distance %llu\n", (unsigned long long)table.distance);
+    return table.refusal;
 }

@@ -53,6 +53,9 @@
 extern "C" {
 #endif
 
+/* The version of this header as one number: major * 1000000 + minor * 1000 + patch. */
+#define LESKWYN_VERSION 2000
+
 /* The label word of an inner node. */
 #define LESKWYN_INNER 65535
 
@@ -82,6 +85,9 @@ typedef struct { uint16_t refusal; uint64_t a, b, c, d, e, distance; } leskwyn_q
  * first + second - 2 common. A split is an edge with at least two tips on each side.
  */
 typedef struct { uint16_t refusal; uint64_t first, second, common, distance; } leskwyn_split_counts_answer;
+
+/* The version of the library that is linked. It is LESKWYN_VERSION where header and library are of one release. */
+uint32_t leskwyn_version(void);
 
 /* Whether the words are a tree table. Answers 0, or 1 to 7. */
 uint16_t leskwyn_check(const uint16_t *table, size_t words);

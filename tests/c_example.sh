@@ -1,5 +1,5 @@
 #!/usr/bin/env bash
-# examples/compare.c compiles without a warning against include/ and the static library, and prints 2.
+# The C example of docs/LIBRARY.md: its compile line, as it stands on the page, and what the program prints.
 # The header also compiles as C++, where there is a C++ compiler.
 set -euo pipefail
 cd "$(dirname "$0")/.."
@@ -8,12 +8,10 @@ if [ ! -f "$library" ]; then
     echo "c_example: $library is missing; run 'rt staticlib capi'" >&2
     exit 1
 fi
-built=$(mktemp -d)
-trap 'rm -rf "$built"' EXIT
-"${CC:-cc}" -std=c99 -Wall -Wextra -Wpedantic -Werror -Iinclude examples/compare.c "$library" -o "$built/compare"
-printed=$("$built/compare")
-if [ "$printed" != 2 ]; then
-    echo "c_example: printed '$printed' in place of 2" >&2
+line=$(grep -m 1 '^    cc ' docs/LIBRARY.md)
+printed=$(bash -euc "$line && target/distance")
+if [ "$printed" != 'distance 2' ]; then
+    echo "c_example: printed '$printed' in place of 'distance 2'" >&2
     exit 1
 fi
 if command -v c++ >/dev/null; then

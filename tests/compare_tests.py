@@ -1,5 +1,5 @@
 #!/usr/bin/env python3
-"""Tests of the program compare and of bin/compare, with expected bytes worked out from document 01 alone.
+"""Tests of the program compare and of bin/compare, with expected bytes worked out from docs/SPECIFICATION.md alone.
 
     python3 tests/compare_tests.py                            the program is target/bin/compare
     LESKWYN_COMPARE=FILE python3 tests/compare_tests.py       the program is FILE
@@ -21,7 +21,9 @@ import tempfile
 import time
 import tty
 import unittest
+from collections.abc import Iterable, Iterator
 from math import comb
+from typing import Any
 
 sys.dont_write_bytecode = True
 from quartet_cases import cases_by_threes, related_pair, unrelated_pair, with_labels_exchanged
@@ -32,8 +34,9 @@ PROGRAM = pathlib.Path(os.environ.get("LESKWYN_COMPARE") or ROOT / "target" / "b
 MOST_BYTES = 1016
 ENUMERATED = 16  # the most tips for which every set of four and every claim is looked at
 SECONDS = 20  # the longest that one run may take
+Done = subprocess.CompletedProcess[bytes]
 
-# Document 01, 'Reference pairs': S S' S2 S3, A B C D E, distance, splits.
+# docs/SPECIFICATION.md, 'Reference pairs': S S' S2 S3, A B C D E, distance, splits.
 REFERENCE_PAIRS = {
     "K1": (P, Q, "10 6 6 0", "3 0 2 0 0", "2", "2 1 1 1"),
     "K2": (P, R, "10 10 6 8", "3 2 0 0 0", "2", "2 2 1 2"),
@@ -55,19 +58,19 @@ OUTSIDE_PAIRS = {
     "mixed degrees": (MIXED, EVEN, "102 140 58 88", "29 22 0 19 0", "41", "2 5 0 7"),
 }
 
-# Document 01, the listing of P and Q.
+# docs/SPECIFICATION.md, 'The listing of P and Q'.
 P_AND_Q = b"leaves 5\nclaims 10 6 6 0\nquartets 3 0 2 0 0\ndistance 2\nsplits 2 1 1 1\n"
 
 
-def packed(*tables):
+def packed(*tables: list[int]) -> bytes:
     return b"".join(word.to_bytes(2, "little") for t in tables for word in t)
 
 
-def changed(t, at, word):
+def changed(t: list[int], at: int, word: int) -> list[int]:
     return t[:at] + [word] + t[at + 1:]
 
 
-# ---- the refusals of document 01, in its order
+# ---- the refusals of docs/SPECIFICATION.md, in their order
 
 def tree_refusal(t):
     """The number of the tree check; 0 stands for accepted."""
@@ -93,14 +96,14 @@ def tree_refusal(t):
     return 0
 
 
-def cut(content):
+def cut(content: bytes) -> tuple[list[int], list[int]]:
     """The words of the first tree, and those of the second."""
     words = [content[at] + 256 * content[at + 1] for at in range(0, len(content), 2)]
     end = 2 + 2 * words[1] if len(words) >= 2 else len(words)
     return words[:end], words[end:]
 
 
-def refusal(content):
+def refusal(content: bytes) -> int:
     if len(content) > MOST_BYTES:
         return 14
     if len(content) % 2 == 1:
@@ -113,9 +116,9 @@ def refusal(content):
     return 0 if first[0] == second[0] else 8
 
 
-# ---- the figures of document 01; a set of labels is the bits of a number
+# ---- the figures of docs/SPECIFICATION.md; a set of labels is the bits of a number
 
-def beyond(t):
+def beyond(t: list[int]) -> list[int]:
     """For each node, the labels on its side of the edge to its parent; for node 0, all."""
     m = t[1]
     found = [0] * m
@@ -129,7 +132,7 @@ def beyond(t):
     return found
 
 
-def claims(t):
+def claims(t: list[int]) -> Iterator[tuple[int, int, int]]:
     """T1 behind a directed edge, and each unordered pair of other subtrees at the node that it points to.
 
     Each term of the sums asks for two labels of T1: of large trees, claims with one label there are left out."""
@@ -144,11 +147,11 @@ def claims(t):
                     yield behind, one, other
 
 
-def claim_sum(t):
+def claim_sum(t: list[int]) -> int:
     return sum(comb(a.bit_count(), 2) * b.bit_count() * c.bit_count() for a, b, c in claims(t))
 
 
-def pair_sums(t, u):
+def pair_sums(t: list[int], u: list[int]) -> tuple[int, int]:
     """S2 by equation (1) and S3 by dcount of document 001: `ad` is the number of labels in T1 and T1', and so on."""
     same = different = 0
     others = list(claims(u))
@@ -162,7 +165,7 @@ def pair_sums(t, u):
     return same, different
 
 
-def partner(edges, four):
+def partner(edges: list[int], four: int) -> int | None:
     """The label that an edge leaves with the smallest of four, the other two being beyond it or the other way round;
     None for a star."""
     smallest = four & -four
@@ -173,7 +176,7 @@ def partner(edges, four):
     return None
 
 
-def cases(t, u):
+def cases(t: list[int], u: list[int]) -> list[int]:
     """A B C D E, by every set of four."""
     counts = [0] * 5
     first, second = beyond(t), beyond(u)
@@ -187,14 +190,14 @@ def cases(t, u):
     return counts
 
 
-def splits(t):
+def splits(t: list[int]) -> set[frozenset[int]]:
     """The pairs of tip sets that an edge parts, with two labels or more in each."""
     found = beyond(t)
     parted = ({side, found[0] & ~side} for side in found[1:])
     return {frozenset(sides) for sides in parted if min(side.bit_count() for side in sides) >= 2}
 
 
-def listing(content):
+def listing(content: bytes) -> bytes:
     """The bytes that the program prints."""
     number = refusal(content)
     if number:
@@ -209,7 +212,7 @@ def listing(content):
 
 # ---- the program
 
-def setUpModule():
+def setUpModule() -> None:
     if not os.access(PROGRAM, os.X_OK) or PROGRAM.is_dir():
         sys.exit(f"compare_tests: there is no program {PROGRAM}; `rt check compare` builds target/bin/compare")
 
@@ -218,7 +221,7 @@ CANNOT_READ = b"compare: cannot read standard input\n"
 CANNOT_WRITE = b"compare: cannot write to standard output\n"
 
 
-def breaks_after(content):
+def breaks_after(content: bytes) -> int:
     """A descriptor that gives these bytes, and then fails: a terminal whose other end is closed."""
     own, other = os.openpty()
     tty.setraw(other)
@@ -227,7 +230,7 @@ def breaks_after(content):
     return own
 
 
-def pieces_of(content, lengths):
+def pieces_of(content: bytes, lengths: list[int]) -> Iterator[bytes]:
     at = 0
     for length in itertools.cycle(lengths):
         if at >= len(content):
@@ -236,7 +239,8 @@ def pieces_of(content, lengths):
         at += length
 
 
-def run_in_pieces(command, pieces, pause, **given):
+def run_in_pieces(command: list[pathlib.Path | str], pieces: Iterable[bytes], pause: float,
+                  **given: Any) -> tuple[bytes, bytes, int]:
     """What a run prints and says, and its status, with standard input a pipe that gets the pieces one by one."""
     run = subprocess.Popen(command, stdin=subprocess.PIPE, stdout=subprocess.PIPE, stderr=subprocess.PIPE, bufsize=0,
                            **given)
@@ -251,7 +255,7 @@ def run_in_pieces(command, pieces, pause, **given):
     return printed, said, run.returncode
 
 
-def without_a_reader():
+def without_a_reader() -> int:
     """The writing end of a pipe that nobody reads."""
     reader, writer = os.pipe()
     os.close(reader)
@@ -259,21 +263,21 @@ def without_a_reader():
 
 
 class ProgramTest(unittest.TestCase):
-    def assert_prints(self, expected, content, note=None):
+    def assert_prints(self, expected: bytes, content: bytes, note: str | None = None) -> None:
         done = subprocess.run([PROGRAM], input=content, capture_output=True, timeout=SECONDS)
         self.assertEqual((done.stdout, done.stderr, done.returncode), (expected, b"", 0), note or content.hex())
 
-    def assert_listed(self, content, note=None):
+    def assert_listed(self, content: bytes, note: str | None = None) -> None:
         self.assert_prints(listing(content), content, note)
 
-    def assert_refused(self, number, content, note=None):
-        """The number is document 01's, and the rules as they stand here give it too."""
+    def assert_refused(self, number: int, content: bytes, note: str | None = None) -> None:
+        """The number is the one that is wanted, and the rules as they stand here give it too."""
         self.assertEqual(refusal(content), number, note or content.hex())
         self.assert_prints(b"refused %d\n" % number, content, note)
 
 
 class Figures(ProgramTest):
-    def assert_figures(self, pairs):
+    def assert_figures(self, pairs: dict[str, tuple]) -> None:
         for mark, (t, u, *figures) in pairs.items():
             words = ["claims", "quartets", "distance", "splits"]
             lines = [f"leaves {t[0]}"] + [f"{word} {numbers}" for word, numbers in zip(words, figures)]
@@ -281,22 +285,22 @@ class Figures(ProgramTest):
             self.assertEqual(listing(packed(t, u)), expected, mark)
             self.assert_prints(expected, packed(t, u), mark)
 
-    def test_p_and_q_as_document_01_prints_them(self):
+    def test_p_and_q_as_they_are_printed(self) -> None:
         self.assert_prints(P_AND_Q, packed(P, Q))
 
-    def test_reference_pairs(self):
+    def test_reference_pairs(self) -> None:
         self.assert_figures(REFERENCE_PAIRS)
 
-    def test_outside_pairs(self):
+    def test_outside_pairs(self) -> None:
         self.assert_figures(OUTSIDE_PAIRS)
 
-    def test_all_pairs_of_the_tables_with_equal_tips(self):
+    def test_all_pairs_of_the_tables_with_equal_tips(self) -> None:
         tables = [P, Q, R, W, TWO, THREE] + OUTSIDE
         for t, u in itertools.product(tables, repeat=2):
             if t[0] == u[0]:
                 self.assert_listed(packed(t, u))
 
-    def test_random_pairs(self):
+    def test_random_pairs(self) -> None:
         rng = random.Random(71)
         for k in range(300):
             n = 2 + k % 12
@@ -306,57 +310,56 @@ class Figures(ProgramTest):
 class Largest(ProgramTest):
     """Pairs of exactly 1016 bytes: m + m' = 252."""
 
-    def assert_largest(self, t, u):
+    def assert_largest(self, t: list[int], u: list[int]) -> None:
         content = packed(t, u)
         self.assertEqual((t[1] + u[1], len(content), refusal(content)), (252, MOST_BYTES, 0))
         self.assert_listed(content, f"{t[0]} tips")
-        return content
 
-    def test_15625_cells(self):
+    def test_15625_cells(self) -> None:
         worm, even = caterpillar(64), balanced(64)
         self.assertEqual((worm[1] - 1) * (even[1] - 1), 15625)
         self.assert_largest(worm, even)
         self.assert_largest(even, with_labels_exchanged(worm, 3, 60))
 
-    def test_most_tips(self):
+    def test_most_tips(self) -> None:
         fan = star(125)
         self.assert_largest(fan, with_labels_exchanged(fan, 1, 124))
         expected = f"leaves 125\nclaims 0 0 0 0\nquartets 0 0 0 0 {comb(125, 4)}\ndistance 0\nsplits 0 0 0 0\n"
         self.assert_prints(expected.encode(), packed(fan, fan))
 
-    def test_a_large_and_a_small_table(self):
+    def test_a_large_and_a_small_table(self) -> None:
         worm, pair = caterpillar(84), table(84, 86, [0, 0, 1, 2, 2] + [1] * 81, [0, X, X, 7, 50] + [
             label for label in range(1, 84) if label not in (7, 50)])
         self.assert_largest(worm, pair)
         self.assert_largest(pair, worm)
 
-    def test_a_byte_and_a_word_more(self):
+    def test_a_byte_and_a_word_more(self) -> None:
         content = packed(caterpillar(64), balanced(64))
         self.assert_refused(14, content + b"\0")
         self.assert_refused(14, content + b"\0\0")
         self.assert_refused(15, content[:-1])
         self.assert_refused(104, content[:-2])
 
-    def test_a_megabyte(self):
+    def test_a_megabyte(self) -> None:
         self.assert_refused(14, bytes(1 << 20), "zeros")
         self.assert_refused(14, packed(P, Q) * (1 << 14), "P and Q again and again")
         self.assert_refused(14, bytes((1 << 20) + 1), "an odd number of zeros")
 
 
 class Refusals(ProgramTest):
-    """Document 01's edges, and each number of the comparing program."""
+    """The edge cases of docs/SPECIFICATION.md, and each number of the comparing program."""
 
-    def test_empty_input(self):
+    def test_empty_input(self) -> None:
         self.assert_refused(1, b"")
 
-    def test_number_of_tips(self):
+    def test_number_of_tips(self) -> None:
         for n in (0, 1, 257, X):
             self.assert_refused(2, packed(changed(P, 0, n), Q))
             self.assert_refused(102, packed(Q, changed(P, 0, n)))
         self.assert_refused(2, packed([1, 1, 0, 0], TWO))
         self.assert_refused(102, packed(TWO, [1, 1, 0, 0]))
 
-    def test_2_and_256_tips_pass_that_step(self):
+    def test_2_and_256_tips_pass_that_step(self) -> None:
         self.assert_listed(packed(TWO, TWO))
         self.assert_refused(3, packed([2, 1, 0, 0]))
         self.assert_refused(103, packed(TWO, [2, 3, 0, 0, 1, 0, X, 1]))
@@ -368,7 +371,7 @@ class Refusals(ProgramTest):
         self.assert_refused(104, packed(TWO, caterpillar(256)[:MOST_BYTES // 2 - 6]))
         self.assert_refused(14, packed(star(256)))
 
-    def test_number_of_nodes(self):
+    def test_number_of_nodes(self) -> None:
         for t in (P, Q, R, W, TWO, THREE):
             n = t[0]
             for m in (0, n - 1, 2 * n - 1, X):
@@ -378,14 +381,14 @@ class Refusals(ProgramTest):
         self.assert_refused(4, packed([5, 5, 0, 0]))
         self.assert_refused(104, packed(P, [5, 8, 0, 0]))
 
-    def test_a_word_too_many(self):
+    def test_a_word_too_many(self) -> None:
         # the words after the first table are the second tree's
         self.assert_refused(101, packed(P + [0]))
         self.assert_refused(102, packed(P + [0], Q))
         self.assert_refused(104, packed(Q, P + [0]))
         self.assert_refused(104, packed(P, Q, [7, 7]))
 
-    def test_a_word_too_few(self):
+    def test_a_word_too_few(self) -> None:
         self.assert_refused(1, packed([5]))
         self.assert_refused(4, packed(P[:-1]))
         self.assert_refused(4, packed(P[:2]))
@@ -394,24 +397,24 @@ class Refusals(ProgramTest):
         self.assert_refused(104, packed(P, Q[:2]))
         self.assert_refused(104, packed(P, Q[:-1]))
 
-    def test_every_length_of_p_and_q(self):
+    def test_every_length_of_p_and_q(self) -> None:
         content = packed(P, Q)
         for length in range(len(content)):
             self.assert_listed(content[:length])
 
-    def test_parents(self):
+    def test_parents(self) -> None:
         for t in (changed(P, 2, 1), changed(P, 3, 1), changed(P, 4, 0), changed(P, 4, 2), changed(P, 9, 7),
                   changed(P, 9, X)):
             self.assert_refused(5, packed(t, Q))
             self.assert_refused(105, packed(Q, t))
 
-    def test_labels(self):
+    def test_labels(self) -> None:
         for t in (changed(P, 10, 1), changed(P, 10, X), changed(P, 17, 5), changed(P, 17, X - 1), changed(P, 17, 3),
                   changed(P, 17, 0), changed(P, 17, X)):
             self.assert_refused(6, packed(t, Q))
             self.assert_refused(106, packed(Q, t))
 
-    def test_children(self):
+    def test_children(self) -> None:
         one = table(5, 8, [0, 0, 1, 1, 3, 4, 4, 4], [0, X, 1, X, X, 2, 3, 4])
         none = table(5, 7, [0, 0, 1, 1, 1, 1, 1], [0, X, 1, 2, 3, 4, X])
         tip_with_one = changed(W, 7, 4)
@@ -419,30 +422,30 @@ class Refusals(ProgramTest):
             self.assert_refused(7, packed(t, Q))
             self.assert_refused(107, packed(Q, t))
 
-    def test_different_numbers_of_tips(self):
+    def test_different_numbers_of_tips(self) -> None:
         for t, u in itertools.permutations([P, TWO, THREE, OUTSIDE[0], OUTSIDE[2]], 2):
             self.assert_refused(8, packed(t, u))
 
-    def test_the_first_tree_decides_before_the_second(self):
+    def test_the_first_tree_decides_before_the_second(self) -> None:
         bad = [changed(P, 0, 1), changed(P, 2, 1), changed(P, 10, 1), changed(P, 6, 2)]
         for (t, u), number in zip(itertools.product(bad, repeat=2), [2] * 4 + [5] * 4 + [6] * 4 + [7] * 4):
             self.assert_refused(number, packed(t, u))
         self.assert_refused(103, packed(THREE, changed(P, 1, 4)))
 
-    def test_odd_numbers_of_bytes(self):
+    def test_odd_numbers_of_bytes(self) -> None:
         content = packed(P, Q)
         for odd in (b"\0", b"\5", content[:-1], content + b"\0", content[:35], bytes(1015)):
             self.assert_refused(15, odd)
 
-    def test_too_many_bytes_come_before_an_odd_number(self):
+    def test_too_many_bytes_come_before_an_odd_number(self) -> None:
         for length in (1017, 1018, 1019, 2048):
             self.assert_refused(14, bytes(length))
         self.assert_refused(2, bytes(1016))
 
-    def test_bytes_are_read_low_byte_first(self):
+    def test_bytes_are_read_low_byte_first(self) -> None:
         self.assert_refused(2, b"".join(word.to_bytes(2, "big") for word in P + Q))
 
-    def test_damaged_tables(self):
+    def test_damaged_tables(self) -> None:
         numbers = set()
         for t, u in itertools.product([P, Q, W, THREE, MIXED], repeat=2):
             for broken in damaged(t):
@@ -452,7 +455,7 @@ class Refusals(ProgramTest):
         # damage of the first tree that shortens or lengthens it moves the cut, and the number with it
         self.assertEqual(numbers, {2, 3, 5, 6, 7, *range(101, 108)})
 
-    def test_random_damage(self):
+    def test_random_damage(self) -> None:
         rng, numbers = random.Random(73), set()
         for k in range(500):
             content = bytearray(packed(*related_pair(rng, 2 + k % 9)))
@@ -471,29 +474,29 @@ class Refusals(ProgramTest):
 class Pipes(ProgramTest):
     """Standard input that comes in pieces."""
 
-    def assert_in_pieces(self, expected, pieces, pause):
+    def assert_in_pieces(self, expected: bytes, pieces: Iterable[bytes], pause: float) -> None:
         self.assertEqual(run_in_pieces([PROGRAM], pieces, pause), (expected, b"", 0))
 
-    def test_byte_by_byte(self):
+    def test_byte_by_byte(self) -> None:
         self.assert_in_pieces(P_AND_Q, pieces_of(packed(P, Q), [1]), 0.002)
         self.assert_in_pieces(b"refused 15\n", pieces_of(packed(P, Q)[:-1], [1]), 0.002)
 
-    def test_odd_pieces(self):
+    def test_odd_pieces(self) -> None:
         self.assert_in_pieces(P_AND_Q, pieces_of(packed(P, Q), [1, 3, 7, 5]), 0.02)
         self.assert_in_pieces(P_AND_Q, pieces_of(packed(P, Q), [35, 33]), 0.2)
 
-    def test_the_largest_file_in_pieces(self):
+    def test_the_largest_file_in_pieces(self) -> None:
         content = packed(caterpillar(64), balanced(64))
         self.assert_in_pieces(listing(content), pieces_of(content, [1, 2, 3, 5, 8, 13, 21, 34]), 0.002)
         self.assert_in_pieces(listing(content), pieces_of(content, [511, 505]), 0.1)
         self.assert_in_pieces(b"refused 14\n", pieces_of(content + b"\0", [1016, 1]), 0.1)
         self.assert_in_pieces(b"refused 14\n", pieces_of(content + bytes(99), [100]), 0.01)
 
-    def test_a_late_first_byte_and_a_late_end(self):
+    def test_a_late_first_byte_and_a_late_end(self) -> None:
         self.assert_in_pieces(P_AND_Q, [b"", packed(P, Q), b""], 0.2)
         self.assert_in_pieces(b"refused 1\n", [b""], 0.2)
 
-    def test_a_file_and_no_device(self):
+    def test_a_file_and_no_device(self) -> None:
         with tempfile.TemporaryFile() as file:
             file.write(packed(P, Q))
             file.seek(0)
@@ -505,7 +508,7 @@ class Pipes(ProgramTest):
 class Failures(ProgramTest):
     """A read or a write that fails: a line on standard error, and never a listing of half a file."""
 
-    def run_on(self, stdin=None, stdout=None, **given):
+    def run_on(self, stdin: int | None = None, stdout: int | None = None, **given: Any) -> Done:
         """A run on descriptors that are closed here afterwards; without a standard output it is taken in."""
         stdin = stdin if stdin is not None else self.whole_file()
         done = subprocess.run([PROGRAM], stdin=stdin, stdout=subprocess.PIPE if stdout is None else stdout,
@@ -515,55 +518,55 @@ class Failures(ProgramTest):
                 os.close(descriptor)
         return done
 
-    def whole_file(self):
+    def whole_file(self) -> int:
         return os.open(ROOT / "examples" / "p-q.bin", os.O_RDONLY)
 
-    def assert_unread(self, done):
+    def assert_unread(self, done: Done) -> None:
         self.assertEqual((done.stdout, done.stderr, done.returncode), (b"", CANNOT_READ, 0))
 
-    def assert_unwritten(self, done):
+    def assert_unwritten(self, done: Done) -> None:
         self.assertEqual((done.stdout or b"", done.stderr, done.returncode), (b"", CANNOT_WRITE, 0))
 
-    def test_a_folder_as_standard_input(self):
+    def test_a_folder_as_standard_input(self) -> None:
         self.assert_unread(self.run_on(os.open(ROOT, os.O_RDONLY)))
 
-    def test_standard_input_closed(self):
+    def test_standard_input_closed(self) -> None:
         self.assert_unread(self.run_on(preexec_fn=lambda: os.close(0)))
 
-    def test_standard_input_open_for_writing_only(self):
+    def test_standard_input_open_for_writing_only(self) -> None:
         self.assert_unread(self.run_on(os.open(os.devnull, os.O_WRONLY)))
 
-    def test_a_read_that_fails_after_some_bytes(self):
+    def test_a_read_that_fails_after_some_bytes(self) -> None:
         content = packed(P, Q)
         for length in (0, 1, 34, 36, 67, 68):
             self.assert_unread(self.run_on(breaks_after(content[:length])))
         self.assert_unread(self.run_on(breaks_after(packed(caterpillar(64), balanced(64)))))
 
-    def test_a_file_that_is_too_long_is_not_read_further(self):
+    def test_a_file_that_is_too_long_is_not_read_further(self) -> None:
         done = self.run_on(breaks_after(bytes(1017)))
         self.assertEqual((done.stdout, done.stderr, done.returncode), (b"refused 14\n", b"", 0))
 
-    def test_standard_output_closed(self):
+    def test_standard_output_closed(self) -> None:
         self.assert_unwritten(self.run_on(preexec_fn=lambda: os.close(1)))
 
-    def test_standard_output_open_for_reading_only(self):
+    def test_standard_output_open_for_reading_only(self) -> None:
         self.assert_unwritten(self.run_on(stdout=os.open(os.devnull, os.O_RDONLY)))
 
     @unittest.skipUnless(os.path.exists("/dev/full"), "there is no full device")
-    def test_a_full_device(self):
+    def test_a_full_device(self) -> None:
         self.assert_unwritten(self.run_on(stdout=os.open("/dev/full", os.O_WRONLY)))
 
-    def test_a_pipe_that_is_closed_early(self):
+    def test_a_pipe_that_is_closed_early(self) -> None:
         done = self.run_on(stdout=without_a_reader())
         self.assertEqual((done.stderr, done.returncode), (b"", -signal.SIGPIPE))
         self.assert_unwritten(self.run_on(stdout=without_a_reader(), restore_signals=False))  # the signal is ignored
 
-    def test_nothing_can_be_said(self):
+    def test_nothing_can_be_said(self) -> None:
         for closed in (0, 1):
             done = self.run_on(preexec_fn=lambda: os.close(closed) or os.close(2))
             self.assertEqual((done.stdout, done.stderr, done.returncode), (b"", b"", 0))
 
-    def test_a_run_that_is_stopped_and_continued(self):
+    def test_a_run_that_is_stopped_and_continued(self) -> None:
         program = subprocess.Popen([PROGRAM], stdin=subprocess.PIPE, stdout=subprocess.PIPE, stderr=subprocess.PIPE,
                                    bufsize=0)
         with program:
@@ -589,7 +592,7 @@ COMMANDS = ["bash", "cat", "dirname", "env", "find", "flock", "ln", "mkdir", "mv
 
 
 class Wrapper(unittest.TestCase):
-    def setUp(self):
+    def setUp(self) -> None:
         folder = tempfile.TemporaryDirectory()
         self.addCleanup(folder.cleanup)
         self.folder = pathlib.Path(folder.name).resolve()
@@ -608,32 +611,33 @@ class Wrapper(unittest.TestCase):
         (self.path / "rt").write_text(STAND_IN_RT)
         (self.path / "rt").chmod(0o755)
 
-    def compare(self, *words, cwd=None, command=None, stdout=subprocess.PIPE, **given):
+    def compare(self, *words: str, cwd: pathlib.Path | str | None = None, command: str | None = None,
+                stdout: int = subprocess.PIPE, **given: Any) -> Done:
         """A run; `given` is its standard input, else it has an empty one."""
         given = given or {"input": b""}
         return subprocess.run([command or self.house / "bin" / "compare", *words], cwd=cwd or self.folder, env=self.where,
                               stdout=stdout, stderr=subprocess.PIPE, timeout=SECONDS, **given)
 
-    def built(self):
+    def built(self) -> int:
         """How often rt was called."""
         calls = self.calls.read_text().splitlines() if self.calls.exists() else []
         self.assertEqual(set(calls) - {f"{self.house}: check compare"}, set())
         return len(calls)
 
-    def file(self, name, content):
+    def file(self, name: str, content: bytes) -> str:
         (self.folder / name).write_bytes(content)
         return name
 
-    def assert_done(self, done, status, printed):
+    def assert_done(self, done: Done, status: int, printed: bytes) -> None:
         self.assertEqual((done.returncode, done.stdout), (status, printed), done.stderr)
 
-    def assert_trouble(self, done, *words):
+    def assert_trouble(self, done: Done, *words: str) -> None:
         """Status 2, nothing on standard output, a message."""
         self.assert_done(done, 2, b"")
         for word in words:
             self.assertIn(word, done.stderr.decode())
 
-    def test_first_use(self):
+    def test_first_use(self) -> None:
         done = self.compare()
         self.assert_done(done, 0, P_AND_Q)
         lines = done.stderr.decode().splitlines()
@@ -643,14 +647,14 @@ class Wrapper(unittest.TestCase):
         self.assertIn("minutes", lines[1])
         self.assertEqual((self.house / "target" / "compare.log").read_text(), "what rt says\n")
 
-    def test_second_use_builds_nothing_and_needs_no_rt(self):
+    def test_second_use_builds_nothing_and_needs_no_rt(self) -> None:
         self.compare()
         (self.path / "rt").unlink()
         done = self.compare("-", input=packed(P, Q))
         self.assert_done(done, 0, P_AND_Q)
         self.assertEqual((done.stderr, self.built()), (b"", 1))
 
-    def test_a_newer_source_is_built(self):
+    def test_a_newer_source_is_built(self) -> None:
         self.compare()
         for newer in (self.source, self.house / "crates.txt"):
             before, later = self.built(), time.time() + 3600
@@ -662,7 +666,7 @@ class Wrapper(unittest.TestCase):
         self.assert_done(self.compare(), 0, P_AND_Q)
         self.assertEqual(self.built(), 4)
 
-    def test_a_failed_build_is_tried_again(self):
+    def test_a_failed_build_is_tried_again(self) -> None:
         fail = self.folder / "calls.fail"
         fail.write_text("")
         for _ in range(2):
@@ -671,58 +675,58 @@ class Wrapper(unittest.TestCase):
         self.assert_done(self.compare(), 0, P_AND_Q)
         self.assertEqual(self.built(), 3)
 
-    def test_a_program_that_no_longer_proves_is_not_run(self):
+    def test_a_program_that_no_longer_proves_is_not_run(self) -> None:
         self.compare()
         later = time.time() + 3600
         os.utime(self.source, (later, later))
         (self.folder / "calls.fail").write_text("")
         self.assert_trouble(self.compare(), "rt check compare failed")
 
-    def test_a_build_that_leaves_nothing(self):
+    def test_a_build_that_leaves_nothing(self) -> None:
         (self.folder / "calls.nothing").write_text("")
         self.assert_trouble(self.compare(), "left no")
 
-    def test_no_rt(self):
+    def test_no_rt(self) -> None:
         (self.path / "rt").unlink()
         self.assert_trouble(self.compare(), "no rt on the path")
 
-    def test_first_uses_at_once(self):
+    def test_first_uses_at_once(self) -> None:
         uses = [subprocess.Popen([self.house / "bin" / "compare"], env=self.where, stdout=subprocess.PIPE,
                                  stderr=subprocess.DEVNULL) for _ in range(3)]
         self.assertEqual([use.communicate(timeout=SECONDS)[0] for use in uses], [P_AND_Q] * 3)
         if (self.path / "flock").exists():
             self.assertEqual(self.built(), 1)
 
-    def test_a_file(self):
+    def test_a_file(self) -> None:
         self.assert_done(self.compare(self.file("pair.bin", packed(P, R))), 0, listing(packed(P, R)))
 
-    def test_names_with_blanks_and_signs(self):
+    def test_names_with_blanks_and_signs(self) -> None:
         for name in ("two words.bin", " ", "a*b", "$HOME", "'", "\u00e9t\u00e9", "line\nbreak"):
             self.assert_done(self.compare(self.file(name, packed(Q, R))), 0, listing(packed(Q, R)))
         self.assert_done(self.compare("./" + self.file("-", packed(Q, R))), 0, listing(packed(Q, R)))
 
-    def test_standard_input(self):
+    def test_standard_input(self) -> None:
         self.assert_done(self.compare("-", input=packed(W, P)), 0, listing(packed(W, P)))
         self.assert_done(self.compare("-"), 1, b"refused 1\n")
 
-    def test_standard_input_is_left_alone_without_the_sign(self):
+    def test_standard_input_is_left_alone_without_the_sign(self) -> None:
         done = self.compare(input=packed(W, P))
         self.assert_done(done, 0, P_AND_Q)
         self.assertIn(b"this is the example", done.stderr)
         self.assert_done(self.compare(self.file("pair.bin", packed(P, R)), input=b"x"), 0, listing(packed(P, R)))
 
-    def test_standard_input_that_is_closed_or_a_folder(self):
+    def test_standard_input_that_is_closed_or_a_folder(self) -> None:
         self.assert_trouble(self.compare("-", preexec_fn=lambda: os.close(0)), "standard input: it is closed")
         self.assert_done(self.compare(preexec_fn=lambda: os.close(0)), 0, P_AND_Q)
         folder = os.open(self.folder, os.O_RDONLY)
         self.addCleanup(os.close, folder)
         self.assert_trouble(self.compare("-", stdin=folder), "folder")
 
-    def assert_one_line(self, done, line):
+    def assert_one_line(self, done: Done, line: str) -> None:
         """Status 2, nothing on standard output, and this line alone on standard error."""
         self.assertEqual((done.returncode, done.stdout or b"", done.stderr.decode()), (2, b"", line + "\n"))
 
-    def test_standard_input_that_fails(self):
+    def test_standard_input_that_fails(self) -> None:
         self.compare()
         content = packed(P, Q)
         for length in (0, 34, 36, 68):
@@ -733,24 +737,24 @@ class Wrapper(unittest.TestCase):
             self.assert_one_line(self.compare("-", stdin=unreadable), "compare: cannot read standard input")
 
     @unittest.skipUnless(os.path.exists("/proc/self/mem"), "there is no file whose first byte cannot be read")
-    def test_a_file_that_fails(self):
+    def test_a_file_that_fails(self) -> None:
         self.compare()
         self.assert_one_line(self.compare("/proc/self/mem"), "compare: cannot read /proc/self/mem")
 
-    def test_standard_input_in_pieces(self):
+    def test_standard_input_in_pieces(self) -> None:
         self.compare()
         command, content = [self.house / "bin" / "compare", "-"], packed(P, Q)
         for lengths, pause in (([1], 0.002), ([34], 0.2), ([35, 33], 0.2)):
             done = run_in_pieces(command, pieces_of(content, lengths), pause, env=self.where)
             self.assertEqual(done, (P_AND_Q, b"", 0))
 
-    def test_standard_output_that_cannot_be_written(self):
+    def test_standard_output_that_cannot_be_written(self) -> None:
         self.compare()
         pair = self.file("pair.bin", packed(P, Q))
         outputs = [without_a_reader(), os.open(os.devnull, os.O_RDONLY)]
         if os.path.exists("/dev/full"):
             outputs.append(os.open("/dev/full", os.O_WRONLY))
-        for words in ([pair], ["--help"]):
+        for words in ([pair], ["--help"], ["--version"]):
             for output in outputs:
                 self.assert_one_line(self.compare(*words, stdout=output), "compare: cannot write to standard output")
             self.assert_one_line(self.compare(*words, preexec_fn=lambda: os.close(1)),
@@ -758,39 +762,39 @@ class Wrapper(unittest.TestCase):
         for output in outputs:
             os.close(output)
 
-    def test_refusals_have_status_1(self):
+    def test_refusals_have_status_1(self) -> None:
         for content in (b"", b"\0", packed(P), packed(P, THREE), bytes(2000)):
             self.assert_done(self.compare(self.file("pair.bin", content)), 1, listing(content))
 
-    def test_a_missing_file(self):
+    def test_a_missing_file(self) -> None:
         for name in ("absent.bin", "", "no/such/folder"):
             self.assert_trouble(self.compare(name), "no such file: " + name)
         self.assertEqual(self.built(), 0)
 
-    def test_a_folder(self):
+    def test_a_folder(self) -> None:
         self.assert_trouble(self.compare("."), "folder")
         self.assertEqual(self.built(), 0)
 
     @unittest.skipIf(os.geteuid() == 0, "root can read every file")
-    def test_an_unreadable_file(self):
+    def test_an_unreadable_file(self) -> None:
         os.chmod(self.folder / self.file("pair.bin", packed(P, Q)), 0)
         self.assert_trouble(self.compare("pair.bin"), "cannot read pair.bin")
 
-    def test_two_arguments(self):
+    def test_two_arguments(self) -> None:
         pair = self.file("pair.bin", packed(P, Q))
         self.assert_trouble(self.compare(pair, pair), "usage: compare [FILE]")
 
-    def test_an_unknown_option(self):
-        self.assert_trouble(self.compare("--version"), "no option --version")
+    def test_an_unknown_option(self) -> None:
+        self.assert_trouble(self.compare("--verbose"), "no option --verbose")
 
-    def test_help(self):
+    def test_help(self) -> None:
         for option in ("-h", "--help"):
             done = self.compare(option)
             self.assertEqual((done.returncode, done.stderr, self.built()), (0, b"", 0))
             for words in ("usage: compare [FILE]", "exit status: 0 compared; 1 refused; 2 wrong usage"):
                 self.assertIn(words, done.stdout.decode())
 
-    def test_another_folder_and_a_link(self):
+    def test_another_folder_and_a_link(self) -> None:
         elsewhere = self.folder / "elsewhere"
         elsewhere.mkdir()
         self.file("elsewhere/pair.bin", packed(R, Q))
@@ -800,7 +804,7 @@ class Wrapper(unittest.TestCase):
         (elsewhere / "linked").symlink_to(self.house / "bin" / "compare")
         self.assert_done(self.compare(cwd=elsewhere, command="./linked"), 0, P_AND_Q)
 
-    def test_a_program_that_breaks(self):
+    def test_a_program_that_breaks(self) -> None:
         self.compare()
         program = self.house / "target" / "bin" / "compare"
         program.unlink()
@@ -817,11 +821,11 @@ class Readme(unittest.TestCase):
 
     README = (ROOT / "README.md").read_text(encoding="utf-8")
 
-    def test_the_example_is_p_and_q(self):
+    def test_the_example_is_p_and_q(self) -> None:
         self.assertEqual((ROOT / "examples" / "p-q.bin").read_bytes(), packed(P, Q))
         self.assertIn(P_AND_Q.decode(), self.README)
 
-    def test_from_newick_to_a_listing(self):
+    def test_from_newick_to_a_listing(self) -> None:
         trees = [ROOT / "examples" / name for name in ("feathers.nwk", "wings.nwk")]
         made = subprocess.run([sys.executable, ROOT / "tools" / "newick", *trees], capture_output=True)
         self.assertEqual(made.returncode, 0, made.stderr)
@@ -830,7 +834,7 @@ class Readme(unittest.TestCase):
         for shown in (*(tree.read_text() for tree in trees), made.stderr.decode(), printed.decode()):
             self.assertIn(shown, self.README)
 
-    def test_every_refusal_number_is_explained(self):
+    def test_every_refusal_number_is_explained(self) -> None:
         section = self.README.partition("## Refusals\n")[2].partition("\n## ")[0]
         rows = [line.split("|")[1].strip() for line in section.splitlines() if line.startswith("|")]
         for number in (*map(str, range(1, 16)), "101 to 107"):

@@ -3,9 +3,9 @@
 
     python3 tests/docs_tests.py
 
-docs/DECISIONS.md points to the lines that have each form of document 01; docs/SPECIFICATION.md names the definitions that say
-each section; docs/PROMISES.md names the clauses and theorems of each sentence of the demands, and every must-fail edit. A
-pointer that leads nowhere fails here.
+docs/DECISIONS.md points to the lines that have each form of the specification; docs/SPECIFICATION.md names the definitions
+that say each section; docs/PROMISES.md names the clauses and theorems of each sentence of the demands, and every must-fail
+edit; all pages name files. A pointer that leads nowhere fails here.
 """
 import pathlib
 import re
@@ -14,21 +14,41 @@ import unittest
 ROOT = pathlib.Path(__file__).resolve().parent.parent
 CODE = sorted(ROOT.glob("crates/*/*/**/*.antt")) + sorted(ROOT.glob("crates/*/src/**/*.rt"))
 WORD = re.compile(r"[A-Za-z_'′][\w'′-]*", re.UNICODE)
+PAGES = [ROOT / name for name in ("README.md", "CONTRIBUTING.md", "CHANGELOG.md")] + sorted(ROOT.glob("docs/*.md"))
+FOLDERS = "bench|bin|bindings|crates|docs|examples|include|tests|tools|[.]ci"
 
 
-def text(name):
+def text(name: str) -> str:
     return (ROOT / "docs" / name).read_text(encoding="utf-8")
 
 
-def section(content, heading):
+def section(content: str, heading: str) -> str:
     """The lines below a heading, up to the next one of its level."""
     return re.split(r"^## ", content.split(f"## {heading}\n", 1)[1], maxsplit=1, flags=re.M)[0]
+
+
+class Files(unittest.TestCase):
+    """Each file that a page names or links to is there."""
+
+    def test_named(self) -> None:
+        for page in PAGES:
+            content = page.read_text(encoding="utf-8")
+            for path in re.findall(rf"`((?:{FOLDERS})/[\w./-]+)`", content):
+                if "NAME" not in path:
+                    with self.subTest(page=page.name, path=path):
+                        self.assertTrue((ROOT / path).exists())
+
+    def test_linked(self) -> None:
+        for page in PAGES:
+            for path in re.findall(r"\]\(([\w./-]+)\)", page.read_text(encoding="utf-8")):
+                with self.subTest(page=page.name, path=path):
+                    self.assertTrue((page.parent / path).is_file())
 
 
 class Lines(unittest.TestCase):
     """`FILE:LINE` `CODE` in docs/DECISIONS.md: that line holds that code."""
 
-    def test_pointers(self):
+    def test_pointers(self) -> None:
         pointers = re.findall(r"`(crates/[^`:]+):(\d+)` `([^`]+)`", text("DECISIONS.md"))
         self.assertGreater(len(pointers), 20)
         for path, number, code in pointers:
@@ -38,15 +58,16 @@ class Lines(unittest.TestCase):
 
 
 class Definitions(unittest.TestCase):
-    """CRATE FILE `name` .. in docs/SPECIFICATION.md: that file of the crate's specs/ declares each name."""
+    """CRATE FILE `name` .. in docs/SPECIFICATION.md: that file below the crate's specs/ declares each name."""
 
-    def test_citations(self):
+    def test_citations(self) -> None:
         page = re.sub(r"\s+", " ", text("SPECIFICATION.md"))
         cited = re.findall(r"\b([a-z_]+) ((?:theorems/|lemmas/)?[A-Z]\w+)((?: `[^`]+`)+)", page)
         self.assertGreater(len(cited), 90)
         for crate, name, names in cited:
             with self.subTest(crate=crate, file=name):
-                content = (ROOT / "crates" / crate / "specs" / f"{name}.antt").read_text(encoding="utf-8")
+                files = (ROOT / "crates" / crate / "specs").rglob(f"{name}.antt")
+                content = "\n".join(file.read_text(encoding="utf-8") for file in files)
                 for one in re.findall(r"`([^`]+)`", names):
                     self.assertRegex(content, rf"(?m)^ *(?:\w+ )*{re.escape(one)}(?= [:(])")
 
@@ -54,10 +75,10 @@ class Definitions(unittest.TestCase):
 class Names(unittest.TestCase):
     """Names in docs/PROMISES.md stand in the crates."""
 
-    def setUp(self):
+    def setUp(self) -> None:
         self.promises = text("PROMISES.md")
 
-    def test_demands(self):
+    def test_demands(self) -> None:
         known = {word for path in CODE for word in WORD.findall(path.read_text(encoding="utf-8"))}
         for demand in (1, 2, 3):
             rows = section(self.promises, f"Demand {demand}, sentence by sentence")
@@ -65,7 +86,7 @@ class Names(unittest.TestCase):
             self.assertGreater(len(names), 10)
             self.assertEqual(names - known, set())
 
-    def test_edits(self):
+    def test_edits(self) -> None:
         tried = {path.stem for path in ROOT.glob("crates/*/must-fail/*.edit")}
         told = set(re.findall(r"^\| (?:\w+ )?`(\w+)` \| [^|]+\|(?: [^|]+\|)?$", self.promises, re.M))
         self.assertEqual(tried - told, set())

@@ -2,7 +2,8 @@
 //! cell before and after, and the cells on either side of those that are lent.
 
 use leskwyn::raw::{
-    self, BeyondAnswer, CentreAnswer, ClaimSumsAnswer, QuartetTableAnswer, SplitCountsAnswer, TopologyAnswer,
+    self, BeyondAnswer, CentreAnswer, ClaimSumsAnswer, PairFunction, QuartetTableAnswer, SplitCountsAnswer,
+    TopologyAnswer,
 };
 use leskwyn::{ClaimSums, QuartetTable, Refusal, SplitCounts};
 
@@ -211,8 +212,6 @@ impl Answers {
     }
 }
 
-type PairFunction<T> = unsafe extern "C" fn(*const u16, usize, *const u16, usize, *mut u16, usize) -> T;
-
 /// One function of a pair, with so many cells: its answer, and its cells afterwards.
 fn ask<T>(
     function: PairFunction<T>,
@@ -278,7 +277,7 @@ pub fn pair_agrees(first: &[u16], second: &[u16], expected: &Expected, random: &
                 cells_agree(first, second, lent, Some(expected), random);
             }
             wrappers_agree(first, second, cells, Some(expected), random);
-        })
+        });
     });
 }
 

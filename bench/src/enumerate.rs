@@ -1,6 +1,6 @@
-//! The enumerator, written from document 01 alone. Every figure is counted as its sentence there says it: crossings
-//! from sets of labels, topologies by looking at every edge, claims one by one, splits as pairs of tip sets. It is slow
-//! and means to be.
+//! The enumerator, written from docs/SPECIFICATION.md alone. Every figure is counted as its sentence there says it:
+//! crossings from sets of labels, topologies by looking at every edge, claims one by one, splits as pairs of tip sets.
+//! It is slow and means to be.
 
 use std::ops::Range;
 
@@ -170,9 +170,10 @@ impl Tree {
     }
 
     fn tips(&self, side: Side) -> Tips {
-        match side.beyond {
-            true => self.beyond[side.edge],
-            false => Tips::below(self.n).without(self.beyond[side.edge]),
+        if side.beyond {
+            self.beyond[side.edge]
+        } else {
+            Tips::below(self.n).without(self.beyond[side.edge])
         }
     }
 
@@ -387,7 +388,7 @@ fn half_with(edges: &[u64], four: u64, smallest: u64) -> Option<u64> {
         let half = beyond & four;
         // Without its lowest member a set of two is a set of one.
         let less = half & half.wrapping_sub(1);
-        let is_two = less != 0 && less & (less - 1) == 0;
+        let is_two = less.is_power_of_two();
         is_two.then_some(if half & smallest != 0 { half } else { four ^ half })
     })
 }

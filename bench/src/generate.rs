@@ -231,6 +231,7 @@ impl Graph {
     }
 
     /// A tree that differs in a few places: tips moved, labels exchanged, edges contracted.
+    #[must_use]
     pub fn near_partner(&self, random: &mut Random) -> Graph {
         let mut partner = self.clone();
         for _ in 0..random.between(0, 3) {

@@ -1,7 +1,7 @@
 //! An independent check of the exported functions, and other methods to time them against.
 //!
-//! `enumerate` is written from document 01 alone: topologies by looking at every edge, claims one by one. Nothing in
-//! it, or in `cubic` and `expanded`, which follow document 001, comes from the library. `straight` is the library's
+//! `enumerate` is written from docs/SPECIFICATION.md alone: topologies by looking at every edge, claims one by one.
+//! Nothing in it, or in `cubic` and `expanded`, which follow document 001, comes from the library. `straight` is the library's
 //! own algorithm as a Rust programmer would write it, and is there to be timed.
 
 pub mod agree;

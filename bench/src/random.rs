@@ -1,4 +1,4 @@
-//! Seeded random numbers (SplitMix64), the same on every machine.
+//! Seeded random numbers (`SplitMix64`), the same on every machine.
 
 pub struct Random(u64);
 

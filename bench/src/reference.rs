@@ -1,4 +1,5 @@
-//! The reference tables and pairs of document 01, and further pairs worked out by hand or from the source documents.
+//! The tables and pairs of docs/SPECIFICATION.md, 'Reference pairs', and further pairs worked out by hand or from the
+//! source documents.
 
 pub const X: u16 = 65535;
 

@@ -2,6 +2,7 @@
 
 use std::fmt::Write;
 use std::fs;
+use std::num::NonZero;
 use std::thread;
 
 use crate::timing::{Measured, PAIRINGS};
@@ -67,7 +68,7 @@ fn processor() -> String {
     let told = fs::read_to_string("/proc/cpuinfo").unwrap_or_default();
     let model = told.lines().find_map(|line| line.strip_prefix("model name")?.split_once(':'));
     let model = model.map_or("a processor without a name", |(_, name)| name.trim());
-    let cores = thread::available_parallelism().map_or(1, |count| count.get());
+    let cores = thread::available_parallelism().map_or(1, NonZero::get);
     format!("{model}, {cores} cores, {} {}", std::env::consts::ARCH, std::env::consts::OS)
 }
 

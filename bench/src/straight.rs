@@ -5,7 +5,11 @@ use leskwyn::QuartetTable;
 
 use crate::reference::X;
 
-/// The quartet table, or the pair's refusal. Leaves the crossings in the work.
+/// The quartet table. Leaves the crossings in the work.
+///
+/// # Errors
+///
+/// The pair's number.
 pub fn quartet_table(first: &[u16], second: &[u16], work: &mut [u16]) -> Result<QuartetTable, u16> {
     check(first)?;
     check(second).map_err(|number| 100 + number)?;
@@ -166,15 +170,14 @@ fn pair_sums(work: &[u16], width: usize, n: u16, ours: &Nodes, theirs: &Nodes) -
     let others: Vec<&[usize]> = theirs.inner().collect();
     for rows in ours.inner() {
         for &columns in &others {
-            let pair = match (rows, columns) {
-                (&[r0, r1, r2], &[c0, c1, c2]) => nine(work, width, n, [r0, r1, r2], [c0, c1, c2]),
-                _ => {
-                    block.fill(work, width, n, rows, columns);
-                    match (rows.len(), columns.len()) {
-                        (3, len) => three(&block.cells, len, 1, len),
-                        (len, 3) => three(&block.cells, 1, 3, len),
-                        _ => block.sums(),
-                    }
+            let pair = if let (&[r0, r1, r2], &[c0, c1, c2]) = (rows, columns) {
+                nine(work, width, n, [r0, r1, r2], [c0, c1, c2])
+            } else {
+                block.fill(work, width, n, rows, columns);
+                match (rows.len(), columns.len()) {
+                    (3, len) => three(&block.cells, len, 1, len),
+                    (len, 3) => three(&block.cells, 1, 3, len),
+                    _ => block.sums(),
                 }
             };
             sums.same += pair.same;

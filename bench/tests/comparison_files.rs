@@ -8,8 +8,8 @@ use std::process::{Command, Stdio};
 use bench::damage::{damaged, noise};
 use bench::generate::{pair, table, Partner, Shape};
 use bench::random::Random;
-use bench::reference::TABLES;
-use leskwyn::file::{compare, listing};
+use bench::reference::{P, Q, TABLES};
+use leskwyn::file::{bytes, compare, listing};
 
 /// The most bytes that the proved program takes.
 const MOST: usize = 1016;
@@ -36,10 +36,6 @@ fn proved_listing(program: &Path, bytes: &[u8]) -> String {
     String::from_utf8(output.stdout).expect("its listing is text")
 }
 
-fn bytes_of(tables: &[&[u16]]) -> Vec<u8> {
-    tables.concat().iter().flat_map(|word| word.to_le_bytes()).collect()
-}
-
 /// Whether the file was compared, and not refused.
 fn file_agrees(program: &Path, bytes: &[u8]) -> bool {
     assert!(bytes.len() <= MOST);
@@ -57,7 +53,7 @@ fn generated_pairs() {
         let partner = if at % 2 == 0 { Partner::Near } else { Partner::Far };
         // 64 tips are the most whose two binary tables have 1016 bytes.
         let (first, second) = pair(shape, 2 + at % 63, partner, &mut random);
-        assert!(file_agrees(&program, &bytes_of(&[&first, &second])));
+        assert!(file_agrees(&program, &bytes(&first, &second)));
     }
 }
 
@@ -75,12 +71,12 @@ fn damaged_pairs() {
             1 => second = damaged(&second, number, &mut random),
             _ => second = table(shape, 2 + random.below(24), &mut random),
         }
-        let mut bytes = bytes_of(&[&first, &second]);
+        let mut file = bytes(&first, &second);
         if random.chance(10) {
-            bytes.truncate(random.below(bytes.len() + 1));
+            file.truncate(random.below(file.len() + 1));
         }
-        bytes.truncate(MOST);
-        refused += usize::from(!file_agrees(&program, &bytes));
+        file.truncate(MOST);
+        refused += usize::from(!file_agrees(&program, &file));
     }
     assert!(refused > 300, "{refused} of the files were refused");
 }
@@ -91,25 +87,54 @@ fn files_with_little_plan() {
     let mut random = Random::seeded(620);
     for _ in 0..300 {
         let (first, second) = (noise(&mut random), noise(&mut random));
-        let mut bytes = bytes_of(&[&first, &second]);
+        let mut file = bytes(&first, &second);
         if random.chance(10) {
-            bytes.pop();
+            file.pop();
         }
-        file_agrees(&program, &bytes);
+        file_agrees(&program, &file);
     }
 }
 
-/// Every beginning of two reference tables, even and odd, and every two of the tables.
 #[test]
-fn beginnings_and_pairs_of_the_reference_tables() {
+fn every_two_reference_tables() {
     let program = proved_program();
     for first in TABLES {
         for second in TABLES {
-            file_agrees(&program, &bytes_of(&[first, second]));
+            file_agrees(&program, &bytes(first, second));
         }
     }
-    let bytes = bytes_of(&[TABLES[0], TABLES[1]]);
-    for length in 0..=bytes.len() {
-        file_agrees(&program, &bytes[..length]);
+}
+
+/// Even and odd, and with a word left over.
+#[test]
+fn every_beginning_of_a_file() {
+    let program = proved_program();
+    let file = [bytes(P, Q), vec![0, 0]].concat();
+    for length in 0..=file.len() {
+        file_agrees(&program, &file[..length]);
+    }
+}
+
+#[test]
+fn every_word_of_a_file_changed() {
+    let program = proved_program();
+    for at in 0..P.len() + Q.len() {
+        for word in [0, 1, 2, 7, 65535] {
+            let mut words = [P, Q].concat();
+            words[at] = word;
+            file_agrees(&program, &bytes(&words, &[]));
+        }
+    }
+}
+
+#[test]
+fn the_longest_files() {
+    let program = proved_program();
+    let mut random = Random::seeded(630);
+    for shape in [Shape::Binary, Shape::Caterpillar, Shape::Balanced] {
+        let table = table(shape, 64, &mut random);
+        let file = bytes(&table, &table);
+        assert_eq!(file.len(), MOST);
+        assert!(file_agrees(&program, &file));
     }
 }

@@ -50,5 +50,5 @@ fn the_largest_sums() {
     let mut random = Random::seeded(430);
     let table = table(Shape::Binary, 256, &mut random);
     let sums = leskwyn::claim_sums(&table, &table, &mut vec![0; leskwyn::WORK_CELLS]).expect("accepted");
-    assert_eq!((sums.first, sums.second, sums.same, sums.different), (349585280, 349585280, 349585280, 0));
+    assert_eq!((sums.first, sums.second, sums.same, sums.different), (349_585_280, 349_585_280, 349_585_280, 0));
 }

@@ -1,4 +1,4 @@
-//! Document 01's reference pairs, further pairs worked out beforehand, and its edges of acceptance.
+//! The reference pairs and edge cases of docs/SPECIFICATION.md, and further pairs worked out beforehand.
 
 use bench::agree::{centre_agrees, pair_agrees, topology_agrees, tree_agrees, Expected};
 use bench::enumerate::Tree;
@@ -48,7 +48,7 @@ fn the_labels_beyond_the_edges_of_p_and_r() {
     let beyond = |table: &[u16], edge: u16, cells: usize| {
         let mut walk = [0; 5];
         leskwyn::walk(table, &mut walk).expect("accepted");
-        leskwyn::beyond(table, edge, &walk[..cells]).map(<[u16]>::to_vec).map_err(|refusal| refusal.number())
+        leskwyn::beyond(table, edge, &walk[..cells]).map(<[u16]>::to_vec).map_err(leskwyn::Refusal::number)
     };
     let of_p = [vec![1, 2, 3, 4], vec![1], vec![2, 3, 4], vec![2], vec![3, 4], vec![3], vec![4]];
     let of_r = [vec![2, 1, 3, 4], vec![2], vec![1, 3, 4], vec![1], vec![3, 4], vec![3], vec![4]];
@@ -63,7 +63,7 @@ fn the_labels_beyond_the_edges_of_p_and_r() {
 
 #[test]
 fn the_edges_of_acceptance() {
-    let number = |table: &[u16]| leskwyn::check(table).err().map_or(0, |refusal| refusal.number());
+    let number = |table: &[u16]| leskwyn::check(table).err().map_or(0, leskwyn::Refusal::number);
     let with = |at: usize, word: u16| {
         let mut table = P.to_vec();
         table[at] = word;
@@ -74,7 +74,7 @@ fn the_edges_of_acceptance() {
     assert_eq!(number(&[P, &[0]].concat()), 4);
     assert_eq!(number(TWO), 0);
     assert_eq!(number(THREE), 0);
-    let refused = |cells| leskwyn::quartet_table(P, Q, &mut vec![0; cells]).err().map(|refusal| refusal.number());
+    let refused = |cells| leskwyn::quartet_table(P, Q, &mut vec![0; cells]).err().map(leskwyn::Refusal::number);
     assert_eq!([41, 42].map(refused), [Some(9), None]);
     let mut random = Random::seeded(2);
     for table in TABLES {

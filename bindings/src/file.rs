@@ -2,7 +2,7 @@
 
 use std::fmt;
 
-use crate::{claim_sums, quartet_table, split_counts, ClaimSums, QuartetTable, Refusal, SplitCounts, WORK_CELLS};
+use crate::{claim_sums, quartet_table, split_counts, work_cells, ClaimSums, QuartetTable, Refusal, SplitCounts};
 
 /// What is printed of a comparison: five lines, or `refused N` for an error, by [`listing`].
 #[derive(Clone, Copy, Debug, PartialEq, Eq)]
@@ -16,26 +16,40 @@ pub struct Figures {
 
 impl fmt::Display for Figures {
     fn fmt(&self, f: &mut fmt::Formatter<'_>) -> fmt::Result {
-        let Figures { leaves, claims, quartets, splits } = self;
-        writeln!(f, "leaves {leaves}")?;
-        writeln!(f, "claims {} {} {} {}", claims.first, claims.second, claims.same, claims.different)?;
-        let QuartetTable { a, b, c, d, e, distance } = quartets;
+        let ClaimSums { first, second, same, different } = self.claims;
+        let QuartetTable { a, b, c, d, e, distance } = self.quartets;
+        writeln!(f, "leaves {}", self.leaves)?;
+        writeln!(f, "claims {first} {second} {same} {different}")?;
         writeln!(f, "quartets {a} {b} {c} {d} {e}")?;
         writeln!(f, "distance {distance}")?;
-        writeln!(f, "splits {} {} {} {}", splits.first, splits.second, splits.common, splits.distance)
+        let SplitCounts { first, second, common, distance } = self.splits;
+        writeln!(f, "splits {first} {second} {common} {distance}")
     }
 }
 
-/// The words of a file. Refuses an odd number of bytes by 15.
+/// The bytes of a file with these tables.
+///
+/// ```
+/// assert_eq!(leskwyn::file::bytes(&[2, 2], &[257]), [2, 0, 2, 0, 1, 1]);
+/// ```
+#[must_use]
+pub fn bytes(first: &[u16], second: &[u16]) -> Vec<u8> {
+    first.iter().chain(second).flat_map(|word| word.to_le_bytes()).collect()
+}
+
+/// The words of a file.
 ///
 /// ```
 /// assert_eq!(leskwyn::file::words(&[2, 0, 1, 1]), Ok(vec![2, 257]));
 /// assert_eq!(leskwyn::file::words(&[2]).unwrap_err().number(), 15);
 /// ```
+///
+/// # Errors
+///
+/// 15 for an odd number of bytes.
 pub fn words(bytes: &[u8]) -> Result<Vec<u16>, Refusal> {
-    const ODD: u16 = 15;
     if bytes.len() % 2 == 1 {
-        Refusal::from_number(ODD)?;
+        return Err(Refusal::ODD_BYTES);
     }
     Ok(bytes.chunks_exact(2).map(|pair| u16::from_le_bytes([pair[0], pair[1]])).collect())
 }
@@ -47,21 +61,30 @@ pub fn words(bytes: &[u8]) -> Result<Vec<u16>, Refusal> {
 /// let (first, second) = leskwyn::file::cut(&[2, 1, 7, 8, 5, 6]);
 /// assert_eq!((first, second), (&[2, 1, 7, 8][..], &[5, 6][..]));
 /// ```
+#[must_use]
 pub fn cut(words: &[u16]) -> (&[u16], &[u16]) {
     let whole = words.get(1).map_or(words.len(), |&m| 2 + 2 * usize::from(m));
     words.split_at(whole.min(words.len()))
 }
 
-/// Compares two tree tables. Refuses by the pair's order; the work is lent from here, so 9 does not occur.
+/// Compares two tree tables, with as many work cells as they take.
+///
+/// # Errors
+///
+/// By the pair's order. The work is lent from here, so that 9 does not occur.
 pub fn compare_tables(first: &[u16], second: &[u16]) -> Result<Figures, Refusal> {
-    let mut work = vec![0; WORK_CELLS];
+    let mut work = vec![0; work_cells(first, second)?];
     let claims = claim_sums(first, second, &mut work)?;
     let quartets = quartet_table(first, second, &mut work)?;
     let splits = split_counts(first, second, &mut work)?;
     Ok(Figures { leaves: first[0], claims, quartets, splits })
 }
 
-/// Compares the two tables of a file of any length. Refuses by 15, then by the pair's order.
+/// Compares the two tables of a file of any length.
+///
+/// # Errors
+///
+/// 15, then by the pair's order without 9.
 pub fn compare(bytes: &[u8]) -> Result<Figures, Refusal> {
     let words = words(bytes)?;
     let (first, second) = cut(&words);
@@ -74,6 +97,7 @@ pub fn compare(bytes: &[u8]) -> Result<Figures, Refusal> {
 /// use leskwyn::file::{compare, listing};
 /// assert_eq!(listing(&compare(&[])), "refused 1\n");
 /// ```
+#[must_use]
 pub fn listing(answer: &Result<Figures, Refusal>) -> String {
     match answer {
         Ok(figures) => figures.to_string(),

@@ -25,8 +25,10 @@
 pub mod file;
 pub mod raw;
 mod refusal;
+mod version;
 
 pub use refusal::Refusal;
+pub use version::{version, Version};
 
 /// The label word of an inner node.
 pub const INNER: u16 = 65535;
@@ -86,20 +88,25 @@ pub struct SplitCounts {
     pub distance: u64,
 }
 
-/// Checks a tree table. Refuses by 1 to 7.
+/// Checks a tree table.
 ///
 /// ```
 /// use leskwyn::{check, INNER};
 /// assert!(check(&[3, 4, 0, 0, 1, 1, 0, INNER, 1, 2]).is_ok());
 /// assert_eq!(check(&[3, 4, 0, 0, 1, 1, 0, INNER, 1, 1]).unwrap_err().number(), 6);
 /// ```
+///
+/// # Errors
+///
+/// 1 to 7.
 pub fn check(table: &[u16]) -> Result<(), Refusal> {
     // SAFETY: the pointer and the length are those of one live slice.
-    Refusal::from_number(unsafe { raw::leskwyn_check(table.as_ptr(), table.len()) })
+    let number = unsafe { raw::leskwyn_check(table.as_ptr(), table.len()) };
+    Refusal::or(number, ())
 }
 
 /// Writes the labels depth first from node 0, children in rising node number, into the first n cells; later cells
-/// stay. Refuses by 1 to 7, then 12.
+/// stay.
 ///
 /// ```
 /// let mut cells = [9; 4];
@@ -107,14 +114,19 @@ pub fn check(table: &[u16]) -> Result<(), Refusal> {
 /// assert_eq!(cells, [0, 2, 1, 9]);
 /// # Ok::<(), leskwyn::Refusal>(())
 /// ```
+///
+/// # Errors
+///
+/// 1 to 7, then 12.
 pub fn walk(table: &[u16], cells: &mut [u16]) -> Result<(), Refusal> {
     // SAFETY: each pointer and length are those of one live slice, and `cells` is borrowed alone.
-    Refusal::from_number(unsafe { raw::leskwyn_walk(table.as_ptr(), table.len(), cells.as_mut_ptr(), cells.len()) })
+    let number = unsafe { raw::leskwyn_walk(table.as_ptr(), table.len(), cells.as_mut_ptr(), cells.len()) };
+    Refusal::or(number, ())
 }
 
 /// The labels beyond an edge, as a part of the caller's walk. On a walk that [`walk`] wrote these are exactly the
 /// labels beyond the edge. The part is chosen by position alone, so that a walk filled with other words gives other
-/// words. Refuses by 1 to 7, then 13, then 12.
+/// words.
 ///
 /// ```
 /// use leskwyn::{beyond, walk, INNER as X};
@@ -126,27 +138,34 @@ pub fn walk(table: &[u16], cells: &mut [u16]) -> Result<(), Refusal> {
 /// assert_eq!(beyond(&p, 8, &cells).unwrap_err().number(), 13);
 /// # Ok::<(), leskwyn::Refusal>(())
 /// ```
+///
+/// # Errors
+///
+/// 1 to 7, then 13, then 12.
 pub fn beyond<'a>(table: &[u16], edge: u16, walk: &'a [u16]) -> Result<&'a [u16], Refusal> {
     // SAFETY: the pointer and the length are those of one live slice.
     let answer = unsafe { raw::leskwyn_beyond(table.as_ptr(), table.len(), edge, walk.len()) };
-    Refusal::from_number(answer.refusal)?;
-    let start = usize::from(answer.start);
-    Ok(&walk[start..start + usize::from(answer.labels)])
+    // A refused answer has 0 in both, which is an empty part.
+    let (start, labels) = (usize::from(answer.start), usize::from(answer.labels));
+    Refusal::or(answer.refusal, &walk[start..start + labels])
 }
 
-/// The centre of three tips: the node where the paths between them join. Refuses by 1 to 7, then 10, then 11.
+/// The centre of three tips: the node where the paths between them join.
 ///
 /// ```
 /// assert_eq!(leskwyn::centre(&[3, 4, 0, 0, 1, 1, 0, leskwyn::INNER, 1, 2], 2, 0, 1), Ok(1));
 /// ```
+///
+/// # Errors
+///
+/// 1 to 7, then 10, then 11.
 pub fn centre(table: &[u16], a: u16, b: u16, c: u16) -> Result<u16, Refusal> {
     // SAFETY: the pointer and the length are those of one live slice.
     let answer = unsafe { raw::leskwyn_centre(table.as_ptr(), table.len(), a, b, c) };
-    Refusal::from_number(answer.refusal)?;
-    Ok(answer.node)
+    Refusal::or(answer.refusal, answer.node)
 }
 
-/// The topology of four tips, whatever their order. Refuses by 1 to 7, then 10, then 11.
+/// The topology of four tips, whatever their order.
 ///
 /// ```
 /// use leskwyn::{topology, Topology, INNER as X};
@@ -154,30 +173,42 @@ pub fn centre(table: &[u16], a: u16, b: u16, c: u16) -> Result<u16, Refusal> {
 /// assert_eq!(topology(&q, 3, 0, 2, 1), Ok(Topology::Butterfly(1)));
 /// assert_eq!(topology(&q, 0, 2, 3, 4), Ok(Topology::Star));
 /// ```
+///
+/// # Errors
+///
+/// 1 to 7, then 10, then 11.
 pub fn topology(table: &[u16], a: u16, b: u16, c: u16, d: u16) -> Result<Topology, Refusal> {
     // SAFETY: the pointer and the length are those of one live slice.
     let answer = unsafe { raw::leskwyn_topology(table.as_ptr(), table.len(), a, b, c, d) };
-    Refusal::from_number(answer.refusal)?;
-    Ok(if answer.butterfly == 1 { Topology::Butterfly(answer.partner) } else { Topology::Star })
+    let topology = if answer.butterfly == 1 { Topology::Butterfly(answer.partner) } else { Topology::Star };
+    Refusal::or(answer.refusal, topology)
 }
 
-/// How many work cells a pair of tree tables takes, (m - 1)(m' - 1). Refuses by the pair's order, 9 apart.
+/// What a function of a pair answers.
+fn asked<T>(function: raw::PairFunction<T>, first: &[u16], second: &[u16], work: &mut [u16]) -> T {
+    // SAFETY: each pointer and length are those of one live slice, and `work` is borrowed alone.
+    unsafe { function(first.as_ptr(), first.len(), second.as_ptr(), second.len(), work.as_mut_ptr(), work.len()) }
+}
+
+/// How many work cells a pair of tree tables takes, (m - 1)(m' - 1).
 ///
 /// ```
 /// let star = [3, 4, 0, 0, 1, 1, 0, leskwyn::INNER, 1, 2];
 /// assert_eq!(leskwyn::work_cells(&star, &star), Ok(9));
 /// ```
+///
+/// # Errors
+///
+/// 1 to 7 for the first tree, 101 to 107 for the second, then 8.
 pub fn work_cells(first: &[u16], second: &[u16]) -> Result<usize, Refusal> {
-    const NO_CELLS: u16 = 9;
     match crossings(first, second, &mut []) {
-        Err(refusal) if refusal.number() != NO_CELLS => Err(refusal),
+        Err(refusal) if refusal != Refusal::FEW_CELLS => Err(refusal),
         _ => Ok((usize::from(first[1]) - 1) * (usize::from(second[1]) - 1)),
     }
 }
 
 /// The crossings of two trees: afterwards cell (i - 1)(m' - 1) + (j - 1) holds how many labels lie beyond both edge i
-/// of the first tree and edge j of the second; later cells stay. The two trees may be one slice. Refuses by 1 to 7 for
-/// the first tree, 101 to 107 for the second, then 8, then 9.
+/// of the first tree and edge j of the second; later cells stay. The two trees may be one slice.
 ///
 /// ```
 /// let star = [3, 4, 0, 0, 1, 1, 0, leskwyn::INNER, 1, 2];
@@ -186,38 +217,26 @@ pub fn work_cells(first: &[u16], second: &[u16]) -> Result<usize, Refusal> {
 /// assert_eq!(work, [2, 1, 1, 1, 1, 0, 1, 0, 1, 7]);
 /// # Ok::<(), leskwyn::Refusal>(())
 /// ```
+///
+/// # Errors
+///
+/// 1 to 7 for the first tree, 101 to 107 for the second, then 8, then 9.
 pub fn crossings(first: &[u16], second: &[u16], work: &mut [u16]) -> Result<(), Refusal> {
-    // SAFETY: each pointer and length are those of one live slice, and `work` is borrowed alone.
-    Refusal::from_number(unsafe {
-        raw::leskwyn_crossings(
-            first.as_ptr(),
-            first.len(),
-            second.as_ptr(),
-            second.len(),
-            work.as_mut_ptr(),
-            work.len(),
-        )
-    })
+    Refusal::or(asked(raw::leskwyn_crossings, first, second, work), ())
 }
 
-/// The claim sums of two trees. Takes, refuses and leaves in the work what [`crossings`] does.
+/// The claim sums of two trees. Takes and leaves in the work what [`crossings`] does.
+///
+/// # Errors
+///
+/// Those of [`crossings`].
 pub fn claim_sums(first: &[u16], second: &[u16], work: &mut [u16]) -> Result<ClaimSums, Refusal> {
-    // SAFETY: each pointer and length are those of one live slice, and `work` is borrowed alone.
-    let answer = unsafe {
-        raw::leskwyn_claim_sums(
-            first.as_ptr(),
-            first.len(),
-            second.as_ptr(),
-            second.len(),
-            work.as_mut_ptr(),
-            work.len(),
-        )
-    };
-    Refusal::from_number(answer.refusal)?;
-    Ok(ClaimSums { first: answer.first, second: answer.second, same: answer.same, different: answer.different })
+    let raw::ClaimSumsAnswer { refusal, first, second, same, different } =
+        asked(raw::leskwyn_claim_sums, first, second, work);
+    Refusal::or(refusal, ClaimSums { first, second, same, different })
 }
 
-/// The quartet table of two trees. Takes, refuses and leaves in the work what [`crossings`] does.
+/// The quartet table of two trees. Takes and leaves in the work what [`crossings`] does.
 ///
 /// ```
 /// use leskwyn::{quartet_table, INNER as X};
@@ -227,35 +246,23 @@ pub fn claim_sums(first: &[u16], second: &[u16], work: &mut [u16]) -> Result<Cla
 /// assert_eq!(quartet_table(&w, &w, &mut [0; 24]).unwrap_err().number(), 9);
 /// # Ok::<(), leskwyn::Refusal>(())
 /// ```
+///
+/// # Errors
+///
+/// Those of [`crossings`].
 pub fn quartet_table(first: &[u16], second: &[u16], work: &mut [u16]) -> Result<QuartetTable, Refusal> {
-    // SAFETY: each pointer and length are those of one live slice, and `work` is borrowed alone.
-    let answer = unsafe {
-        raw::leskwyn_quartet_table(
-            first.as_ptr(),
-            first.len(),
-            second.as_ptr(),
-            second.len(),
-            work.as_mut_ptr(),
-            work.len(),
-        )
-    };
-    Refusal::from_number(answer.refusal)?;
-    Ok(QuartetTable { a: answer.a, b: answer.b, c: answer.c, d: answer.d, e: answer.e, distance: answer.distance })
+    let raw::QuartetTableAnswer { refusal, a, b, c, d, e, distance } =
+        asked(raw::leskwyn_quartet_table, first, second, work);
+    Refusal::or(refusal, QuartetTable { a, b, c, d, e, distance })
 }
 
-/// The split counts of two trees. Takes, refuses and leaves in the work what [`crossings`] does.
+/// The split counts of two trees. Takes and leaves in the work what [`crossings`] does.
+///
+/// # Errors
+///
+/// Those of [`crossings`].
 pub fn split_counts(first: &[u16], second: &[u16], work: &mut [u16]) -> Result<SplitCounts, Refusal> {
-    // SAFETY: each pointer and length are those of one live slice, and `work` is borrowed alone.
-    let answer = unsafe {
-        raw::leskwyn_split_counts(
-            first.as_ptr(),
-            first.len(),
-            second.as_ptr(),
-            second.len(),
-            work.as_mut_ptr(),
-            work.len(),
-        )
-    };
-    Refusal::from_number(answer.refusal)?;
-    Ok(SplitCounts { first: answer.first, second: answer.second, common: answer.common, distance: answer.distance })
+    let raw::SplitCountsAnswer { refusal, first, second, common, distance } =
+        asked(raw::leskwyn_split_counts, first, second, work);
+    Refusal::or(refusal, SplitCounts { first, second, common, distance })
 }

@@ -62,9 +62,14 @@ pub struct SplitCountsAnswer {
     pub distance: u64,
 }
 
+/// A function of two tables and the work: each as a pointer and a number of elements.
+pub type PairFunction<T> = unsafe extern "C" fn(*const u16, usize, *const u16, usize, *mut u16, usize) -> T;
+
 // Every function is safe to call with pointers to that many elements, aligned and live for the call, where the lent
 // cells overlap no table. The library holds no global and keeps no pointer.
 extern "C" {
+    pub fn leskwyn_version() -> u32;
+
     pub fn leskwyn_check(table: *const u16, words: usize) -> u16;
 
     pub fn leskwyn_walk(table: *const u16, words: usize, walk: *mut u16, cells: usize) -> u16;

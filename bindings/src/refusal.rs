@@ -15,17 +15,28 @@ use std::num::NonZeroU16;
 pub struct Refusal(NonZeroU16);
 
 impl Refusal {
-    /// `Ok` for the number 0, which stands for accepted.
-    pub(crate) fn from_number(number: u16) -> Result<(), Refusal> {
-        NonZeroU16::new(number).map_or(Ok(()), |number| Err(Refusal(number)))
+    /// The work is too short.
+    pub(crate) const FEW_CELLS: Refusal = Refusal(NonZeroU16::new(9).unwrap());
+
+    /// A file has an odd number of bytes.
+    pub(crate) const ODD_BYTES: Refusal = Refusal(NonZeroU16::new(15).unwrap());
+
+    /// The answer that stands beside the number, where that is 0; else the refusal.
+    pub(crate) fn or<T>(number: u16, answer: T) -> Result<T, Refusal> {
+        match NonZeroU16::new(number) {
+            None => Ok(answer),
+            Some(number) => Err(Refusal(number)),
+        }
     }
 
     /// The number: 1 to 7 of a table or of the first of two; 101 to 107 of the second; 8 to 13; or 15 of a file.
+    #[must_use]
     pub fn number(self) -> u16 {
         self.0.get()
     }
 
     /// The broken rule in words.
+    #[must_use]
     pub fn reason(self) -> &'static str {
         match self.number() {
             1 | 101 => "fewer than two words",
@@ -47,6 +58,7 @@ impl Refusal {
     }
 
     /// Whether the second of two tables is the one that is no tree.
+    #[must_use]
     pub fn is_of_second(self) -> bool {
         self.number() > 100
     }

@@ -3,7 +3,8 @@
 //! a refusal, 2 for trouble with the arguments or the file.
 
 use std::env;
-use std::ffi::OsStr;
+use std::ffi::{OsStr, OsString};
+use std::fmt;
 use std::fs;
 use std::io::{self, Read, Write};
 use std::process::ExitCode;
@@ -14,49 +15,74 @@ const USAGE: &str = "\
 usage: leskwyn-compare FILE
 
 FILE holds two tree tables, one after the other, in 16-bit words, the lower byte
-first; - stands for standard input. Exit status: 0 for a comparison, 1 for a
-refusal, 2 for trouble.
+first; - stands for standard input. --version prints the version of Leskwyn.
+Exit status: 0 for a comparison, 1 for a refusal, 2 for trouble.
 ";
 
-/// Trouble with the arguments or the file.
-const TROUBLE: u8 = 2;
+/// What keeps a comparison or a refusal from being printed.
+enum Trouble {
+    Arguments,
+    Input(OsString, io::Error),
+    Output(io::Error),
+}
+
+impl Trouble {
+    const STATUS: u8 = 2;
+}
+
+impl fmt::Display for Trouble {
+    fn fmt(&self, f: &mut fmt::Formatter<'_>) -> fmt::Result {
+        match self {
+            Trouble::Arguments => f.write_str(USAGE),
+            Trouble::Input(name, error) => writeln!(f, "leskwyn-compare: {}: {error}", name.to_string_lossy()),
+            Trouble::Output(error) => writeln!(f, "leskwyn-compare: standard output: {error}"),
+        }
+    }
+}
 
 fn bytes_of(name: &OsStr) -> io::Result<Vec<u8>> {
     if name != "-" {
         return fs::read(name);
     }
     let mut bytes = Vec::new();
-    io::stdin().lock().read_to_end(&mut bytes)?;
-    Ok(bytes)
+    io::stdin().lock().read_to_end(&mut bytes).map(|_| bytes)
 }
 
-fn print(text: &str) -> Result<(), String> {
+/// Prints the text; the status, unless it cannot be written.
+fn print(text: &str, status: ExitCode) -> Result<ExitCode, Trouble> {
     let mut out = io::stdout().lock();
-    let written = out.write_all(text.as_bytes()).and_then(|()| out.flush());
-    written.map_err(|error| format!("standard output: {error}"))
+    match out.write_all(text.as_bytes()).and_then(|()| out.flush()) {
+        Ok(()) => Ok(status),
+        Err(error) => Err(Trouble::Output(error)),
+    }
 }
 
-/// Whether the file's comparison was printed, and not its refusal.
-fn run(name: &OsStr) -> Result<bool, String> {
-    let bytes = bytes_of(name).map_err(|error| format!("{}: {error}", name.to_string_lossy()))?;
-    let answer = compare(&bytes);
-    print(&listing(&answer))?;
-    Ok(answer.is_ok())
+fn print_comparison(name: &OsStr) -> Result<ExitCode, Trouble> {
+    match bytes_of(name) {
+        Ok(bytes) => {
+            let answer = compare(&bytes);
+            let status = if answer.is_ok() { ExitCode::SUCCESS } else { ExitCode::FAILURE };
+            print(&listing(&answer), status)
+        }
+        Err(error) => Err(Trouble::Input(name.to_owned(), error)),
+    }
+}
+
+fn run(arguments: &[OsString]) -> Result<ExitCode, Trouble> {
+    match arguments {
+        [name] if name == "--help" => print(USAGE, ExitCode::SUCCESS),
+        [name] if name == "--version" => {
+            print(&format!("leskwyn-compare (Leskwyn) {}\n", leskwyn::version()), ExitCode::SUCCESS)
+        }
+        [name] => print_comparison(name),
+        _ => Err(Trouble::Arguments),
+    }
 }
 
 fn main() -> ExitCode {
-    let arguments: Vec<_> = env::args_os().skip(1).collect();
-    let [name] = &arguments[..] else {
-        eprint!("{USAGE}");
-        return ExitCode::from(TROUBLE);
-    };
-    let done = if name == "--help" { print(USAGE).map(|()| true) } else { run(name) };
-    match done {
-        Ok(true) => ExitCode::SUCCESS,
-        Ok(false) => ExitCode::FAILURE,
-        Err(message) => {
-            eprintln!("leskwyn-compare: {message}");
-            ExitCode::from(TROUBLE)
-        }
-    }
+    let arguments: Vec<OsString> = env::args_os().skip(1).collect();
+    run(&arguments).unwrap_or_else(|trouble| {
+        eprint!("{trouble}");
+        ExitCode::from(Trouble::STATUS)
+    })
 }

@@ -1,2 +1,3 @@
 pub mod PlainAnswers
+pub mod Version
 pub mod lemmas

@@ -2,3 +2,4 @@
 // it wraps.
 mod answers; // answers.rt: the answers as plain structs
 mod exports; // exports.rt: the exported functions
+mod version; // version.rt: the release that the library is of

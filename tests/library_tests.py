@@ -1,0 +1,79 @@
+#!/usr/bin/env python3
+"""Tests that docs/LIBRARY.md says what is run and what is there.
+
+    python3 tests/library_tests.py
+
+Each block of code on the page is the text of the file that is named before it. The calls that it lists are the public
+functions of the libraries with their parameters, and the functions for C are the same in crates/capi, in the header, in
+Rust and on the page.
+"""
+import pathlib
+import re
+import unittest
+
+ROOT = pathlib.Path(__file__).resolve().parent.parent
+PROGRAMS = ["crates/library_example/src/main.rt", "crates/library_example/proofs/distance/Proof.antt",
+            "examples/compare.c", "bindings/examples/distance.rs"]
+LIBRARIES = ["trees", "quartets", "pair_file"]
+
+
+def text(path: str) -> str:
+    return (ROOT / path).read_text(encoding="utf-8")
+
+
+PAGE = text("docs/LIBRARY.md")
+
+
+def named_blocks() -> list[tuple[str, str]]:
+    """Each fenced block, with the last file that is named before it."""
+    found = []
+    path = ""
+    for number, part in enumerate(re.split(r"^```\w*\n", PAGE, flags=re.M)):
+        if number % 2:
+            found.append((path, part))
+        for name in re.findall(r"`([\w./-]+)`", part) if number % 2 == 0 else []:
+            path = name if (ROOT / name).is_file() else path
+    return found
+
+
+def public_functions(crate: str) -> dict[str, list[str]]:
+    """The parameters of each function that callers of the crate reach, its own and those that it passes on."""
+    sources = [path.read_text(encoding="utf-8") for path in sorted(ROOT.glob("crates/*/src/*.rt"))]
+    declared = {name: re.findall(r"(\w+):", parameters)
+                for source in sources
+                for name, parameters in re.findall(r"^pub fn (\w+)(?:<[^>]*>)?\(([^)]*)\)", source, re.M)}
+    reached = re.findall(r"^pub use [\w:]+::(\w+);", text(f"crates/{crate}/src/lib.rt"), re.M)
+    return {name: declared[name] for name in reached if name in declared}
+
+
+class Blocks(unittest.TestCase):
+    def test_programs(self) -> None:
+        """Each program stands on the page, whole."""
+        blocks = dict(named_blocks())
+        for path in PROGRAMS:
+            with self.subTest(path=path):
+                self.assertEqual(blocks.get(path), text(path))
+
+    def test_every_block(self) -> None:
+        for path, block in named_blocks():
+            with self.subTest(path=path):
+                self.assertIn(block, text(path))
+
+
+class Calls(unittest.TestCase):
+    def test_calls(self) -> None:
+        listed = {crate: {} for crate in LIBRARIES}
+        for crate, name, parameters in re.findall(r"^\| `(\w+)::(\w+)\(([^)]*)\)` \|", PAGE, re.M):
+            listed[crate][name] = parameters.split(", ")
+        self.assertEqual(listed, {crate: public_functions(crate) for crate in LIBRARIES})
+
+    def test_functions_for_c(self) -> None:
+        exported = set(re.findall(r'^#\[no_mangle\]\npub extern "C" fn (\w+)',
+                                  text("crates/capi/src/exports.rt") + text("crates/capi/src/version.rt"), re.M))
+        self.assertEqual(set(re.findall(r"^\w+ (leskwyn_\w+)\(", text("include/leskwyn.h"), re.M)), exported)
+        self.assertEqual(set(re.findall(r"^    pub fn (\w+)\(", text("bindings/src/raw.rs"), re.M)), exported)
+        self.assertEqual(set(re.findall(r"^\| `(leskwyn_\w+)` \|", PAGE, re.M)), exported)
+
+
+if __name__ == "__main__":
+    unittest.main()
