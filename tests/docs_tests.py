@@ -9,6 +9,7 @@ edit; all pages name files. A pointer that leads nowhere fails here.
 """
 import pathlib
 import re
+import subprocess
 import unittest
 
 ROOT = pathlib.Path(__file__).resolve().parent.parent
@@ -70,6 +71,46 @@ class Definitions(unittest.TestCase):
                 content = "\n".join(file.read_text(encoding="utf-8") for file in files)
                 for one in re.findall(r"`([^`]+)`", names):
                     self.assertRegex(content, rf"(?m)^ *(?:\w+ )*{re.escape(one)}(?= [:(])")
+
+
+class Believed(unittest.TestCase):
+    """docs/DEFINITIONS.md links each file of definitions once, and such a file has no proof."""
+
+    def setUp(self) -> None:
+        self.files = [path for path in sorted(ROOT.glob("crates/*/specs/*.antt"))
+                      if path.stem not in ("Lib", "theorems", "lemmas")]
+
+    def test_page(self) -> None:
+        linked = re.findall(r"\]\(\.\./(crates/[^)]+)\)", text("DEFINITIONS.md"))
+        self.assertEqual(sorted(linked), [str(path.relative_to(ROOT)) for path in self.files])
+
+    def test_definitions_alone(self) -> None:
+        for path in self.files:
+            with self.subTest(file=path.relative_to(ROOT)):
+                self.assertNotRegex(path.read_text(encoding="utf-8"), r"(?m)^(?:pub )?(?!record |data )[^\s:({]+ :")
+
+
+class Sections(unittest.TestCase):
+    """A section of docs/SPECIFICATION.md that a comment cites by its title is there."""
+
+    def test_titles(self) -> None:
+        headings = set(re.findall(r"(?m)^#+ (?:[\d.]+ )?(.*)$", text("SPECIFICATION.md")))
+        cited = 0
+        for path in CODE:
+            comments = re.sub(r"\n *(?:--|//) ?", " ", path.read_text(encoding="utf-8"))
+            for titles in re.findall(r"docs/SPECIFICATION\.md, ((?:'[^']+'(?:, | and )?)+)", comments):
+                for title in re.findall(r"'([^']+)'", titles):
+                    cited += 1
+                    self.assertIn(title, headings, path)
+        self.assertGreater(cited, 15)
+
+
+class Map(unittest.TestCase):
+    """docs/ARCHITECTURE.md has the crates as they are."""
+
+    def test_current(self) -> None:
+        ran = subprocess.run([ROOT / "tools" / "crate-map", "--check"], capture_output=True, text=True, check=False)
+        self.assertEqual((ran.returncode, ran.stderr), (0, ""))
 
 
 class Names(unittest.TestCase):

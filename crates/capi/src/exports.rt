@@ -29,7 +29,7 @@ ghost use Rattle.trees.specs.Topology.{topologyAnswer};
 ghost use Rattle.pair_check.specs.PairOrder.{pairOrder};
 ghost use Rattle.tree_pairs.specs.Crossings.{afterCrossings};
 ghost use Rattle.splits.specs.SplitAnswer.{splitAnswer};
-ghost use Rattle.claims.specs.SumsOf.{claimAnswer};
+ghost use Rattle.claims.specs.ClaimAnswer.{claimAnswer};
 ghost use Rattle.quartets.specs.QuartetAnswer.{DemandThree, quartetAnswer};
 ghost use Rattle.capi.specs.PlainAnswers.{plainBeyond, plainCentre, plainTopology, plainClaims};
 ghost use Rattle.capi.specs.PlainAnswers.{plainTable, libraryTable, plainSplits};

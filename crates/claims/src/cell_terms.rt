@@ -1,8 +1,9 @@
 // What one cell of a block gives to the claim sums, from plain numbers.
 ghost use mathlib.Core.Path.{_≡_};
 ghost use Prim.Native.Nat.{_+_, _*_, _-_, _≤_};
+ghost use Rattle.table_words.specs.Sizes.{tipsMost};
 ghost use Rattle.shapes.specs.Claims.{choose2};
-ghost use Rattle.claims.specs.CellTerms.{CellRoom, CellGives};
+ghost use Rattle.claims.specs.lemmas.CellTerms.{CellRoom, CellGives};
 
 // What cells give: to twice S2, to S3, and what is too much in that.
 pub(crate) struct CellSums {
@@ -14,7 +15,7 @@ pub(crate) struct CellSums {
 // Two labels of the cell t, times two cells elsewhere in different rows and columns: x and y are the rest of its row
 // and of its column, `rest` the cells in neither, and `base` what the squares have too much.
 fn pairs_term(t: u64, rest: u64, x: u64, y: u64, more: u64, base: u64) -> u64
-    requires { ⌜ (1 ≤ t) × (t ≤ 256) × (rest ≤ 256) × (x ≤ 256) × (y ≤ 256) × (more ≤ 327680) ⌝ }
+    requires { ⌜ (1 ≤ t) × (t ≤ tipsMost) × (rest ≤ tipsMost) × (x ≤ tipsMost) × (y ≤ tipsMost) × (more ≤ 327680) ⌝ }
     requires { ⌜ base ≤ rest * rest + t * t + x * x + y * y + more ⌝ }
     ensures { λ r. ⌜ (r ≡ choose2 t * (rest * rest + t * t + x * x + y * y + more - base))
         × (r ≤ 68719476736) ⌝ }
@@ -24,7 +25,7 @@ fn pairs_term(t: u64, rest: u64, x: u64, y: u64, more: u64, base: u64) -> u64
 
 // The hooks at the cell t, ..
 fn plus_term(t: u64, rest: u64, x: u64, y: u64) -> u64
-    requires { ⌜ (t ≤ 256) × (rest ≤ 256) × (x ≤ 256) × (y ≤ 256) ⌝ }
+    requires { ⌜ (t ≤ tipsMost) × (rest ≤ tipsMost) × (x ≤ tipsMost) × (y ≤ tipsMost) ⌝ }
     ensures { λ r. ⌜ (r ≡ t * (rest * (y * x) + t * (x * x + y * y))) × (r ≤ 68719476736) ⌝ }
 {
     t * (rest * (y * x) + t * (x * x + y * y))
@@ -32,7 +33,7 @@ fn plus_term(t: u64, rest: u64, x: u64, y: u64) -> u64
 
 // .. and what is too much in that.
 fn minus_term(t: u64, x: u64, y: u64, down: u64, along: u64) -> u64
-    requires { ⌜ (t ≤ 256) × (x ≤ 256) × (y ≤ 256) × (down ≤ 65536) × (along ≤ 65536) ⌝ }
+    requires { ⌜ (t ≤ tipsMost) × (x ≤ tipsMost) × (y ≤ tipsMost) × (down ≤ 65536) × (along ≤ 65536) ⌝ }
     ensures { λ r. ⌜ (r ≡ t * (x * down + y * along)) × (r ≤ 68719476736) ⌝ }
 {
     t * (x * down + y * along)

@@ -4,15 +4,16 @@ use super::cell_terms::cell_terms;
 use super::lines::line_squares;
 use super::lines::total;
 use super::lines::total_squares;
-use super::words::big;
+use table_words::Cell;
+use table_words::cell_count;
 ghost use Prim.Native.Nat.{_<_};
-ghost use Rattle.claims.specs.Block.{blockCell};
-ghost use Rattle.claims.specs.BlockCells.{Summed, Overall};
-ghost use Rattle.claims.specs.CellSums.{RowTerms, AllTerms};
+ghost use Rattle.claims.specs.lemmas.Block.{blockCell};
+ghost use Rattle.claims.specs.lemmas.BlockCells.{Summed, Overall};
+ghost use Rattle.claims.specs.lemmas.CellSums.{RowTerms, AllTerms};
 
 // What row i gives.
 fn row_terms(
-    cells: &[u16],
+    cells: &[Cell],
     rows: usize,
     columns: usize,
     i: usize,
@@ -37,7 +38,7 @@ fn row_terms(
     let mut k = i * columns;
     let mut j = 0;
     while j < columns {
-        let t = big(cells[k]);
+        let t = cell_count(cells[k]);
         if t != 0 {
             let cell = cell_terms(t, row, totals[j], down[j], beside, whole, squares, base);
             pairs += cell.pairs;
@@ -56,7 +57,7 @@ fn row_terms(
 
 // What all rows give.
 pub(crate) fn all_terms(
-    cells: &[u16],
+    cells: &[Cell],
     rows: usize,
     columns: usize,
     sums: &[u64],

@@ -1,14 +1,15 @@
 // The dot products of pairs of lines, and their squares. Empty cells are passed over.
 use super::lines::total_squares;
-use super::words::big;
+use table_words::Cell;
+use table_words::cell_count;
 ghost use mathlib.Core.Path.{_≡_};
 ghost use Prim.Native.Nat.{_+_, _*_, _≤_};
 ghost use lib.ListN.{length};
 ghost use Rattle.sums.specs.Sum.{sum};
 ghost use Rattle.node_pairs.specs.theorems.ClosedForms.{dotSquares, termSquares};
-ghost use Rattle.claims.specs.Filled.{filled};
-ghost use Rattle.claims.specs.Lines.{squared};
-ghost use Rattle.claims.specs.LineDots.{FewLines, AddRoom, added, scaled, lineOf, dotSquaresOf, termSquaresOf};
+ghost use Rattle.claims.specs.lemmas.Filled.{filled};
+ghost use Rattle.claims.specs.lemmas.Lines.{squared};
+ghost use Rattle.claims.specs.lemmas.LineDots.{FewLines, AddRoom, added, scaled, lineOf, dotSquaresOf, termSquaresOf};
 
 // The squares of dot products, and of their terms.
 pub(crate) struct DotSums {
@@ -29,7 +30,7 @@ fn clear(dots: &mut [u64], count: usize)
 }
 
 // t times each cell of a line is added to its dot product. The squares of what was added.
-fn add_line(cells: &[u16], t: u64, at: usize, gap: usize, count: usize, dots: &mut [u64]) -> u64
+fn add_line(cells: &[Cell], t: u64, at: usize, gap: usize, count: usize, dots: &mut [u64]) -> u64
     requires { ⌜ AddRoom (now cells) t at gap count (now dots) ⌝ }
     ensures { λ _. ⌜ now (dots .exit)
         ≡ filled (added (now (cells .entry)) (now (dots .entry)) t at gap) count (now (dots .entry)) ⌝ }
@@ -40,7 +41,7 @@ fn add_line(cells: &[u16], t: u64, at: usize, gap: usize, count: usize, dots: &m
     let mut k = at;
     let mut l = 0;
     while l < count {
-        let z = t * big(cells[k]);
+        let z = t * cell_count(cells[k]);
         dots[l] = dots[l] + z;
         s += z * z;
         k += gap;
@@ -51,7 +52,7 @@ fn add_line(cells: &[u16], t: u64, at: usize, gap: usize, count: usize, dots: &m
 
 // Line i with each line before it.
 fn line_dots(
-    cells: &[u16],
+    cells: &[Cell],
     gap: usize,
     step: usize,
     i: usize,
@@ -69,7 +70,7 @@ fn line_dots(
     let mut at = 0;
     let mut a = 0;
     while a < len {
-        let t = big(cells[k]);
+        let t = cell_count(cells[k]);
         if t != 0 {
             terms += add_line(cells, t, at, gap, i, dots);
         }
@@ -86,7 +87,7 @@ fn line_dots(
 
 // All pairs of lines.
 pub(crate) fn all_dots(
-    cells: &[u16],
+    cells: &[Cell],
     gap: usize,
     count: usize,
     step: usize,

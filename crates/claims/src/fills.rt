@@ -3,14 +3,16 @@ use super::code_cells::both;
 use super::code_cells::first_only;
 use super::code_cells::neither;
 use super::code_cells::second_only;
+use table_words::Cell;
 ghost use Prim.Native.Nat.{_+_, _*_, _≤_};
 ghost use lib.ListN.{length};
+ghost use Rattle.table_words.specs.Sizes.{tipsMost};
 ghost use Rattle.tree_check.specs.Table.{word};
-ghost use Rattle.claims.specs.CodeCells.{childCell, ownCell};
-ghost use Rattle.claims.specs.NodeBlock.{Written, RowRoom, NodeEdges, RowsFilled};
+ghost use Rattle.claims.specs.lemmas.CodeCells.{childCell, ownCell};
+ghost use Rattle.claims.specs.lemmas.NodeBlock.{Written, RowRoom, NodeEdges, RowsFilled};
 
 // The row of a child's edge, from `at` on.
-fn child_row(work: &[u16], base: usize, columns: &[usize], block: &mut [u16], at: usize)
+fn child_row(work: &[Cell], base: usize, columns: &[usize], block: &mut [Cell], at: usize)
     requires { ⌜ RowRoom (now work) base (now columns) (length (now block)) at ⌝ }
     ensures { λ _. ⌜ Written (now (block .entry)) (now (block .exit)) at (length (now (columns .entry)))
         (childCell (now (work .entry)) base (word (now (columns .entry)))) ⌝ }
@@ -24,8 +26,8 @@ fn child_row(work: &[u16], base: usize, columns: &[usize], block: &mut [u16], at
 }
 
 // The row of the node's own edge, in front.
-fn own_row(work: &[u16], base: usize, n: u16, columns: &[usize], block: &mut [u16])
-    requires { ⌜ RowRoom (now work) base (now columns) (length (now block)) 0 × (n ≤ 256) ⌝ }
+fn own_row(work: &[Cell], base: usize, n: u16, columns: &[usize], block: &mut [Cell])
+    requires { ⌜ RowRoom (now work) base (now columns) (length (now block)) 0 × (n ≤ tipsMost) ⌝ }
     requires { ⌜ word (now work) base + word (now work) (word (now columns) 0)
         ≤ n + word (now work) (base + word (now columns) 0) ⌝ }
     ensures { λ _. ⌜ Written (now (block .entry)) (now (block .exit)) 0 (length (now (columns .entry)))
@@ -41,12 +43,12 @@ fn own_row(work: &[u16], base: usize, n: u16, columns: &[usize], block: &mut [u1
 
 // The block of two nodes, given by the edges of the codes into them.
 pub(crate) fn fill_block(
-    work: &[u16],
+    work: &[Cell],
     width: usize,
     n: u16,
     rows: &[usize],
     columns: &[usize],
-    block: &mut [u16],
+    block: &mut [Cell],
 )
     requires { ⌜ NodeEdges (now work) width n (now rows) (now columns) ⌝ }
     requires { ⌜ length (now rows) * length (now columns) ≤ length (now block) ⌝ }

@@ -1,6 +1,4 @@
 // The claim sums of two tree tables, from their crossings.
-mod words; // words.rt: words as indices and as counts
-mod code_lists; // code_lists.rt: the edges of the codes into each node
 mod code_cells; // code_cells.rt: the crossing of two codes, from the crossings of their edges
 mod sizes; // sizes.rt: the sizes behind the codes into a node
 mod lines; // lines.rt: sums along rows and columns of a block

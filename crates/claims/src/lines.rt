@@ -1,16 +1,17 @@
 // Sums along rows and columns of a block: a line of cells is told by its start, its step and its length.
-use super::words::big;
+use table_words::Cell;
+use table_words::cell_count;
 ghost use mathlib.Core.Path.{_≡_};
 ghost use Prim.Native.Nat.{_≤_};
 ghost use lib.ListN.{length};
 ghost use Rattle.sums.specs.Sum.{sum};
 ghost use Rattle.tree_check.specs.Table.{word};
-ghost use Rattle.claims.specs.Filled.{filled};
-ghost use Rattle.claims.specs.Lines.{Line, Lines, Totals, AllTotals, Low};
-ghost use Rattle.claims.specs.Lines.{lineCell, restCell, lineSum, lineRest, squared};
+ghost use Rattle.claims.specs.lemmas.Filled.{filled};
+ghost use Rattle.claims.specs.lemmas.Lines.{Line, Lines, Totals, AllTotals, Low};
+ghost use Rattle.claims.specs.lemmas.Lines.{lineCell, restCell, lineSum, lineRest, squared};
 
 // The sum of a line.
-pub(crate) fn line_sum(cells: &[u16], at: usize, step: usize, len: usize) -> u64
+pub(crate) fn line_sum(cells: &[Cell], at: usize, step: usize, len: usize) -> u64
     requires { ⌜ Line (length (now cells)) at step len ⌝ }
     ensures { λ r. ⌜ r ≡ sum len (lineCell (now (cells .entry)) at step) ⌝ }
 {
@@ -18,7 +19,7 @@ pub(crate) fn line_sum(cells: &[u16], at: usize, step: usize, len: usize) -> u64
     let mut k = at;
     let mut a = 0;
     while a < len {
-        s += big(cells[k]);
+        s += cell_count(cells[k]);
         k += step;
         a += 1;
     }
@@ -26,7 +27,7 @@ pub(crate) fn line_sum(cells: &[u16], at: usize, step: usize, len: usize) -> u64
 }
 
 // The squares of a line.
-pub(crate) fn line_squares(cells: &[u16], at: usize, step: usize, len: usize) -> u64
+pub(crate) fn line_squares(cells: &[Cell], at: usize, step: usize, len: usize) -> u64
     requires { ⌜ Line (length (now cells)) at step len ⌝ }
     ensures { λ r. ⌜ r ≡ sum len (squared (lineCell (now (cells .entry)) at step)) ⌝ }
 {
@@ -34,7 +35,7 @@ pub(crate) fn line_squares(cells: &[u16], at: usize, step: usize, len: usize) ->
     let mut k = at;
     let mut a = 0;
     while a < len {
-        let t = big(cells[k]);
+        let t = cell_count(cells[k]);
         s += t * t;
         k += step;
         a += 1;
@@ -43,7 +44,7 @@ pub(crate) fn line_squares(cells: &[u16], at: usize, step: usize, len: usize) ->
 }
 
 // Each cell of a line times the rest of its total.
-fn line_rest(cells: &[u16], at: usize, step: usize, len: usize, totals: &[u64]) -> u64
+fn line_rest(cells: &[Cell], at: usize, step: usize, len: usize, totals: &[u64]) -> u64
     requires { ⌜ Line (length (now cells)) at step len ⌝ }
     requires { ⌜ Totals (now cells) (now totals) at step len ⌝ }
     ensures { λ r. ⌜ r ≡ sum len (restCell (now (cells .entry)) (now (totals .entry)) at step) ⌝ }
@@ -52,7 +53,7 @@ fn line_rest(cells: &[u16], at: usize, step: usize, len: usize, totals: &[u64]) 
     let mut k = at;
     let mut a = 0;
     while a < len {
-        let t = big(cells[k]);
+        let t = cell_count(cells[k]);
         s += t * (totals[a] - t);
         k += step;
         a += 1;
@@ -90,7 +91,7 @@ pub(crate) fn total_squares(xs: &[u64], len: usize) -> u64
 
 // The sums of lines that begin `gap` apart.
 pub(crate) fn line_sums(
-    cells: &[u16],
+    cells: &[Cell],
     gap: usize,
     count: usize,
     step: usize,
@@ -112,7 +113,7 @@ pub(crate) fn line_sums(
 
 // The cells of such lines, each times the rest of its total.
 pub(crate) fn line_rests(
-    cells: &[u16],
+    cells: &[Cell],
     gap: usize,
     count: usize,
     step: usize,

@@ -3,7 +3,7 @@ use super::terms::PairTerms;
 ghost use mathlib.Core.Path.{_≡_};
 ghost use Prim.Native.Nat.{_≤_};
 ghost use Rattle.node_pairs.specs.theorems.Cells.{pairS2, pairS3};
-ghost use Rattle.claims.specs.NineCells.{Nine, product, weighed, sumThree, threeRows};
+ghost use Rattle.claims.specs.lemmas.NineCells.{Nine, product, weighed, sumThree, threeRows};
 
 // Three diagonals, each of three cells in different rows and columns: the sum of their products, and that of their
 // products times their sums.

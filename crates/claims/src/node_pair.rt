@@ -7,17 +7,19 @@ use super::code_cells::second_only;
 use super::fills::fill_block;
 use super::nine::nine_terms;
 use super::terms::PairTerms;
-use super::words::big;
+use table_words::Cell;
+use table_words::cell_count;
 ghost use mathlib.Core.Path.{_≡_};
 ghost use Prim.Native.Nat.{_+_, _≤_};
 ghost use lib.ListN.{length};
+ghost use Rattle.table_words.specs.Sizes.{tipsMost};
 ghost use Rattle.node_pairs.specs.theorems.Cells.{pairS2, pairS3};
 ghost use Rattle.tree_check.specs.Table.{word};
-ghost use Rattle.claims.specs.Block.{Scratch};
-ghost use Rattle.claims.specs.CodeCells.{codeCell};
-ghost use Rattle.claims.specs.NinePair.{ThreeRoom, OwnRow, ChildRow};
-ghost use Rattle.claims.specs.NodeBlock.{NodeEdges};
-ghost use Rattle.claims.specs.PairLoops.{PairRoom};
+ghost use Rattle.claims.specs.lemmas.Block.{Scratch};
+ghost use Rattle.claims.specs.lemmas.CodeCells.{codeCell};
+ghost use Rattle.claims.specs.lemmas.NinePair.{ThreeRoom, OwnRow, ChildRow};
+ghost use Rattle.claims.specs.lemmas.NodeBlock.{NodeEdges};
+ghost use Rattle.claims.specs.lemmas.PairLoops.{PairRoom};
 
 // Three cells of a row.
 struct ThreeCells {
@@ -27,32 +29,32 @@ struct ThreeCells {
 }
 
 // The row of a node's own edge.
-fn own_cells(work: &[u16], base: usize, n: u16, c0: usize, c1: usize, c2: usize) -> ThreeCells
-    requires { ⌜ ThreeRoom (now work) base c0 c1 c2 × (n ≤ 256) ⌝ }
+fn own_cells(work: &[Cell], base: usize, n: u16, c0: usize, c1: usize, c2: usize) -> ThreeCells
+    requires { ⌜ ThreeRoom (now work) base c0 c1 c2 × (n ≤ tipsMost) ⌝ }
     requires { ⌜ word (now work) base + word (now work) c0 ≤ n + word (now work) (base + c0) ⌝ }
     ensures { λ r. ⌜ OwnRow (now (work .entry)) n base c0 c1 c2 (r .a) (r .b) (r .c) ⌝ }
 {
     ThreeCells {
-        a: big(neither(work, base, c0, n)),
-        b: big(second_only(work, base, c1)),
-        c: big(second_only(work, base, c2)),
+        a: cell_count(neither(work, base, c0, n)),
+        b: cell_count(second_only(work, base, c1)),
+        c: cell_count(second_only(work, base, c2)),
     }
 }
 
 // The row of a child's edge.
-fn child_cells(work: &[u16], base: usize, c0: usize, c1: usize, c2: usize) -> ThreeCells
+fn child_cells(work: &[Cell], base: usize, c0: usize, c1: usize, c2: usize) -> ThreeCells
     requires { ⌜ ThreeRoom (now work) base c0 c1 c2 ⌝ }
     ensures { λ r. ⌜ ChildRow (now (work .entry)) base c0 c1 c2 (r .a) (r .b) (r .c) ⌝ }
 {
     ThreeCells {
-        a: big(first_only(work, base, c0)),
-        b: big(both(work, base, c1)),
-        c: big(both(work, base, c2)),
+        a: cell_count(first_only(work, base, c0)),
+        b: cell_count(both(work, base, c1)),
+        c: cell_count(both(work, base, c2)),
     }
 }
 
 // Two nodes with three codes into each.
-fn nine_cells(work: &[u16], width: usize, n: u16, rows: &[usize], columns: &[usize]) -> PairTerms
+fn nine_cells(work: &[Cell], width: usize, n: u16, rows: &[usize], columns: &[usize]) -> PairTerms
     requires { ⌜ NodeEdges (now work) width n (now rows) (now columns) ⌝ }
     requires { ⌜ (length (now rows) ≡ 3) × (length (now columns) ≡ 3) ⌝ }
     ensures { λ r. ⌜
@@ -74,12 +76,12 @@ fn nine_cells(work: &[u16], width: usize, n: u16, rows: &[usize], columns: &[usi
 // Two nodes: nine cells at once, or a block. Fewer than three codes make no claim. The slices are lent for the block
 // and for sums along it.
 pub(crate) fn node_pair(
-    work: &[u16],
+    work: &[Cell],
     width: usize,
     n: u16,
     rows: &[usize],
     columns: &[usize],
-    block: &mut [u16],
+    block: &mut [Cell],
     sums: &mut [u64],
     totals: &mut [u64],
     down: &mut [u64],

@@ -2,21 +2,23 @@
 use super::lines::line_squares;
 use super::lines::line_sum;
 use super::sizes::fill_sizes;
-use super::words::big;
+use table_words::Cell;
+use table_words::cell_count;
 ghost use mathlib.Core.Path.{_≡_};
 ghost use Prim.Native.Nat.{_+_, _*_, _-_, _≤_};
 ghost use lib.ListN.{length};
+ghost use Rattle.table_words.specs.Sizes.{tipsMost};
 ghost use Rattle.sums.specs.Sum.{sum};
 ghost use Rattle.shapes.specs.Claims.{choose2};
 ghost use Rattle.tree_check.specs.Table.{word};
-ghost use Rattle.claims.specs.CodeSizes.{codeSize};
-ghost use Rattle.claims.specs.NodeSums.{sizesApart, nodeSum};
-ghost use Rattle.claims.specs.SizeTerms.{SizesFew, sizeTerm};
-ghost use Rattle.claims.specs.TreeSizes.{NodeSizes, TreeSizes};
+ghost use Rattle.claims.specs.lemmas.CodeSizes.{codeSize};
+ghost use Rattle.claims.specs.lemmas.NodeSums.{sizesApart, nodeSum};
+ghost use Rattle.claims.specs.lemmas.SizeTerms.{SizesFew, sizeTerm};
+ghost use Rattle.claims.specs.lemmas.TreeSizes.{NodeSizes, TreeSizes};
 
 // How many pairs there are of s tips.
 fn pairs_of(s: u64) -> u64
-    requires { ⌜ s ≤ 256 ⌝ }
+    requires { ⌜ s ≤ tipsMost ⌝ }
     ensures { λ r. ⌜ (r ≡ choose2 s) × (r ≤ 32768) ⌝ }
 {
     if s == 0 {
@@ -27,14 +29,14 @@ fn pairs_of(s: u64) -> u64
 
 // What a code with s tips behind it gives, `pairs` being their pairs, where the others have `rest` tips behind them.
 fn size_term(s: u64, pairs: u64, rest: u64) -> u64
-    requires { ⌜ (s ≤ 256) × (rest ≤ 256) × (pairs ≡ choose2 s) ⌝ }
+    requires { ⌜ (s ≤ tipsMost) × (rest ≤ tipsMost) × (pairs ≡ choose2 s) ⌝ }
     ensures { λ r. ⌜ (r ≡ sizeTerm s rest) × (r ≤ 4294967296) ⌝ }
 {
     pairs * (rest * rest + s * s)
 }
 
 // What a node adds, from the sizes of the sets behind the codes into it.
-fn node_term(sizes: &[u16], count: usize) -> u64
+fn node_term(sizes: &[Cell], count: usize) -> u64
     requires { ⌜ SizesFew (now sizes) count ⌝ }
     ensures { λ r. ⌜ r ≡ sizesApart count (word (now (sizes .entry))) ⌝ }
 {
@@ -44,7 +46,7 @@ fn node_term(sizes: &[u16], count: usize) -> u64
     let mut pairs: u64 = 0;
     let mut i = 0;
     while i < count {
-        let s = big(sizes[i]);
+        let s = cell_count(sizes[i]);
         let p = pairs_of(s);
         plus += size_term(s, p, whole - s);
         pairs += p;
@@ -54,7 +56,7 @@ fn node_term(sizes: &[u16], count: usize) -> u64
 }
 
 // What a node adds, from its edges. Fewer than three codes make no claim.
-fn node_sum(work: &[u16], step: usize, n: u16, edges: &[usize], sizes: &mut [u16]) -> u64
+fn node_sum(work: &[Cell], step: usize, n: u16, edges: &[usize], sizes: &mut [Cell]) -> u64
     requires { ⌜ NodeSizes (now work) step n (now edges) (length (now sizes)) ⌝ }
     ensures { λ r. ⌜ r ≡ sizesApart (length (now (edges .entry)))
         (codeSize (now (work .entry)) step n (word (now (edges .entry)))) ⌝ }
@@ -68,13 +70,13 @@ fn node_sum(work: &[u16], step: usize, n: u16, edges: &[usize], sizes: &mut [u16
 
 // Twice S. Every `step`-th cell of the work is the size of an edge; `sizes` is lent for the sizes at a node.
 pub(crate) fn tree_sum(
-    work: &[u16],
+    work: &[Cell],
     step: usize,
     n: u16,
     parents: &[u16],
     starts: &[usize],
     edges: &[usize],
-    sizes: &mut [u16],
+    sizes: &mut [Cell],
 ) -> u64
     requires { ⌜ TreeSizes (now work) step n (now parents) (now starts) (now edges) (length (now sizes)) ⌝ }
     ensures { λ r. ⌜

@@ -1,19 +1,25 @@
 // What all pairs of nodes add to twice S2 and to S3.
-use super::code_lists::inner_nodes;
 use super::node_pair::node_pair;
 use super::terms::PairTerms;
+use code_lists::inner_nodes;
+use table_words::Cell;
+use table_words::NODES;
+use table_words::TIPS;
 ghost use mathlib.Core.Path.{_≡_};
 ghost use Prim.Native.Nat.{_-_, _≤_};
 ghost use lib.ListN.{length};
 ghost use Rattle.sums.specs.Sum.{sum};
-ghost use Rattle.claims.specs.Block.{Scratch};
-ghost use Rattle.claims.specs.InnerNodes.{InnerNodes};
-ghost use Rattle.claims.specs.PairLoops.{RowRoom, NodePairs, rowS2, rowS3, nodeS2, nodeS3};
+ghost use Rattle.claims.specs.lemmas.Block.{Scratch};
+ghost use Rattle.code_lists.specs.lemmas.InnerNodes.{InnerNodes};
+ghost use Rattle.claims.specs.lemmas.PairLoops.{RowRoom, NodePairs, rowS2, rowS3, nodeS2, nodeS3};
+
+// The cells of the largest block: TIPS rows of TIPS cells.
+const BLOCK: usize = 65536;
 
 // A node of the first tree, given by its edges, with every node of the second: with the `count` nodes that `inner` begins
 // with. Fewer than three codes make no claim.
 fn node_row(
-    work: &[u16],
+    work: &[Cell],
     width: usize,
     n: u16,
     rows: &[usize],
@@ -22,7 +28,7 @@ fn node_row(
     edges: &[usize],
     inner: &[usize],
     count: usize,
-    block: &mut [u16],
+    block: &mut [Cell],
     sums: &mut [u64],
     totals: &mut [u64],
     down: &mut [u64],
@@ -72,7 +78,7 @@ fn node_row(
 
 // Every node of the first tree with every node of the second.
 pub(crate) fn pair_sums(
-    work: &[u16],
+    work: &[Cell],
     n: u16,
     parents: &[u16],
     starts: &[usize],
@@ -91,14 +97,14 @@ pub(crate) fn pair_sums(
         ⌝ }
 {
     let width = others.len() - 1;
-    let mut inner = [0usize; 512];
-    let count = inner_nodes(others, begins, &mut inner);
-    let mut block = [0u16; 65536];
-    let mut sums = [0u64; 256];
-    let mut totals = [0u64; 256];
-    let mut down = [0u64; 256];
-    let mut along = [0u64; 256];
-    let mut dots = [0u64; 256];
+    let mut inner = [0usize; NODES];
+    let count = inner_nodes(&begins[..others.len() + 1], &mut inner);
+    let mut block: [Cell; BLOCK] = [0; BLOCK];
+    let mut sums = [0u64; TIPS];
+    let mut totals = [0u64; TIPS];
+    let mut down = [0u64; TIPS];
+    let mut along = [0u64; TIPS];
+    let mut dots = [0u64; TIPS];
     let mut s2: u64 = 0;
     let mut s3: u64 = 0;
     let mut v = 0;

@@ -1,12 +1,13 @@
 // The sizes of the sets of tips behind the codes into a node.
+use table_words::Cell;
 ghost use lib.ListN.{length};
 ghost use Rattle.tree_check.specs.Table.{word};
-ghost use Rattle.claims.specs.CodeSizes.{SizesRoom, codeSize};
-ghost use Rattle.claims.specs.NodeBlock.{Written};
+ghost use Rattle.claims.specs.lemmas.CodeSizes.{SizesRoom, codeSize};
+ghost use Rattle.claims.specs.lemmas.NodeBlock.{Written};
 
 // The sizes, in the first cells of `sizes`. `edges` are the node's, its own first, and every `step`-th cell of the
 // work is the size of an edge.
-pub(crate) fn fill_sizes(work: &[u16], step: usize, n: u16, edges: &[usize], sizes: &mut [u16])
+pub(crate) fn fill_sizes(work: &[Cell], step: usize, n: u16, edges: &[usize], sizes: &mut [Cell])
     requires { ⌜ SizesRoom (now work) step n (now edges) (length (now sizes)) ⌝ }
     ensures { λ _. ⌜ Written (now (sizes .entry)) (now (sizes .exit)) 0 (length (now (edges .entry)))
         (codeSize (now (work .entry)) step n (word (now (edges .entry)))) ⌝ }

@@ -1,13 +1,15 @@
 // Two nodes with three codes into one of them: what they add to the claim sums, from three lines of a block.
 use super::terms::PairTerms;
-use super::words::big;
+use table_words::Cell;
+use table_words::cell_count;
 ghost use mathlib.Core.Path.{_≡_};
 ghost use Prim.Native.Nat.{_+_, _*_, _≤_};
+ghost use Rattle.table_words.specs.Sizes.{tipsMost};
 ghost use Rattle.node_pairs.specs.theorems.Cells.{pairS2, pairS3};
 ghost use Rattle.node_pairs.specs.theorems.ThreeRows.{products3, weighed3};
-ghost use Rattle.claims.specs.LineDots.{FewLines, lineOf};
-ghost use Rattle.claims.specs.Lines.{lineCell};
-ghost use Rattle.claims.specs.ThreeLines.{LowLine, TwoSums};
+ghost use Rattle.claims.specs.lemmas.LineDots.{FewLines, lineOf};
+ghost use Rattle.claims.specs.lemmas.Lines.{lineCell};
+ghost use Rattle.claims.specs.lemmas.ThreeLines.{LowLine, TwoSums};
 
 // A line and another: the sum of the first and of its squares, the products of cells at the same place, and these times
 // the sums of the cells.
@@ -25,7 +27,7 @@ struct Products {
 }
 
 // The line that begins at `at`, and the one that begins at `to`.
-fn two_lines(cells: &[u16], at: usize, to: usize, step: usize, len: usize) -> LineSums
+fn two_lines(cells: &[Cell], at: usize, to: usize, step: usize, len: usize) -> LineSums
     requires { ⌜ LowLine (now cells) at step len × LowLine (now cells) to step len ⌝ }
     ensures { λ r. ⌜ TwoSums len (lineCell (now (cells .entry)) at step) (lineCell (now (cells .entry)) to step)
         (r .sum) (r .squares) (r .beside) (r .weighed) ⌝ }
@@ -38,8 +40,8 @@ fn two_lines(cells: &[u16], at: usize, to: usize, step: usize, len: usize) -> Li
     let mut l = to;
     let mut a = 0;
     while a < len {
-        let x = big(cells[k]);
-        let y = big(cells[l]);
+        let x = cell_count(cells[k]);
+        let y = cell_count(cells[l]);
         let p = x * y;
         total += x;
         squares += x * x;
@@ -58,7 +60,7 @@ fn two_lines(cells: &[u16], at: usize, to: usize, step: usize, len: usize) -> Li
 }
 
 // The lines that begin at 0, at `gap` and at twice `gap`.
-fn all_lines(cells: &[u16], gap: usize, step: usize, len: usize) -> Products
+fn all_lines(cells: &[Cell], gap: usize, step: usize, len: usize) -> Products
     requires { ⌜ LowLine (now cells) 0 step len × LowLine (now cells) gap step len
         × LowLine (now cells) (2 * gap) step len ⌝ }
     ensures { λ r. ⌜
@@ -74,9 +76,9 @@ fn all_lines(cells: &[u16], gap: usize, step: usize, len: usize) -> Products
     let mut k = 0;
     let mut a = 0;
     while a < len {
-        let x = big(cells[k]);
-        let y = big(cells[gap + k]);
-        let z = big(cells[2 * gap + k]);
+        let x = cell_count(cells[k]);
+        let y = cell_count(cells[gap + k]);
+        let z = cell_count(cells[2 * gap + k]);
         let p = x * y * z;
         total += p;
         weighed += p * (x + y + z);
@@ -92,7 +94,7 @@ fn all_lines(cells: &[u16], gap: usize, step: usize, len: usize) -> Products
 // The products of cells at different places of two lines: x and y are the sums of the lines, `beside` the products at
 // the same place.
 fn apart(x: u64, y: u64, beside: u64) -> u64
-    requires { ⌜ (x ≤ 256) × (y ≤ 256) × (beside ≤ x * y) ⌝ }
+    requires { ⌜ (x ≤ tipsMost) × (y ≤ tipsMost) × (beside ≤ x * y) ⌝ }
     ensures { λ r. ⌜ (r + beside ≡ x * y) × (r ≤ 65536) ⌝ }
 {
     x * y - beside
@@ -108,7 +110,7 @@ fn three_products(a: u64, b: u64, c: u64, x: u64, y: u64, z: u64) -> u64
 }
 
 // What two nodes add, from three lines that begin `gap` apart.
-pub(crate) fn three_lines(cells: &[u16], gap: usize, step: usize, len: usize) -> PairTerms
+pub(crate) fn three_lines(cells: &[Cell], gap: usize, step: usize, len: usize) -> PairTerms
     requires { ⌜ FewLines (now cells) gap 3 step len ⌝ }
     ensures { λ r. ⌜
         (r .s2 ≡ pairS2 3 len (lineOf (now (cells .entry)) gap step))

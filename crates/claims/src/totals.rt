@@ -1,15 +1,19 @@
 // The claim sums of two trees.
-use super::code_lists::code_starts;
-use super::code_lists::edge_list;
 use super::node_sums::tree_sum;
 use super::pair_sums::pair_sums;
+use code_lists::list_codes;
 use pair_check::CheckedPair;
 use pair_check::pair_refusal;
+use table_words::CODES;
+use table_words::Cell;
+use table_words::NODES;
+use table_words::TIPS;
 use tree_pairs::cross_pair;
 ghost use mathlib.Core.Path.{_≡_};
 ghost use lib.ListN.{length};
 ghost use Rattle.tree_pairs.specs.Crossings.{afterCrossings};
-ghost use Rattle.claims.specs.SumsOf.{Summable, summed, claimAnswer};
+ghost use Rattle.claims.specs.lemmas.SumsOf.{Summable, summed};
+ghost use Rattle.claims.specs.ClaimAnswer.{claimAnswer};
 
 // The number; S, S', S2 and S3.
 pub struct ClaimSums {
@@ -21,15 +25,17 @@ pub struct ClaimSums {
 }
 
 // The sums of two trees given by their parents, whose crossings are in the cells.
-fn sums_of(parents: &[u16], others: &[u16], work: &[u16], n: u16) -> ClaimSums
+fn sums_of(parents: &[u16], others: &[u16], work: &[Cell], n: u16) -> ClaimSums
     requires { ⌜ Summable (now work) n (now parents) (now others) ⌝ }
     ensures { λ r. ⌜ r ≡ summed (now (work .entry)) n (now (parents .entry)) (now (others .entry)) ⌝ }
 {
-    let starts = code_starts(parents);
-    let edges = edge_list(parents, &starts);
-    let begins = code_starts(others);
-    let columns = edge_list(others, &begins);
-    let mut sizes = [0u16; 256];
+    let mut starts = [0usize; NODES];
+    let mut edges = [0usize; CODES];
+    list_codes(parents, &mut starts, &mut edges);
+    let mut begins = [0usize; NODES];
+    let mut columns = [0usize; CODES];
+    list_codes(others, &mut begins, &mut columns);
+    let mut sizes: [Cell; TIPS] = [0; TIPS];
     let first = tree_sum(
         work,
         others.len() - 1,
@@ -51,7 +57,7 @@ fn sums_of(parents: &[u16], others: &[u16], work: &[u16], n: u16) -> ClaimSums
 }
 
 // The claim sums, with the crossings in the cells afterwards.
-pub fn claim_sums(first: &[u16], second: &[u16], work: &mut [u16]) -> ClaimSums
+pub fn claim_sums(first: &[u16], second: &[u16], work: &mut [Cell]) -> ClaimSums
     ensures { λ r. ⌜
         (r ≡ claimAnswer (now (first .entry)) (now (second .entry)) (length (now (work .entry))))
         × (now (work .exit) ≡ afterCrossings (now (first .entry)) (now (second .entry)) (now (work .entry)))

@@ -17,7 +17,7 @@ use quartets::split_counts;
 use table_words::Cell;
 ghost use mathlib.Core.Path.{_≡_};
 ghost use Rattle.splits.specs.SplitAnswer.{splitAnswer};
-ghost use Rattle.claims.specs.SumsOf.{claimAnswer};
+ghost use Rattle.claims.specs.ClaimAnswer.{claimAnswer};
 ghost use Rattle.quartets.specs.QuartetAnswer.{quartetAnswer};
 ghost use Rattle.listings.specs.Listing.{ofRefusal};
 ghost use Rattle.pair_file.specs.PairFile.{comparison};

@@ -6,6 +6,10 @@ use Prim.Native.Nat.{ℕ}
 abbrev pub tipsMost : ℕ
 tipsMost = 256
 
+-- the most nodes of a tree
+abbrev pub nodesMost : ℕ
+nodesMost = 510
+
 -- the label of an inner node
 abbrev pub innerLabel : ℕ
 innerLabel = 65535

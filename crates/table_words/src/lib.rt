@@ -7,6 +7,9 @@ ghost use Rattle.table_words.specs.Sizes.{cellMost};
 // The most tips of a tree.
 pub const TIPS: usize = 256;
 
+// The most nodes of a tree.
+pub const MOST_NODES: usize = 510;
+
 // The label of an inner node.
 pub const INNER: usize = 65535;
 

@@ -15,6 +15,7 @@ use Rattle.sums.specs.theorems.BitLaws.{bit-le, bit-cases, bit-T, bit-no}
 use Rattle.sums.specs.Bits.{is, ne}
 use Rattle.sums.specs.theorems.BitLaws.{is-self, is-other, ne-self, ne-other, alike, sum-is}
 use Rattle.sums.specs.theorems.TestLaws.{not-lt-iff}
+use Rattle.node_pairs.specs.CodesInto.{degreeOf, codeAt}
 
 -- c lists the codes below K whose head, given by h, is v: c 0, .., c (d - 1), each code once
 pub record Lists (K : ℕ) (h : ℕ → ℕ) (v d : ℕ) (c : ℕ → ℕ) : Type 0 where
@@ -67,15 +68,6 @@ module _ (K : ℕ) (h : ℕ → ℕ) (v d : ℕ) (c : ℕ → ℕ) (l : Lists K 
   ]
 
 -- ---- every node has a list
-
--- how many codes below K have the head v
-unfoldable pub degreeOf : ℕ → (ℕ → ℕ) → ℕ → ℕ
-degreeOf K h v = sum K (λ e. is v (h e))
-
--- the code below K that has the head v and i such codes below it
-unfoldable pub codeAt : ℕ → (ℕ → ℕ) → ℕ → ℕ → ℕ
-codeAt zero h v i = 0
-codeAt (suc K) h v i = elim (eqb v (h K) && eqb i (degreeOf K h v)) [ true ↦ K | false ↦ codeAt K h v i ]
 
 pick : Bool → Bool → ℕ → ℕ → ℕ
 pick a b x y = elim (a && b) [ true ↦ x | false ↦ y ]

@@ -14,7 +14,7 @@ use Rattle.pair_check.specs.PairOrder.{PairWithCells, pairOrder}
 use Rattle.pair_check.specs.theorems.PairCheck.{pair-check}
 use Rattle.splits.specs.SplitAnswer.{splitAnswer}
 use Rattle.splits.specs.declared.counts.SplitCounts.{SplitCounts}
-use Rattle.claims.specs.SumsOf.{claimAnswer}
+use Rattle.claims.specs.ClaimAnswer.{claimAnswer}
 use Rattle.claims.specs.declared.totals.ClaimSums.{ClaimSums}
 use Rattle.quartets.specs.QuartetAnswer.{quartetAnswer}
 use Rattle.quartets.specs.declared.tables.QuartetTable.{QuartetTable}

@@ -16,7 +16,7 @@ use Rattle.counting.specs.theorems.QuartetTheorem.{QuartetTheorem}
 use Rattle.pair_check.specs.PairOrder.{PairWithCells, pairOrder}
 use Rattle.pair_check.specs.theorems.PairCheck.{pair-check}
 use Rattle.claims.specs.declared.totals.ClaimSums.{ClaimSums}
-use Rattle.claims.specs.SumsOf.{sumsOfPair, claimAnswer}
+use Rattle.claims.specs.ClaimAnswer.{sumsOfPair, claimAnswer}
 use Rattle.quartets.specs.declared.tables.QuartetTable.{QuartetTable}
 use Rattle.quartets.specs.QuartetAnswer.{refusedTable, quartetAnswer, DemandThree}
 use Rattle.quartets.specs.theorems.DemandThree.{accepted, refused, theorem, demand-three}

@@ -1,6 +1,6 @@
 -- Each of the four calls fills one slice, and the later two read the earlier ones.
 -- Assumes nothing.
-use Rattle.claims.specs.BlockTerms.{rows-lines, columns-lines, sums-totals, totals-totals, summed}
+use Rattle.claims.specs.lemmas.BlockTerms.{rows-lines, columns-lines, sums-totals, totals-totals, summed}
 use borrow.Author.Needs.{needs}
 use Rattle.claims.proofs.blocks.block_sums.Statement.{statement}
 use Rattle.claims.proofs.blocks.block_sums.Tie as tie

@@ -1,8 +1,8 @@
 -- Three rows, or three columns, are lines; the other blocks are large.
 -- Assumes nothing.
 use mathlib.Core.Path.{_∙_}
-use Rattle.claims.specs.BlockTerms.{three-rows, three-rows-S2, three-rows-S3}
-use Rattle.claims.specs.BlockTerms.{three-columns, three-columns-S2, three-columns-S3}
+use Rattle.claims.specs.lemmas.BlockTerms.{three-rows, three-rows-S2, three-rows-S3}
+use Rattle.claims.specs.lemmas.BlockTerms.{three-columns, three-columns-S2, three-columns-S3}
 use borrow.Author.Needs.{needs}
 use Rattle.claims.proofs.blocks.block_terms.Statement.{statement}
 use Rattle.claims.proofs.blocks.block_terms.Tie as tie

@@ -4,8 +4,8 @@ use mathlib.Core.Path.{_≡_}
 use Prim.Native.Nat.{_+_, _*_}
 use native.Mathlib.Omega.{arith}
 use Rattle.node_pairs.specs.theorems.Cells.{pairS3}
-use Rattle.claims.specs.Block.{blockCell}
-use Rattle.claims.specs.BlockTerms.{pairs-come-to, hooks-come-to}
+use Rattle.claims.specs.lemmas.Block.{blockCell}
+use Rattle.claims.specs.lemmas.BlockTerms.{pairs-come-to, hooks-come-to}
 use borrow.Author.Needs.{needs}
 use Rattle.claims.proofs.blocks.large_block.Statement.{statement}
 use Rattle.claims.proofs.blocks.large_block.Tie as tie

@@ -1,6 +1,6 @@
 -- The rows, or the columns, are lines; what their dot products come to is said by a law for each.
 -- Assumes nothing.
-use Rattle.claims.specs.BlockTerms.{rows-few-lines, columns-few-lines, rectangles-rows, rectangles-columns}
+use Rattle.claims.specs.lemmas.BlockTerms.{rows-few-lines, columns-few-lines, rectangles-rows, rectangles-columns}
 use borrow.Author.Needs.{needs}
 use Rattle.claims.proofs.blocks.rectangle_sums.Statement.{statement}
 use Rattle.claims.proofs.blocks.rectangle_sums.Tie as tie

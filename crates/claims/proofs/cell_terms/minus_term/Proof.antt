@@ -3,19 +3,20 @@
 use mathlib.Core.Path.{refl}
 use Prim.Native.Nat.{_+_, _*_, _≤_}
 use native.Mathlib.Omega.{arith}
+use Rattle.table_words.specs.Sizes.{tipsMost}
 use Rattle.sums.specs.theorems.Products.{product-le}
 use Rattle.claims.proofs.cell_terms.minus_term.Statement.{statement}
 use Rattle.claims.proofs.cell_terms.minus_term.Tie as tie
 
 down-le : (c : tie.Start) → c .args .x * c .args .down ≤ 16777216
-down-le c = product-le 256 65536 _ _ (c .pre .1) (c .pre .3)
+down-le c = product-le tipsMost 65536 _ _ (c .pre .1) (c .pre .3)
 
 along-le : (c : tie.Start) → c .args .y * c .args .along ≤ 16777216
-along-le c = product-le 256 65536 _ _ (c .pre .2) (c .pre .4)
+along-le c = product-le tipsMost 65536 _ _ (c .pre .2) (c .pre .4)
 
 all-le : (c : tie.Start)
     → c .args .t * (c .args .x * c .args .down + c .args .y * c .args .along) ≤ 8589934592
-all-le c = product-le 256 33554432 _ _ (c .pre .0) (omega (arith, down-le c, along-le c))
+all-le c = product-le tipsMost 33554432 _ _ (c .pre .0) (omega (arith, down-le c, along-le c))
 
 mul-result : tie.Need-mul-result
 mul-result c = omega (arith, down-le c)

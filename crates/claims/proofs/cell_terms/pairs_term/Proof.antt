@@ -4,6 +4,7 @@ use mathlib.Core.Path.{refl}
 use Prim.Native.Nat.{_+_, _*_, _-_, _/_, _≤_}
 use native.Mathlib.Nat.{le-trans}
 use native.Mathlib.Omega.{arith}
+use Rattle.table_words.specs.Sizes.{tipsMost}
 use Rattle.shapes.specs.Claims.{choose2}
 use borrow.Author.Needs.{needs}
 use Rattle.sums.specs.theorems.Products.{product-le}
@@ -18,14 +19,14 @@ facts : (c : tie.Start)
     × (c .args .y * c .args .y ≤ 65536)
 facts c =
     let p = c .pre .0 in (
-      product-le 256 256 _ _ (p .1) (p .1),
-      product-le 256 256 _ _ (p .2) (p .2),
-      product-le 256 256 _ _ (p .3) (p .3),
-      product-le 256 256 _ _ (p .4) (p .4),
+      product-le tipsMost tipsMost _ _ (p .1) (p .1),
+      product-le tipsMost tipsMost _ _ (p .2) (p .2),
+      product-le tipsMost tipsMost _ _ (p .3) (p .3),
+      product-le tipsMost tipsMost _ _ (p .4) (p .4),
     )
 
 pairs-le : (c : tie.Start) → c .args .t * (c .args .t - 1) ≤ 65536
-pairs-le c = product-le 256 256 _ _ (c .pre .0 .1) (omega (arith, c .pre .0 .1))
+pairs-le c = product-le tipsMost tipsMost _ _ (c .pre .0 .1) (omega (arith, c .pre .0 .1))
 
 all-le : (c : tie.Start)
     → c .args .t * (c .args .t - 1) / 2

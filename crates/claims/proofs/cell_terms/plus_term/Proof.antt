@@ -3,28 +3,29 @@
 use mathlib.Core.Path.{refl}
 use Prim.Native.Nat.{ℕ, _+_, _*_, _≤_}
 use native.Mathlib.Omega.{arith}
+use Rattle.table_words.specs.Sizes.{tipsMost}
 use Rattle.sums.specs.theorems.Products.{product-le}
 use Rattle.claims.proofs.cell_terms.plus_term.Statement.{statement}
 use Rattle.claims.proofs.cell_terms.plus_term.Tie as tie
 
-module _ (t rest x y : ℕ) (h : (t ≤ 256) × (rest ≤ 256) × (x ≤ 256) × (y ≤ 256)) where
+module _ (t rest x y : ℕ) (h : (t ≤ tipsMost) × (rest ≤ tipsMost) × (x ≤ tipsMost) × (y ≤ tipsMost)) where
   corners-le : y * x ≤ 65536
-  corners-le = product-le 256 256 y x (h .3) (h .2)
+  corners-le = product-le tipsMost tipsMost y x (h .3) (h .2)
 
   rest-le : rest * (y * x) ≤ 16777216
-  rest-le = product-le 256 65536 rest (y * x) (h .1) corners-le
+  rest-le = product-le tipsMost 65536 rest (y * x) (h .1) corners-le
 
   row-le : x * x ≤ 65536
-  row-le = product-le 256 256 x x (h .2) (h .2)
+  row-le = product-le tipsMost tipsMost x x (h .2) (h .2)
 
   column-le : y * y ≤ 65536
-  column-le = product-le 256 256 y y (h .3) (h .3)
+  column-le = product-le tipsMost tipsMost y y (h .3) (h .3)
 
   cell-le : t * (x * x + y * y) ≤ 33554432
-  cell-le = product-le 256 131072 t (x * x + y * y) (h .0) (omega (arith, row-le, column-le))
+  cell-le = product-le tipsMost 131072 t (x * x + y * y) (h .0) (omega (arith, row-le, column-le))
 
   all-le : t * (rest * (y * x) + t * (x * x + y * y)) ≤ 12884901888
-  all-le = product-le 256 50331648 t _ (h .0) (omega (arith, rest-le, cell-le))
+  all-le = product-le tipsMost 50331648 t _ (h .0) (omega (arith, rest-le, cell-le))
 
 mul-result : tie.Need-mul-result
 mul-result c = omega (arith, corners-le _ _ _ _ (c .pre))

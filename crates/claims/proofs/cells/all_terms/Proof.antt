@@ -3,10 +3,11 @@
 use mathlib.Core.Path.{_≡_}
 use Prim.Native.Nat.{_+_, _-_, _≤_}
 use native.Mathlib.Omega.{arith}
+use Rattle.table_words.specs.Sizes.{tipsMost}
 use Rattle.sums.specs.theorems.Products.{product-le}
-use Rattle.claims.specs.Block.{blockCell}
-use Rattle.claims.specs.CellSums.{AllTerms, rows-none, rows-next}
-use Rattle.claims.specs.BlockCells.{Overall, sums-low, totals-low, whole-line, base-le, overall}
+use Rattle.claims.specs.lemmas.Block.{blockCell}
+use Rattle.claims.specs.lemmas.CellSums.{AllTerms, rows-none, rows-next}
+use Rattle.claims.specs.lemmas.BlockCells.{Overall, sums-low, totals-low, whole-line, base-le, overall}
 use borrow.Author.Needs.{needs}
 use Rattle.claims.proofs.cells.all_terms.Statement.{statement}
 use Rattle.claims.proofs.cells.all_terms.Tie as tie
@@ -41,7 +42,7 @@ total-requires c κs =
 mul-line-squares : tie.Need-mul-line-squares Inv-loop μ-loop
 mul-line-squares c =
     let b = c .before .before .before .before .before .before .pre .block in
-    omega (arith, product-le 256 256 _ _ (b .rows-few) (b .columns-few))
+    omega (arith, product-le tipsMost tipsMost _ _ (b .rows-few) (b .columns-few))
 
 line-squares-requires : tie.Need-line-squares-requires Inv-loop μ-loop
 line-squares-requires c κs =

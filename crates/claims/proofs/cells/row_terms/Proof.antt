@@ -6,11 +6,12 @@ use mathlib.Core.Logic.{⊎-elim}
 use Prim.Native.Nat.{ℕ, _+_, _*_, _-_, _≤_, _<_}
 use native.Mathlib.Omega.{arith}
 use lib.ListN.{length}
+use Rattle.table_words.specs.Sizes.{tipsMost}
 use Rattle.tree_check.specs.Table.{word}
 use Rattle.sums.specs.theorems.Products.{product-le}
-use Rattle.claims.specs.Block.{blockCell}
-use Rattle.claims.specs.CellSums.{RowTerms, row-none, row-next, row-skip, row-same}
-use Rattle.claims.specs.BlockCells.{row-inside, cell-room, cell-gives}
+use Rattle.claims.specs.lemmas.Block.{blockCell}
+use Rattle.claims.specs.lemmas.CellSums.{RowTerms, row-none, row-next, row-skip, row-same}
+use Rattle.claims.specs.lemmas.BlockCells.{row-inside, cell-room, cell-gives}
 use borrow.Author.Needs.{needs}
 use Rattle.claims.proofs.cells.row_terms.Statement.{statement}
 use Rattle.claims.proofs.cells.row_terms.Tie as tie
@@ -34,12 +35,12 @@ in-cells c =
     omega (arith, p .pre .0 .0 .block .inside, q)
 
 -- the cell that was read
-cell : (c : tie.After-big Inv-loop μ-loop)
+cell : (c : tie.After-cell-count Inv-loop μ-loop)
     → let p = start (c .before .before .before) .args in
-    c .big .result ≡ blockCell (p .cells .now) (p .columns) (p .i) (c .before .before .before .loop .j)
+    c .cell-count .result ≡ blockCell (p .cells .now) (p .columns) (p .i) (c .before .before .before .loop .j)
 cell c =
     let l = c .before .before .before in
-    c .big .ensures .0 ∙ ap (λ (k : ℕ). word (start l .args .cells .now) k) (l .loop .inv .1)
+    c .cell-count .ensures .0 ∙ ap (λ (k : ℕ). word (start l .args .cells .now) k) (l .loop .inv .1)
 
 mul-row : tie.Need-mul-row Inv-loop μ-loop
 mul-row c = omega (arith, c .before .before .before .before .before .pre .0 .0 .sums-long)
@@ -59,19 +60,19 @@ mul-k : tie.Need-mul-k Inv-loop μ-loop
 mul-k c =
     let p = c .before .before .before .before .before .before .before in
     let b = p .pre .0 .0 .block in
-    omega (arith, product-le 256 256 (p .args .i) (p .args .columns) (omega (arith, b .rows-few)) (b .columns-few))
+    omega (arith, product-le tipsMost tipsMost (p .args .i) (p .args .columns) (omega (arith, b .rows-few)) (b .columns-few))
 
 loop-holds : tie.Need-loop-holds Inv-loop μ-loop
 loop-holds c = (omega arith, omega arith, row-none _ _ _ _)
 
-mul-big : tie.Need-mul-big Inv-loop μ-loop
-mul-big c = omega (arith, in-cells c)
+mul-cell-count : tie.Need-mul-cell-count Inv-loop μ-loop
+mul-cell-count c = omega (arith, in-cells c)
 
-shared-slice-read-big : tie.Need-shared-slice-read-big Inv-loop μ-loop
-shared-slice-read-big c = omega (arith, in-cells (c .before))
+shared-slice-read-cell-count : tie.Need-shared-slice-read-cell-count Inv-loop μ-loop
+shared-slice-read-cell-count c = omega (arith, in-cells (c .before))
 
-big-requires : tie.Need-big-requires Inv-loop μ-loop
-big-requires c κs = search needs
+cell-count-requires : tie.Need-cell-count-requires Inv-loop μ-loop
+cell-count-requires c κs = search needs
 
 mul-cell-terms : tie.Need-mul-cell-terms Inv-loop μ-loop
 mul-cell-terms c = omega (arith, start (c .before .before .before .before) .pre .0 .0 .totals-long)
@@ -131,7 +132,7 @@ add-k c =
     omega (
       arith,
       b .columns-few,
-      product-le 256 256 (p .args .i) (p .args .columns) (omega (arith, b .rows-few)) (b .columns-few),
+      product-le tipsMost tipsMost (p .args .i) (p .args .columns) (omega (arith, b .rows-few)) (b .columns-few),
     )
 
 add-j : tie.Need-add-j Inv-loop μ-loop
@@ -177,9 +178,9 @@ row-terms-spec =
     shared-slice-read-beside
     mul-k
     loop-holds
-    mul-big
-    shared-slice-read-big
-    big-requires
+    mul-cell-count
+    shared-slice-read-cell-count
+    cell-count-requires
     mul-cell-terms
     shared-slice-read-cell-terms
     mul-cell-terms-2

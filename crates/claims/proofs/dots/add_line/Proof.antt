@@ -6,12 +6,13 @@ use mathlib.Core.List.{List}
 use Prim.Native.Nat.{ℕ, _+_, _*_, _-_, _≤_}
 use native.Mathlib.Omega.{arith}
 use lib.ListN.{length, length-set}
+use Rattle.table_words.specs.Sizes.{tipsMost}
 use Rattle.sums.specs.Sum.{sum}
 use Rattle.tree_check.specs.Table.{word}
 use Rattle.sums.specs.theorems.Products.{product-le}
-use Rattle.claims.specs.Lines.{lineCell, squared, sum-step}
-use Rattle.claims.specs.Filled.{filled, filled-next, filled-later}
-use Rattle.claims.specs.LineDots.{scaled, added}
+use Rattle.claims.specs.lemmas.Lines.{lineCell, squared, sum-step}
+use Rattle.claims.specs.lemmas.Filled.{filled, filled-next, filled-later}
+use Rattle.claims.specs.lemmas.LineDots.{scaled, added}
 use borrow.Author.Needs.{needs}
 use Rattle.claims.proofs.dots.add_line.Statement.{statement}
 use Rattle.claims.proofs.dots.add_line.Tie as tie
@@ -28,29 +29,29 @@ Inv-loop cells t at gap count dots₀ s₀ k₀ l₀ dots s k l =
 abbrev μ-loop : tie.MeasureT-loop
 μ-loop cells t at gap count dots₀ s₀ k₀ l₀ dots s k l = count - l
 
-abbrev loop : tie.After-big Inv-loop μ-loop → tie.At-loop Inv-loop μ-loop
+abbrev loop : tie.After-cell-count Inv-loop μ-loop → tie.At-loop Inv-loop μ-loop
 loop c = c .before .before .before
 
-abbrev start : tie.After-big Inv-loop μ-loop → tie.Start Inv-loop μ-loop
+abbrev start : tie.After-cell-count Inv-loop μ-loop → tie.Start Inv-loop μ-loop
 start c = c .before .before .before .before .before .before
 
 -- the cell that was read
-cell : (c : tie.After-big Inv-loop μ-loop)
-    → c .big .result ≡ lineCell (start c .args .cells .now) (start c .args .at) (start c .args .gap) (loop c .loop .l)
-cell c = c .big .ensures .0 ∙ ap (λ (k : ℕ). word (start c .args .cells .now) k) (loop c .loop .inv .1)
+cell : (c : tie.After-cell-count Inv-loop μ-loop)
+    → c .cell-count .result ≡ lineCell (start c .args .cells .now) (start c .args .at) (start c .args .gap) (loop c .loop .l)
+cell c = c .cell-count .ensures .0 ∙ ap (λ (k : ℕ). word (start c .args .cells .now) k) (loop c .loop .inv .1)
 
-product-low : (c : tie.After-big Inv-loop μ-loop) → start c .args .t * c .big .result ≤ 65536
+product-low : (c : tie.After-cell-count Inv-loop μ-loop) → start c .args .t * c .cell-count .result ≤ 65536
 product-low c =
     let p = start c .pre in
-    product-le 256 256 _ _ (p .factor-low)
+    product-le tipsMost tipsMost _ _ (p .factor-low)
     (omega (arith, cell c, p .low (loop c .loop .l) (c .before .before .loop-test .taken)))
 
-square-low : (c : tie.After-big Inv-loop μ-loop)
-    → (start c .args .t * c .big .result) * (start c .args .t * c .big .result) ≤ 4294967296
+square-low : (c : tie.After-cell-count Inv-loop μ-loop)
+    → (start c .args .t * c .cell-count .result) * (start c .args .t * c .cell-count .result) ≤ 4294967296
 square-low c = product-le 65536 65536 _ _ (product-low c) (product-low c)
 
 -- the dot product is as it was at the start
-old : (c : tie.After-big Inv-loop μ-loop)
+old : (c : tie.After-cell-count Inv-loop μ-loop)
     → word (loop c .loop .dots) (loop c .loop .l) ≡ word (start c .args .dots .now) (loop c .loop .l)
 old c =
     let l = loop c .loop in
@@ -61,18 +62,18 @@ loop-holds : tie.Need-loop-holds Inv-loop μ-loop
 unfolding filled sum
 loop-holds c = (omega arith, omega arith, refl, refl, refl, omega arith)
 
-mul-big : tie.Need-mul-big Inv-loop μ-loop
-mul-big c =
+mul-cell-count : tie.Need-mul-cell-count Inv-loop μ-loop
+mul-cell-count c =
     let p = c .before .before .before .before .pre in
     omega (arith, p .line .inside (c .before .loop .l) (c .loop-test .taken))
 
-shared-slice-read-big : tie.Need-shared-slice-read-big Inv-loop μ-loop
-shared-slice-read-big c =
+shared-slice-read-cell-count : tie.Need-shared-slice-read-cell-count Inv-loop μ-loop
+shared-slice-read-cell-count c =
     let p = c .before .before .before .before .before .pre in
     omega (arith, p .line .inside (c .before .before .loop .l) (c .before .loop-test .taken))
 
-big-requires : tie.Need-big-requires Inv-loop μ-loop
-big-requires c κs = search needs
+cell-count-requires : tie.Need-cell-count-requires Inv-loop μ-loop
+cell-count-requires c κs = search needs
 
 mul-z : tie.Need-mul-z Inv-loop μ-loop
 mul-z c = omega (arith, product-low c)
@@ -150,9 +151,9 @@ add-line-spec =
     Inv-loop
     μ-loop
     loop-holds
-    mul-big
-    shared-slice-read-big
-    big-requires
+    mul-cell-count
+    shared-slice-read-cell-count
+    cell-count-requires
     mul-z
     mul-dots
     slice-read-dots

@@ -6,9 +6,9 @@ use native.Mathlib.Omega.{arith}
 use lib.ListN.{length}
 use Rattle.sums.specs.Sum.{sum}
 use Rattle.node_pairs.specs.theorems.Aggregates.{squares}
-use Rattle.claims.specs.Lines.{sum-step}
-use Rattle.claims.specs.LineDots.{dotSquaresOf, termSquaresOf, fewer-lines, dot-squares-lines}
-use Rattle.claims.specs.LineDots.{term-squares-lines}
+use Rattle.claims.specs.lemmas.Lines.{sum-step}
+use Rattle.claims.specs.lemmas.LineDots.{dotSquaresOf, termSquaresOf, fewer-lines, dot-squares-lines}
+use Rattle.claims.specs.lemmas.LineDots.{term-squares-lines}
 use borrow.Author.Needs.{needs}
 use Rattle.claims.proofs.dots.all_dots.Statement.{statement}
 use Rattle.claims.proofs.dots.all_dots.Tie as tie

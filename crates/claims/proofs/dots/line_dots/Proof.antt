@@ -6,13 +6,14 @@ use mathlib.Core.Logic.{⊎-elim}
 use Prim.Native.Nat.{ℕ, _+_, _*_, _-_, _≤_, _<_}
 use native.Mathlib.Omega.{arith}
 use lib.ListN.{length}
+use Rattle.table_words.specs.Sizes.{tipsMost}
 use Rattle.sums.specs.Sum.{sum}
 use Rattle.tree_check.specs.Table.{word}
 use Rattle.node_pairs.specs.theorems.Aggregates.{squares}
 use Rattle.sums.specs.theorems.Products.{product-le}
-use Rattle.claims.specs.Filled.{length-filled}
-use Rattle.claims.specs.LineDots.{lineOf, termSquaresOf, Dotted, dotted-none, add-room, dotted-next}
-use Rattle.claims.specs.LineDots.{dotted-skip, terms-next, terms-skip, dot-squares-le, dots-low, dot-squares-at}
+use Rattle.claims.specs.lemmas.Filled.{length-filled}
+use Rattle.claims.specs.lemmas.LineDots.{lineOf, termSquaresOf, Dotted, dotted-none, add-room, dotted-next}
+use Rattle.claims.specs.lemmas.LineDots.{dotted-skip, terms-next, terms-skip, dot-squares-le, dots-low, dot-squares-at}
 use borrow.Author.Needs.{needs}
 use Rattle.claims.proofs.dots.line_dots.Statement.{statement}
 use Rattle.claims.proofs.dots.line_dots.Tie as tie
@@ -42,12 +43,12 @@ long c = omega (
 )
 
 -- the cell that was read
-cell : (c : tie.After-big Inv-loop μ-loop)
+cell : (c : tie.After-cell-count Inv-loop μ-loop)
     → let p = start (c .before .before .before) .args in
-    c .big .result ≡ lineOf (p .cells .now) (p .gap) (p .step) (p .i) (c .before .before .before .loop .a)
+    c .cell-count .result ≡ lineOf (p .cells .now) (p .gap) (p .step) (p .i) (c .before .before .before .loop .a)
 cell c =
     let l = c .before .before .before in
-    c .big .ensures .0 ∙ ap (λ (k : ℕ). word (start l .args .cells .now) k) (l .loop .inv .1)
+    c .cell-count .ensures .0 ∙ ap (λ (k : ℕ). word (start l .args .cells .now) k) (l .loop .inv .1)
 
 -- the dot products over all cells
 dotted : (c : tie.After-loop Inv-loop μ-loop)
@@ -65,7 +66,7 @@ mul-k : tie.Need-mul-k Inv-loop μ-loop
 mul-k c =
     let p = c .before .before .before .before .before .before in
     let h = p .pre .0 in
-    omega (arith, product-le 256 256 (p .args .i) (p .args .gap) (omega (arith, h .count-few)) (h .gap-few))
+    omega (arith, product-le tipsMost tipsMost (p .args .i) (p .args .gap) (omega (arith, h .count-few)) (h .gap-few))
 
 loop-holds : tie.Need-loop-holds Inv-loop μ-loop
 unfolding sum
@@ -80,19 +81,19 @@ loop-holds c =
       omega arith,
     )
 
-mul-big : tie.Need-mul-big Inv-loop μ-loop
-mul-big c =
+mul-cell-count : tie.Need-mul-cell-count Inv-loop μ-loop
+mul-cell-count c =
     let p = start (c .before) in
     omega (arith, p .pre .0 .inside (p .args .i) (c .before .loop .a) (omega arith) (c .loop-test .taken))
 
-shared-slice-read-big : tie.Need-shared-slice-read-big Inv-loop μ-loop
-shared-slice-read-big c =
+shared-slice-read-cell-count : tie.Need-shared-slice-read-cell-count Inv-loop μ-loop
+shared-slice-read-cell-count c =
     let p = start (c .before .before) in
     let l = c .before in
     omega (arith, p .pre .0 .inside (p .args .i) (l .before .loop .a) (omega arith) (l .loop-test .taken))
 
-big-requires : tie.Need-big-requires Inv-loop μ-loop
-big-requires c κs = search needs
+cell-count-requires : tie.Need-cell-count-requires Inv-loop μ-loop
+cell-count-requires c κs = search needs
 
 add-line-requires : tie.Need-add-line-requires Inv-loop μ-loop
 add-line-requires c κs =
@@ -117,8 +118,8 @@ add-k c =
     omega (
       arith,
       h .step-few,
-      product-le 256 256 (p .args .i) (p .args .gap) (omega (arith, h .count-few)) (h .gap-few),
-      product-le 256 256 (l .loop .a) (p .args .step) (omega (arith, h .len-few)) (h .step-few),
+      product-le tipsMost tipsMost (p .args .i) (p .args .gap) (omega (arith, h .count-few)) (h .gap-few),
+      product-le tipsMost tipsMost (l .loop .a) (p .args .step) (omega (arith, h .len-few)) (h .step-few),
     )
 
 add-at : tie.Need-add-at Inv-loop μ-loop
@@ -128,7 +129,7 @@ add-at c =
     omega (
       arith,
       h .step-few,
-      product-le 256 256 (l .loop .a) (start l .args .step) (omega (arith, h .len-few)) (h .step-few),
+      product-le tipsMost tipsMost (l .loop .a) (start l .args .step) (omega (arith, h .len-few)) (h .step-few),
     )
 
 add-a : tie.Need-add-a Inv-loop μ-loop
@@ -197,9 +198,9 @@ line-dots-spec =
     clear-requires
     mul-k
     loop-holds
-    mul-big
-    shared-slice-read-big
-    big-requires
+    mul-cell-count
+    shared-slice-read-cell-count
+    cell-count-requires
     add-line-requires
     add-terms
     add-k

@@ -4,7 +4,7 @@ use Prim.Native.Nat.{_-_, _≤_}
 use mathlib.Core.Path.{_≡_, refl, _∙_}
 use native.Mathlib.Omega.{arith}
 use lib.ListN.{length}
-use Rattle.claims.specs.NodeBlock.{RowsFilled, node-cell-room, row-room, first-row-room, own-filled, child-filled}
+use Rattle.claims.specs.lemmas.NodeBlock.{RowsFilled, node-cell-room, row-room, first-row-room, own-filled, child-filled}
 use borrow.Author.Needs.{needs}
 use Rattle.claims.proofs.fills.fill_block.Statement.{statement}
 use Rattle.claims.proofs.fills.fill_block.Tie as tie

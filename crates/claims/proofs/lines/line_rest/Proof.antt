@@ -3,10 +3,11 @@
 use mathlib.Core.Path.{_≡_, refl, _∙_, ap}
 use Prim.Native.Nat.{ℕ, _+_, _*_, _-_, _≤_}
 use native.Mathlib.Omega.{arith}
+use Rattle.table_words.specs.Sizes.{tipsMost}
 use Rattle.sums.specs.Sum.{sum}
 use Rattle.tree_check.specs.Table.{word}
 use Rattle.sums.specs.theorems.Products.{product-le}
-use Rattle.claims.specs.Lines.{lineCell, restCell, sum-step}
+use Rattle.claims.specs.lemmas.Lines.{lineCell, restCell, sum-step}
 use borrow.Author.Needs.{needs}
 use Rattle.claims.proofs.lines.line_rest.Statement.{statement}
 use Rattle.claims.proofs.lines.line_rest.Tie as tie
@@ -21,39 +22,39 @@ Inv-loop cells at step len totals s₀ k₀ a₀ s k a =
 abbrev μ-loop : tie.MeasureT-loop
 μ-loop cells at step len totals s₀ k₀ a₀ s k a = len - a
 
-abbrev start : tie.After-big Inv-loop μ-loop → tie.Start Inv-loop μ-loop
+abbrev start : tie.After-cell-count Inv-loop μ-loop → tie.Start Inv-loop μ-loop
 start c = c .before .before .before .before .before .before
 
 -- the cell that was read
-cell : (c : tie.After-big Inv-loop μ-loop) → c .big .result ≡ lineCell (start c .args .cells .now)
+cell : (c : tie.After-cell-count Inv-loop μ-loop) → c .cell-count .result ≡ lineCell (start c .args .cells .now)
     (start c .args .at) (start c .args .step) (c .before .before .before .loop .a)
 cell c =
-    c .big .ensures .0
+    c .cell-count .ensures .0
     ∙ ap (λ (k : ℕ). word (start c .args .cells .now) k) (c .before .before .before .loop .inv .1)
 
-term-le : (c : tie.After-big Inv-loop μ-loop)
-    → c .big .result * (word (start c .args .totals .now) (c .before .before .before .loop .a) - c .big .result)
+term-le : (c : tie.After-cell-count Inv-loop μ-loop)
+    → c .cell-count .result * (word (start c .args .totals .now) (c .before .before .before .loop .a) - c .cell-count .result)
     ≤ 16777216
 term-le c =
     let q = start c .pre .1 .low (c .before .before .before .loop .a) (c .before .before .loop-test .taken) in
-    product-le 65536 256 (c .big .result) _ (omega arith) (omega (arith, q))
+    product-le 65536 tipsMost (c .cell-count .result) _ (omega arith) (omega (arith, q))
 
 loop-holds : tie.Need-loop-holds Inv-loop μ-loop
 unfolding sum
 loop-holds c = (omega arith, omega arith, refl, omega arith)
 
-mul-big : tie.Need-mul-big Inv-loop μ-loop
-mul-big c =
+mul-cell-count : tie.Need-mul-cell-count Inv-loop μ-loop
+mul-cell-count c =
     let l = c .before .loop in
     omega (arith, c .before .before .before .before .pre .0 .inside (l .a) (c .loop-test .taken))
 
-shared-slice-read-big : tie.Need-shared-slice-read-big Inv-loop μ-loop
-shared-slice-read-big c =
+shared-slice-read-cell-count : tie.Need-shared-slice-read-cell-count Inv-loop μ-loop
+shared-slice-read-cell-count c =
     let l = c .before .before .loop in
     omega (arith, c .before .before .before .before .before .pre .0 .inside (l .a) (c .before .loop-test .taken))
 
-big-requires : tie.Need-big-requires Inv-loop μ-loop
-big-requires c κs = search needs
+cell-count-requires : tie.Need-cell-count-requires Inv-loop μ-loop
+cell-count-requires c κs = search needs
 
 mul-s : tie.Need-mul-s Inv-loop μ-loop
 mul-s c = search needs
@@ -114,9 +115,9 @@ line-rest-spec =
     Inv-loop
     μ-loop
     loop-holds
-    mul-big
-    shared-slice-read-big
-    big-requires
+    mul-cell-count
+    shared-slice-read-cell-count
+    cell-count-requires
     mul-s
     shared-slice-read-s
     sub-s

@@ -4,8 +4,8 @@ use mathlib.Core.Path.{_≡_, refl}
 use Prim.Native.Nat.{_*_, _-_, _≤_}
 use native.Mathlib.Omega.{arith}
 use lib.ListN.{length, length-set}
-use Rattle.claims.specs.Lines.{lineSum}
-use Rattle.claims.specs.Filled.{filled, filled-next}
+use Rattle.claims.specs.lemmas.Lines.{lineSum}
+use Rattle.claims.specs.lemmas.Filled.{filled, filled-next}
 use borrow.Author.Needs.{needs}
 use Rattle.claims.proofs.lines.line_sums.Statement.{statement}
 use Rattle.claims.proofs.lines.line_sums.Tie as tie

@@ -1,7 +1,7 @@
 -- The claim sums from the diagonals; what is taken off is part of what it is taken off.
 -- Assumes nothing.
 use native.Mathlib.Omega.{arith}
-use Rattle.claims.specs.NineCells.{all-le, nine-S2, nine-S3, less-S2, less-S3}
+use Rattle.claims.specs.lemmas.NineCells.{all-le, nine-S2, nine-S3, less-S2, less-S3}
 use borrow.Author.Needs.{needs}
 use Rattle.claims.proofs.nine.nine_terms.Statement.{statement}
 use Rattle.claims.proofs.nine.nine_terms.Tie as tie

@@ -3,7 +3,7 @@
 use Prim.Native.Nat.{_*_, _≤_}
 use mathlib.Core.Path.{refl}
 use native.Mathlib.Omega.{arith}
-use Rattle.claims.specs.NineCells.{product, weighed, pair-le, diagonal-le, weighed-le}
+use Rattle.claims.specs.lemmas.NineCells.{product, weighed, pair-le, diagonal-le, weighed-le}
 use borrow.Author.Needs.{needs}
 use Rattle.claims.proofs.nine.three_diagonals.Statement.{statement}
 use Rattle.claims.proofs.nine.three_diagonals.Tie as tie

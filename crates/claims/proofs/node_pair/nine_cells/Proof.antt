@@ -3,7 +3,7 @@
 use mathlib.Core.Path.{_∙_}
 use native.Mathlib.Omega.{arith}
 use Rattle.tree_check.specs.Table.{word}
-use Rattle.claims.specs.NinePair.{three-room, own-neither, nine-S2, nine-S3, nine-few}
+use Rattle.claims.specs.lemmas.NinePair.{three-room, own-neither, nine-S2, nine-S3, nine-few}
 use Rattle.claims.proofs.node_pair.nine_cells.Statement.{statement}
 use Rattle.claims.proofs.node_pair.nine_cells.Tie as tie
 

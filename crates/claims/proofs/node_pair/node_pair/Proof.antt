@@ -5,8 +5,8 @@ use Prim.Native.Nat.{ℕ}
 use native.Mathlib.Omega.{arith}
 use Rattle.node_pairs.specs.theorems.Cells.{pairS2, pairS3}
 use Rattle.tree_check.specs.Table.{word}
-use Rattle.claims.specs.CodeCells.{codeCell}
-use Rattle.claims.specs.PairLoops.{few-S2, few-S3, block-room, filled-block, filled-S2, filled-S3}
+use Rattle.claims.specs.lemmas.CodeCells.{codeCell}
+use Rattle.claims.specs.lemmas.PairLoops.{few-S2, few-S3, block-room, filled-block, filled-S2, filled-S3}
 use borrow.Author.Needs.{needs}
 use Rattle.claims.proofs.node_pair.node_pair.Statement.{statement}
 use Rattle.claims.proofs.node_pair.node_pair.Tie as tie

@@ -3,7 +3,7 @@
 use mathlib.Core.Path.{_∙_, ap, sym}
 use native.Mathlib.Omega.{arith}
 use Rattle.shapes.specs.Claims.{choose2}
-use Rattle.claims.specs.SizeTerms.{pairs-none, pairs-some, pairs-fit}
+use Rattle.claims.specs.lemmas.SizeTerms.{pairs-none, pairs-some, pairs-fit}
 use borrow.Author.Needs.{needs}
 use Rattle.claims.proofs.node_sums.pairs_of.Statement.{statement}
 use Rattle.claims.proofs.node_sums.pairs_of.Tie as tie

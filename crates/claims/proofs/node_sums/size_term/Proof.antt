@@ -3,7 +3,7 @@
 use mathlib.Core.Path.{ap}
 use Prim.Native.Nat.{ℕ, _+_, _*_}
 use native.Mathlib.Omega.{arith}
-use Rattle.claims.specs.SizeTerms.{squares-most, size-term-most}
+use Rattle.claims.specs.lemmas.SizeTerms.{squares-most, size-term-most}
 use Rattle.claims.proofs.node_sums.size_term.Statement.{statement}
 use Rattle.claims.proofs.node_sums.size_term.Tie as tie
 

@@ -5,9 +5,9 @@ use mathlib.Core.Path.{_≡_, refl, sym, _∙_}
 use native.Mathlib.Omega.{arith}
 use lib.ListN.{length}
 use Rattle.tree_check.specs.Table.{word}
-use Rattle.claims.specs.CodeLists.{part-inside}
-use Rattle.claims.specs.PairLoops.{Summed, summed-none, summed-next, summed-most, summed-all}
-use Rattle.claims.specs.PairLoops.{rowS2, rowS3, few-row, inner-S2, inner-S3, row-room, row-S2, row-S3}
+use Rattle.claims.specs.lemmas.CodeLists.{part-inside}
+use Rattle.claims.specs.lemmas.PairLoops.{Summed, summed-none, summed-next, summed-most, summed-all}
+use Rattle.claims.specs.lemmas.PairLoops.{rowS2, rowS3, few-row, inner-S2, inner-S3, row-room, row-S2, row-S3}
 use Rattle.claims.proofs.pair_sums.node_row.Statement.{statement}
 use Rattle.claims.proofs.pair_sums.node_row.Tie as tie
 

@@ -6,8 +6,8 @@ use mathlib.Core.Path.{_≡_, refl, _∙_}
 use native.Mathlib.Omega.{arith}
 use lib.ListN.{length, length-set}
 use Rattle.tree_check.specs.Table.{word}
-use Rattle.claims.specs.CodeSizes.{codeSize, size-first, size-later}
-use Rattle.claims.specs.NodeBlock.{Written, written-first, written-next}
+use Rattle.claims.specs.lemmas.CodeSizes.{codeSize, size-first, size-later}
+use Rattle.claims.specs.lemmas.NodeBlock.{Written, written-first, written-next}
 use Rattle.claims.proofs.sizes.fill_sizes.Statement.{statement}
 use Rattle.claims.proofs.sizes.fill_sizes.Tie as tie
 

@@ -3,12 +3,13 @@
 use mathlib.Core.Path.{_≡_, refl, _∙_, ap}
 use Prim.Native.Nat.{ℕ, _+_, _*_, _-_, _≤_}
 use native.Mathlib.Omega.{arith}
+use Rattle.table_words.specs.Sizes.{tipsMost}
 use Rattle.sums.specs.Sum.{sum}
 use Rattle.sums.specs.theorems.Products.{product-le}
 use Rattle.tree_check.specs.Table.{word}
 use Rattle.node_pairs.specs.theorems.ThreeRows.{products3, weighed3}
-use Rattle.claims.specs.Lines.{lineCell, sum-step}
-use Rattle.claims.specs.NineCells.{product, weighed, pair-le, diagonal-le, weighed-le}
+use Rattle.claims.specs.lemmas.Lines.{lineCell, sum-step}
+use Rattle.claims.specs.lemmas.NineCells.{product, weighed, pair-le, diagonal-le, weighed-le}
 use borrow.Author.Needs.{needs}
 use Rattle.claims.proofs.three_lines.all_lines.Statement.{statement}
 use Rattle.claims.proofs.three_lines.all_lines.Tie as tie
@@ -25,68 +26,68 @@ Inv-loop cells gap step len total₀ weighed₀ k₀ a₀ total weigh k a =
 abbrev μ-loop : tie.MeasureT-loop
 μ-loop cells gap step len total₀ weighed₀ k₀ a₀ total weigh k a = len - a
 
-abbrev start : tie.After-big3 Inv-loop μ-loop → tie.Start Inv-loop μ-loop
+abbrev start : tie.After-cell-count3 Inv-loop μ-loop → tie.Start Inv-loop μ-loop
 start c = c .before .before .before .before .before .before .before .before .before
 
 -- the cells that were read
-abbrev x : tie.After-big3 Inv-loop μ-loop → ℕ
-x c = c .before .before .before .before .big .result
+abbrev x : tie.After-cell-count3 Inv-loop μ-loop → ℕ
+x c = c .before .before .before .before .cell-count .result
 
-abbrev y : tie.After-big3 Inv-loop μ-loop → ℕ
-y c = c .before .before .big2 .result
+abbrev y : tie.After-cell-count3 Inv-loop μ-loop → ℕ
+y c = c .before .before .cell-count2 .result
 
-abbrev z : tie.After-big3 Inv-loop μ-loop → ℕ
-z c = c .big3 .result
+abbrev z : tie.After-cell-count3 Inv-loop μ-loop → ℕ
+z c = c .cell-count3 .result
 
 -- .. at this place of the lines
-abbrev place : tie.After-big3 Inv-loop μ-loop → ℕ
+abbrev place : tie.After-cell-count3 Inv-loop μ-loop → ℕ
 place c = c .before .before .before .before .before .before .before .loop .a
 
-first : (c : tie.After-big3 Inv-loop μ-loop)
+first : (c : tie.After-cell-count3 Inv-loop μ-loop)
     → x c ≡ lineCell (start c .args .cells .now) 0 (start c .args .step) (place c)
 first c =
     let l = c .before .before .before .before .before .before .before .loop in
-    let b = c .before .before .before .before .big in
+    let b = c .before .before .before .before .cell-count in
     let e : l .k ≡ 0 + l .a * start c .args .step = omega arith in
     b .ensures .0 ∙ ap (λ (k : ℕ). word (start c .args .cells .now) k) e
 
-second : (c : tie.After-big3 Inv-loop μ-loop)
+second : (c : tie.After-cell-count3 Inv-loop μ-loop)
     → y c ≡ lineCell (start c .args .cells .now) (start c .args .gap) (start c .args .step) (place c)
 second c =
     let l = c .before .before .before .before .before .before .before .loop in
-    let b = c .before .before .big2 in
+    let b = c .before .before .cell-count2 in
     b .ensures .0 ∙ ap (λ (k : ℕ). word (start c .args .cells .now) (start c .args .gap + k)) (l .inv .1)
 
-third : (c : tie.After-big3 Inv-loop μ-loop)
+third : (c : tie.After-cell-count3 Inv-loop μ-loop)
     → z c ≡ lineCell (start c .args .cells .now) (2 * start c .args .gap) (start c .args .step) (place c)
 third c =
     let l = c .before .before .before .before .before .before .before .loop in
-    c .big3 .ensures .0 ∙ ap (λ (k : ℕ). word (start c .args .cells .now) (2 * start c .args .gap + k)) (l .inv .1)
+    c .cell-count3 .ensures .0 ∙ ap (λ (k : ℕ). word (start c .args .cells .now) (2 * start c .args .gap + k)) (l .inv .1)
 
-first-le : (c : tie.After-big3 Inv-loop μ-loop) → x c ≤ 256
+first-le : (c : tie.After-cell-count3 Inv-loop μ-loop) → x c ≤ tipsMost
 first-le c =
     let t = c .before .before .before .before .before .before .loop-test in
     omega (arith, first c, start c .pre .0 .low (place c) (t .taken))
 
-second-le : (c : tie.After-big3 Inv-loop μ-loop) → y c ≤ 256
+second-le : (c : tie.After-cell-count3 Inv-loop μ-loop) → y c ≤ tipsMost
 second-le c =
     let t = c .before .before .before .before .before .before .loop-test in
     omega (arith, second c, start c .pre .1 .low (place c) (t .taken))
 
-third-le : (c : tie.After-big3 Inv-loop μ-loop) → z c ≤ 256
+third-le : (c : tie.After-cell-count3 Inv-loop μ-loop) → z c ≤ tipsMost
 third-le c =
     let t = c .before .before .before .before .before .before .loop-test in
     omega (arith, third c, start c .pre .2 .low (place c) (t .taken))
 
 -- their product, ..
-pair-low : (c : tie.After-big3 Inv-loop μ-loop) → x c * y c ≤ 65536
+pair-low : (c : tie.After-cell-count3 Inv-loop μ-loop) → x c * y c ≤ 65536
 pair-low c = pair-le (x c) (y c) (z c) (first-le c) (second-le c) (third-le c)
 
-product-low : (c : tie.After-big3 Inv-loop μ-loop) → product (x c) (y c) (z c) ≤ 16777216
+product-low : (c : tie.After-cell-count3 Inv-loop μ-loop) → product (x c) (y c) (z c) ≤ 16777216
 product-low c = diagonal-le (x c) (y c) (z c) (first-le c) (second-le c) (third-le c)
 
 -- .. and the product times the sum
-weighed-low : (c : tie.After-big3 Inv-loop μ-loop) → weighed (x c) (y c) (z c) ≤ 12884901888
+weighed-low : (c : tie.After-cell-count3 Inv-loop μ-loop) → weighed (x c) (y c) (z c) ≤ 12884901888
 weighed-low c = weighed-le (x c) (y c) (z c) (first-le c) (second-le c) (third-le c)
 
 -- one cell more of each line
@@ -98,66 +99,66 @@ loop-holds : tie.Need-loop-holds Inv-loop μ-loop
 unfolding sum
 loop-holds c = (omega arith, omega arith, refl, refl, omega arith, omega arith)
 
-mul-big : tie.Need-mul-big Inv-loop μ-loop
-mul-big c =
+mul-cell-count : tie.Need-mul-cell-count Inv-loop μ-loop
+mul-cell-count c =
     let l = c .before .loop in
     omega (arith, c .before .before .before .pre .0 .inside (l .a) (c .loop-test .taken))
 
-shared-slice-read-big : tie.Need-shared-slice-read-big Inv-loop μ-loop
-shared-slice-read-big c =
+shared-slice-read-cell-count : tie.Need-shared-slice-read-cell-count Inv-loop μ-loop
+shared-slice-read-cell-count c =
     let l = c .before .before .loop in
     omega (arith, c .before .before .before .before .pre .0 .inside (l .a) (c .before .loop-test .taken))
 
-big-requires : tie.Need-big-requires Inv-loop μ-loop
-big-requires c κs = search needs
+cell-count-requires : tie.Need-cell-count-requires Inv-loop μ-loop
+cell-count-requires c κs = search needs
 
-add-big : tie.Need-add-big Inv-loop μ-loop
-add-big c =
+add-cell-count : tie.Need-add-cell-count Inv-loop μ-loop
+add-cell-count c =
     let t = c .before .before in
     let l = t .before .loop in
     omega (arith, c .before .before .before .before .before .pre .1 .inside (l .a) (t .loop-test .taken))
 
-mul-big-2 : tie.Need-mul-big-2 Inv-loop μ-loop
-mul-big-2 c =
+mul-cell-count-2 : tie.Need-mul-cell-count-2 Inv-loop μ-loop
+mul-cell-count-2 c =
     let t = c .before .before in
     let l = t .before .loop in
     omega (arith, c .before .before .before .before .before .pre .1 .inside (l .a) (t .loop-test .taken))
 
-shared-slice-read-big-2 : tie.Need-shared-slice-read-big-2 Inv-loop μ-loop
-shared-slice-read-big-2 c =
+shared-slice-read-cell-count-2 : tie.Need-shared-slice-read-cell-count-2 Inv-loop μ-loop
+shared-slice-read-cell-count-2 c =
     let t = c .before .before .before in
     let l = t .before .loop in
     omega (arith, c .before .before .before .before .before .before .pre .1 .inside (l .a) (t .loop-test .taken))
 
-big-requires-2 : tie.Need-big-requires-2 Inv-loop μ-loop
-big-requires-2 c κs = search needs
+cell-count-requires-2 : tie.Need-cell-count-requires-2 Inv-loop μ-loop
+cell-count-requires-2 c κs = search needs
 
-mul-big-3 : tie.Need-mul-big-3 Inv-loop μ-loop
-mul-big-3 c = omega (arith, c .before .before .before .before .before .before .before .pre .2 .at-few)
+mul-cell-count-3 : tie.Need-mul-cell-count-3 Inv-loop μ-loop
+mul-cell-count-3 c = omega (arith, c .before .before .before .before .before .before .before .pre .2 .at-few)
 
-add-big-2 : tie.Need-add-big-2 Inv-loop μ-loop
-add-big-2 c =
+add-cell-count-2 : tie.Need-add-cell-count-2 Inv-loop μ-loop
+add-cell-count-2 c =
     let t = c .before .before .before .before in
     let l = t .before .loop in
     let p = c .before .before .before .before .before .before .before .pre .2 in
     omega (arith, p .inside (l .a) (t .loop-test .taken))
 
-mul-big-4 : tie.Need-mul-big-4 Inv-loop μ-loop
-mul-big-4 c =
+mul-cell-count-4 : tie.Need-mul-cell-count-4 Inv-loop μ-loop
+mul-cell-count-4 c =
     let t = c .before .before .before .before in
     let l = t .before .loop in
     let p = c .before .before .before .before .before .before .before .pre .2 in
     omega (arith, p .inside (l .a) (t .loop-test .taken))
 
-shared-slice-read-big-3 : tie.Need-shared-slice-read-big-3 Inv-loop μ-loop
-shared-slice-read-big-3 c =
+shared-slice-read-cell-count-3 : tie.Need-shared-slice-read-cell-count-3 Inv-loop μ-loop
+shared-slice-read-cell-count-3 c =
     let t = c .before .before .before .before .before in
     let l = t .before .loop in
     let p = c .before .before .before .before .before .before .before .before .pre .2 in
     omega (arith, p .inside (l .a) (t .loop-test .taken))
 
-big-requires-3 : tie.Need-big-requires-3 Inv-loop μ-loop
-big-requires-3 c κs = search needs
+cell-count-requires-3 : tie.Need-cell-count-requires-3 Inv-loop μ-loop
+cell-count-requires-3 c κs = search needs
 
 mul-p : tie.Need-mul-p Inv-loop μ-loop
 mul-p c = omega (arith, pair-low c)
@@ -186,7 +187,7 @@ add-k c =
     let p = start c in
     omega (
       arith,
-      product-le 256 256 (l .a) (p .args .step) (omega (arith, p .pre .0 .few)) (p .pre .0 .step-few),
+      product-le tipsMost tipsMost (l .a) (p .args .step) (omega (arith, p .pre .0 .few)) (p .pre .0 .step-few),
       p .pre .0 .step-few,
     )
 
@@ -225,18 +226,18 @@ all-lines-spec =
     Inv-loop
     μ-loop
     loop-holds
-    mul-big
-    shared-slice-read-big
-    big-requires
-    add-big
-    mul-big-2
-    shared-slice-read-big-2
-    big-requires-2
-    mul-big-3
-    add-big-2
-    mul-big-4
-    shared-slice-read-big-3
-    big-requires-3
+    mul-cell-count
+    shared-slice-read-cell-count
+    cell-count-requires
+    add-cell-count
+    mul-cell-count-2
+    shared-slice-read-cell-count-2
+    cell-count-requires-2
+    mul-cell-count-3
+    add-cell-count-2
+    mul-cell-count-4
+    shared-slice-read-cell-count-3
+    cell-count-requires-3
     mul-p
     mul-p-2
     add-total

@@ -3,12 +3,13 @@
 use mathlib.Core.Path.{_≡_}
 use Prim.Native.Nat.{ℕ, _+_, _*_, _≤_}
 use native.Mathlib.Omega.{arith}
+use Rattle.table_words.specs.Sizes.{tipsMost}
 use Rattle.sums.specs.theorems.Products.{product-le}
 use Rattle.node_pairs.specs.theorems.Cells.{pairS2, pairS3}
-use Rattle.claims.specs.Lines.{lineCell}
-use Rattle.claims.specs.LineDots.{FewLines, lineOf}
-use Rattle.claims.specs.ThreeLines.{ThreeSums, first-low, second-low, third-low, first-le, second-le, third-le}
-use Rattle.claims.specs.ThreeLines.{first-is, second-is, third-is, xy-le, yz-le, zx-le, lines-S2, lines-S3}
+use Rattle.claims.specs.lemmas.Lines.{lineCell}
+use Rattle.claims.specs.lemmas.LineDots.{FewLines, lineOf}
+use Rattle.claims.specs.lemmas.ThreeLines.{ThreeSums, first-low, second-low, third-low, first-le, second-le, third-le}
+use Rattle.claims.specs.lemmas.ThreeLines.{first-is, second-is, third-is, xy-le, yz-le, zx-le, lines-S2, lines-S3}
 use Rattle.claims.proofs.three_lines.three_lines.Statement.{statement}
 use Rattle.claims.proofs.three_lines.three_lines.Tie as tie
 
@@ -64,13 +65,13 @@ module _ (c : tie.After-all-lines) where
     q-is = c .all-lines .ensures .1;
   }
 
-  x-le : x ≤ 256
+  x-le : x ≤ tipsMost
   x-le = omega (arith, sums .first .sum-is, first-le _ _ _ _ few)
 
-  y-le : y ≤ 256
+  y-le : y ≤ tipsMost
   y-le = omega (arith, sums .second .sum-is, second-le _ _ _ _ few)
 
-  z-le : z ≤ 256
+  z-le : z ≤ tipsMost
   z-le = omega (arith, sums .third .sum-is, third-le _ _ _ _ few)
 
   -- the products of three cells, times all cells

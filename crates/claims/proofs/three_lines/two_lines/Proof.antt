@@ -3,11 +3,12 @@
 use mathlib.Core.Path.{_≡_, refl, _∙_, ap, ap₂}
 use Prim.Native.Nat.{ℕ, _+_, _*_, _-_, _≤_}
 use native.Mathlib.Omega.{arith}
+use Rattle.table_words.specs.Sizes.{nodeRoom, tipsMost}
 use Rattle.sums.specs.Sum.{sum}
 use Rattle.sums.specs.theorems.Products.{product-le}
 use Rattle.tree_check.specs.Table.{word}
 use Rattle.node_pairs.specs.theorems.ThreeRows.{products, weighed}
-use Rattle.claims.specs.Lines.{lineCell, sum-step}
+use Rattle.claims.specs.lemmas.Lines.{lineCell, sum-step}
 use borrow.Author.Needs.{needs}
 use Rattle.claims.proofs.three_lines.two_lines.Statement.{statement}
 use Rattle.claims.proofs.three_lines.two_lines.Tie as tie
@@ -21,7 +22,7 @@ Inv-loop cells at to step len total₀ squares₀ beside₀ weighed₀ k₀ l₀
     × (squares ≡ products a (lineCell cells at step) (lineCell cells at step))
     × (beside ≡ products a (lineCell cells at step) (lineCell cells to step))
     × (weigh ≡ weighed a (lineCell cells at step) (lineCell cells to step))
-    × (total ≤ a * 256)
+    × (total ≤ a * tipsMost)
     × (squares ≤ a * 65536)
     × (beside ≤ a * 65536)
     × (weigh ≤ a * 33554432)
@@ -29,58 +30,58 @@ Inv-loop cells at to step len total₀ squares₀ beside₀ weighed₀ k₀ l₀
 abbrev μ-loop : tie.MeasureT-loop
 μ-loop cells at to step len total₀ squares₀ beside₀ weighed₀ k₀ l₀ a₀ total squares beside weigh k l a = len - a
 
-abbrev start : tie.After-big2 Inv-loop μ-loop → tie.Start Inv-loop μ-loop
+abbrev start : tie.After-cell-count2 Inv-loop μ-loop → tie.Start Inv-loop μ-loop
 start c = c .before .before .before .before .before .before .before
 
 -- the cells that were read
-abbrev x : tie.After-big2 Inv-loop μ-loop → ℕ
-x c = c .before .before .big .result
+abbrev x : tie.After-cell-count2 Inv-loop μ-loop → ℕ
+x c = c .before .before .cell-count .result
 
-abbrev y : tie.After-big2 Inv-loop μ-loop → ℕ
-y c = c .big2 .result
+abbrev y : tie.After-cell-count2 Inv-loop μ-loop → ℕ
+y c = c .cell-count2 .result
 
 -- .. at this place of the lines
-abbrev place : tie.After-big2 Inv-loop μ-loop → ℕ
+abbrev place : tie.After-cell-count2 Inv-loop μ-loop → ℕ
 place c = c .before .before .before .before .before .loop .a
 
-first : (c : tie.After-big2 Inv-loop μ-loop)
+first : (c : tie.After-cell-count2 Inv-loop μ-loop)
     → x c ≡ lineCell (start c .args .cells .now) (start c .args .at) (start c .args .step) (place c)
 first c =
     let l = c .before .before .before .before .before .loop in
-    c .before .before .big .ensures .0 ∙ ap (λ (k : ℕ). word (start c .args .cells .now) k) (l .inv .1)
+    c .before .before .cell-count .ensures .0 ∙ ap (λ (k : ℕ). word (start c .args .cells .now) k) (l .inv .1)
 
-second : (c : tie.After-big2 Inv-loop μ-loop)
+second : (c : tie.After-cell-count2 Inv-loop μ-loop)
     → y c ≡ lineCell (start c .args .cells .now) (start c .args .to) (start c .args .step) (place c)
 second c =
     let l = c .before .before .before .before .before .loop in
-    c .big2 .ensures .0 ∙ ap (λ (k : ℕ). word (start c .args .cells .now) k) (l .inv .2)
+    c .cell-count2 .ensures .0 ∙ ap (λ (k : ℕ). word (start c .args .cells .now) k) (l .inv .2)
 
-first-le : (c : tie.After-big2 Inv-loop μ-loop) → x c ≤ 256
+first-le : (c : tie.After-cell-count2 Inv-loop μ-loop) → x c ≤ tipsMost
 first-le c =
     let t = c .before .before .before .before .loop-test in
     omega (arith, first c, start c .pre .0 .low (place c) (t .taken))
 
-second-le : (c : tie.After-big2 Inv-loop μ-loop) → y c ≤ 256
+second-le : (c : tie.After-cell-count2 Inv-loop μ-loop) → y c ≤ tipsMost
 second-le c =
     let t = c .before .before .before .before .loop-test in
     omega (arith, second c, start c .pre .1 .low (place c) (t .taken))
 
 -- the square, the product, ..
-square-low : (c : tie.After-big2 Inv-loop μ-loop) → x c * x c ≤ 65536
-square-low c = product-le 256 256 _ _ (first-le c) (first-le c)
+square-low : (c : tie.After-cell-count2 Inv-loop μ-loop) → x c * x c ≤ 65536
+square-low c = product-le tipsMost tipsMost _ _ (first-le c) (first-le c)
 
-product-low : (c : tie.After-big2 Inv-loop μ-loop) → x c * y c ≤ 65536
-product-low c = product-le 256 256 _ _ (first-le c) (second-le c)
+product-low : (c : tie.After-cell-count2 Inv-loop μ-loop) → x c * y c ≤ 65536
+product-low c = product-le tipsMost tipsMost _ _ (first-le c) (second-le c)
 
 -- .. and the product times the sum
-weighed-low : (c : tie.After-big2 Inv-loop μ-loop) → x c * y c * (x c + y c) ≤ 33554432
-weighed-low c = product-le 65536 512 _ _ (product-low c) (omega (arith, first-le c, second-le c))
+weighed-low : (c : tie.After-cell-count2 Inv-loop μ-loop) → x c * y c * (x c + y c) ≤ 33554432
+weighed-low c = product-le 65536 nodeRoom _ _ (product-low c) (omega (arith, first-le c, second-le c))
 
 -- how far the places have come
-stepped : (c : tie.After-big2 Inv-loop μ-loop) → place c * start c .args .step ≤ 65536
+stepped : (c : tie.After-cell-count2 Inv-loop μ-loop) → place c * start c .args .step ≤ 65536
 stepped c =
     let p = start c .pre .0 in
-    product-le 256 256 (place c) (start c .args .step) (omega (arith, p .few)) (p .step-few)
+    product-le tipsMost tipsMost (place c) (start c .args .step) (omega (arith, p .few)) (p .step-few)
 
 loop-holds : tie.Need-loop-holds Inv-loop μ-loop
 unfolding sum
@@ -98,33 +99,33 @@ loop-holds c = (
   omega arith,
 )
 
-mul-big : tie.Need-mul-big Inv-loop μ-loop
-mul-big c =
+mul-cell-count : tie.Need-mul-cell-count Inv-loop μ-loop
+mul-cell-count c =
     let l = c .before .loop in
     omega (arith, c .before .before .before .pre .0 .inside (l .a) (c .loop-test .taken))
 
-shared-slice-read-big : tie.Need-shared-slice-read-big Inv-loop μ-loop
-shared-slice-read-big c =
+shared-slice-read-cell-count : tie.Need-shared-slice-read-cell-count Inv-loop μ-loop
+shared-slice-read-cell-count c =
     let l = c .before .before .loop in
     omega (arith, c .before .before .before .before .pre .0 .inside (l .a) (c .before .loop-test .taken))
 
-big-requires : tie.Need-big-requires Inv-loop μ-loop
-big-requires c κs = search needs
+cell-count-requires : tie.Need-cell-count-requires Inv-loop μ-loop
+cell-count-requires c κs = search needs
 
-mul-big-2 : tie.Need-mul-big-2 Inv-loop μ-loop
-mul-big-2 c =
+mul-cell-count-2 : tie.Need-mul-cell-count-2 Inv-loop μ-loop
+mul-cell-count-2 c =
     let t = c .before .before in
     let l = t .before .loop in
     omega (arith, c .before .before .before .before .before .pre .1 .inside (l .a) (t .loop-test .taken))
 
-shared-slice-read-big-2 : tie.Need-shared-slice-read-big-2 Inv-loop μ-loop
-shared-slice-read-big-2 c =
+shared-slice-read-cell-count-2 : tie.Need-shared-slice-read-cell-count-2 Inv-loop μ-loop
+shared-slice-read-cell-count-2 c =
     let t = c .before .before .before in
     let l = t .before .loop in
     omega (arith, c .before .before .before .before .before .before .pre .1 .inside (l .a) (t .loop-test .taken))
 
-big-requires-2 : tie.Need-big-requires-2 Inv-loop μ-loop
-big-requires-2 c κs = search needs
+cell-count-requires-2 : tie.Need-cell-count-requires-2 Inv-loop μ-loop
+cell-count-requires-2 c κs = search needs
 
 mul-p : tie.Need-mul-p Inv-loop μ-loop
 mul-p c = omega (arith, product-low c)
@@ -203,12 +204,12 @@ two-lines-spec =
     Inv-loop
     μ-loop
     loop-holds
-    mul-big
-    shared-slice-read-big
-    big-requires
-    mul-big-2
-    shared-slice-read-big-2
-    big-requires-2
+    mul-cell-count
+    shared-slice-read-cell-count
+    cell-count-requires
+    mul-cell-count-2
+    shared-slice-read-cell-count-2
+    cell-count-requires-2
     mul-p
     add-total
     mul-squares

@@ -7,8 +7,8 @@ use lib.ListN.{length}
 use Rattle.tree_check.specs.Table.{tips, nodes}
 use Rattle.pair_check.specs.PairOrder.{PairWithCells}
 use Rattle.pair_check.specs.lemmas.PairOutcomes.{work-says, work-passed, edges-some}
-use Rattle.claims.specs.LentSums.{nodes-are, lent-words, lent-summable, lent-claims}
-use Rattle.claims.specs.SumsOf.{claims-refused}
+use Rattle.claims.specs.lemmas.LentSums.{nodes-are, lent-words, lent-summable, lent-claims}
+use Rattle.claims.specs.lemmas.SumsOf.{claims-refused}
 use borrow.Author.Needs.{needs}
 use Rattle.claims.proofs.totals.claim_sums.Statement.{statement}
 use Rattle.claims.proofs.totals.claim_sums.Tie as tie

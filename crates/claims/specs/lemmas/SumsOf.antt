@@ -1,0 +1,206 @@
+-- The claim sums of two trees, from their parents and the crossings of their edges.
+-- Assumes nothing.
+use mathlib.Core.Path.{_≡_, refl, sym, _∙_}
+use mathlib.Core.Logic.{_≢_}
+use mathlib.Core.List.{List}
+use Prim.Native.Nat.{ℕ, zero, suc, _*_, _-_, _/_, _≤_, _<_}
+use native.Mathlib.Omega.{arith}
+use lib.ListN.{length}
+use Rattle.table_words.specs.Sizes.{tipsMost}
+use Rattle.sums.specs.Sum.{sum}
+use Rattle.tree_check.specs.Table.{Table, tips, nodes, parents}
+use Rattle.tree_check.specs.lemmas.TableParts.{parents-length}
+use Rattle.tree_check.specs.Refusals.{refusal}
+use Rattle.tree_check.specs.theorems.RefusalLaws.{if-accepted, if-refused}
+use Rattle.tree_check.specs.IsTree.{IsTree}
+use Rattle.counting.specs.ClaimSums.{S, S2, S3}
+use Rattle.counting.specs.theorems.QuartetTheorem.{quartet-theorem}
+use Rattle.pair_check.specs.PairOrder.{PairWithCells, pairOrder}
+use Rattle.pair_check.specs.theorems.PairCheck.{pair-check}
+use Rattle.tree_pairs.specs.Crossings.{crossed}
+use Rattle.claims.specs.ClaimAnswer.{sumsOfPair, refusedSums, claimAnswer}
+use Rattle.claims.specs.declared.totals.ClaimSums.{ClaimSums}
+use Rattle.claims.specs.lemmas.CodeCells.{Crossed, codeCell, row-start}
+use Rattle.claims.specs.lemmas.CodeLists.{CodeLists}
+use Rattle.code_lists.specs.ListedCodes.{degreeAt}
+use Rattle.code_lists.specs.lemmas.CodesAt.{Parents, Starts, EdgeList}
+use Rattle.claims.specs.lemmas.CodeSizes.{codeSize, SizeCell}
+use Rattle.claims.specs.lemmas.DirectedCells.{crossed-cells}
+use Rattle.claims.specs.lemmas.NodeSums.{edgeInto, nodeSum, first-sum, second-sum, same-sum, different-sum}
+use Rattle.claims.specs.lemmas.NodeSums.{first-whole, second-whole, cells-whole}
+use Rattle.claims.specs.lemmas.PairLoops.{NodePairs, nodeS2, nodeS3}
+use Rattle.claims.specs.lemmas.TreeCodes.{tree-parents, degree-few, root-degree}
+use Rattle.claims.specs.lemmas.TreeSizes.{TreeSizes}
+
+-- ---- what the code sums
+
+unfoldable pub summed : List ℕ → ℕ → List ℕ → List ℕ → ClaimSums
+summed work n ps qs = record {
+  refusal = 0;
+  first = sum (length ps) (nodeSum work (length qs - 1) n ps) / 2;
+  second = sum (length qs) (nodeSum work 1 n qs) / 2;
+  same = sum (length ps) (nodeS2 work (length qs - 1) n ps qs) / 2;
+  different = sum (length ps) (nodeS3 work (length qs - 1) n ps qs);
+}
+
+-- what it asks of the parents and of the cells
+pub record Summable (work : List ℕ) (n : ℕ) (ps qs : List ℕ) : Type 0 where
+  pub first : Parents ps
+  pub second : Parents qs
+  pub some : (2 ≤ length ps) × (2 ≤ length qs)
+  pub crossed : Crossed work (length ps - 1) (length qs - 1) n
+  pub first-few : (v : ℕ) → v < length ps → degreeAt ps v ≤ tipsMost
+  pub second-few : (v : ℕ) → v < length qs → degreeAt qs v ≤ tipsMost
+  pub first-whole : (v : ℕ) → v < length ps → 3 ≤ degreeAt ps v
+      → sum (degreeAt ps v) (codeSize work (length qs - 1) n (edgeInto ps v)) ≤ tipsMost
+  pub second-whole : (v : ℕ) → v < length qs → 3 ≤ degreeAt qs v
+      → sum (degreeAt qs v) (codeSize work 1 n (edgeInto qs v)) ≤ tipsMost
+  pub cells-whole : (v v' : ℕ) → v < length ps → v' < length qs → 3 ≤ degreeAt ps v → 3 ≤ degreeAt qs v'
+      → sum (degreeAt ps v) (λ i. sum (degreeAt qs v')
+      (codeCell work (length qs - 1) n (edgeInto ps v) (edgeInto qs v') i)) ≤ tipsMost
+  pub first-most : sum (length ps) (nodeSum work (length qs - 1) n ps) ≤ 699170560
+  pub second-most : sum (length qs) (nodeSum work 1 n qs) ≤ 699170560
+  pub same-most : sum (length ps) (nodeS2 work (length qs - 1) n ps qs) ≤ 699170560
+  pub different-most : sum (length ps) (nodeS3 work (length qs - 1) n ps qs) ≤ 699170560
+
+module _ (work : List ℕ) (n : ℕ) (ps qs : List ℕ) (h : Summable work n ps qs) where
+  pub first-lists : (starts edges : List ℕ) → Starts ps starts → EdgeList ps edges → CodeLists ps starts edges
+  first-lists starts edges a b =
+      record { parents = h .first; begins = a; listed = b; long = b .long }
+
+  pub second-lists : (starts edges : List ℕ) → Starts qs starts → EdgeList qs edges → CodeLists qs starts edges
+  second-lists starts edges a b =
+      record { parents = h .second; begins = a; listed = b; long = b .long }
+
+  pub first-sizes : (starts edges : List ℕ) → CodeLists ps starts edges
+      → TreeSizes work (length qs - 1) n ps starts edges tipsMost
+  first-sizes starts edges l = record {
+    lists = l;
+    room = omega arith;
+    few = h .first-few;
+    cell = λ r m. let a = row-start work _ _ n (h .crossed) r m (omega (arith, h .some)) in record {
+      inside = a .0;
+      low = a .1;
+      most = h .crossed .row-most r m;
+    };
+    whole = h .first-whole;
+    all = h .first-most;
+  }
+
+  column-cell : (r : ℕ) → r < length qs - 1 → SizeCell work n (r * 1)
+  column-cell r m =
+      let a = row-start work _ _ n (h .crossed) 0 (omega (arith, h .some)) (omega arith) in
+      let e : r * 1 ≡ r = omega arith in
+      rw e (record {
+        inside = omega (arith, h .crossed .inside, rows);
+        low = omega (arith, h .second .few);
+        most = h .crossed .column-most r m;
+      })
+    where
+      rows : 1 * (length qs - 1) ≤ (length ps - 1) * (length qs - 1)
+      rows = native.Mathlib.Nat.mul-le-mul-right (length qs - 1) (omega (arith, h .some))
+
+  pub second-sizes : (starts edges : List ℕ) → CodeLists qs starts edges → TreeSizes work 1 n qs starts edges tipsMost
+  second-sizes starts edges l = record {
+    lists = l;
+    room = omega arith;
+    few = h .second-few;
+    cell = column-cell;
+    whole = h .second-whole;
+    all = h .second-most;
+  }
+
+  pub node-pairs : (starts edges begins columns : List ℕ) → CodeLists ps starts edges → CodeLists qs begins columns
+      → NodePairs work (length qs - 1) n ps starts edges qs begins columns
+  node-pairs starts edges begins columns l m = record {
+    first = l;
+    second = m;
+    crossed = h .crossed;
+    width = omega arith;
+    first-few = h .first-few;
+    second-few = h .second-few;
+    whole = h .cells-whole;
+    all-S2 = h .same-most;
+    all-S3 = h .different-most;
+  }
+
+-- from the four sums
+pub summed-is : (work : List ℕ) (n : ℕ) (ps qs : List ℕ) (a b c d : ℕ)
+    → a ≡ sum (length ps) (nodeSum work (length qs - 1) n ps) → b ≡ sum (length qs) (nodeSum work 1 n qs)
+    → c ≡ sum (length ps) (nodeS2 work (length qs - 1) n ps qs)
+    → d ≡ sum (length ps) (nodeS3 work (length qs - 1) n ps qs)
+    → record { refusal = 0; first = a / 2; second = b / 2; same = c / 2; different = d } ≡ summed work n ps qs
+unfolding summed
+summed-is work n ps qs a b c d ea eb ec ed = rw (ea, eb, ec, ed) refl
+
+-- ---- of two tables
+
+module _ (t u : Table) (work : List ℕ) (p : PairWithCells t u (length work)) where
+  g : IsTree t
+  g = p .pair .first
+
+  h : IsTree u
+  h = p .pair .second
+
+  long : length (parents t) ≡ nodes t
+  long = parents-length t (g .words)
+
+  long' : length (parents u) ≡ nodes u
+  long' = parents-length u (h .words)
+
+  -- no claim at node 0
+  inner : (d v : ℕ) → 3 ≤ d → (v ≡ 0 → d ≤ 1) → 1 ≤ v
+  inner d zero m few = absurd (omega (arith, few refl))
+  inner d (suc v) m few = omega arith
+
+  inner-first : (v : ℕ) → 3 ≤ degreeAt (parents t) v → 1 ≤ v
+  inner-first v m = inner _ v m (λ e. rw e (root-degree t g))
+
+  inner-second : (v : ℕ) → 3 ≤ degreeAt (parents u) v → 1 ≤ v
+  inner-second v m = inner _ v m (λ e. rw e (root-degree u h))
+
+  pub summable : Summable (crossed t u work) (tips t) (parents t) (parents u)
+  summable =
+      let few = g .tips-range in
+      let many = g .nodes-range in
+      let more = h .nodes-range in
+      let same = p .pair .same-tips in
+      let q = quartet-theorem t u g h same in record {
+        first = tree-parents t g;
+        second = tree-parents u h;
+        some = (omega (arith, long), omega (arith, long'));
+        crossed = rw (long, long') (crossed-cells t u work p);
+        first-few = λ v l. let d = degree-few t g v (omega (arith, long)) in omega arith;
+        second-few = λ v l. let d = degree-few u h v (omega (arith, long')) in omega arith;
+        first-whole = λ v l m.
+            let w = rw (← long') at (first-whole t u work p v (inner-first v m) (omega (arith, long))) in omega arith;
+        second-whole = λ v l m.
+            let w = second-whole t u work p v (inner-second v m) (omega (arith, long')) in omega arith;
+        cells-whole = λ v v' l l' m m'. let w = rw (← long') at (cells-whole t u work p v v'
+            (inner-first v m) (omega (arith, long)) (inner-second v' m') (omega (arith, long'))) in omega arith;
+        first-most = rw (long', first-sum t u work p) (omega (arith, q .S-most));
+        second-most = rw (second-sum t u work p) (omega (arith, q .S'-most));
+        same-most = rw (long', same-sum t u work p) (omega (arith, q .S2-most));
+        different-most = rw (long', different-sum t u work p) (omega (arith, q .S3-most));
+      }
+
+  halved : (a b : ℕ) → a ≡ 2 * b → a / 2 ≡ b
+  halved a b e = omega arith
+
+  -- the sums are the published ones
+  pub claims-accepted : summed (crossed t u work) (tips t) (parents t) (parents u) ≡ claimAnswer t u (length work)
+  unfolding summed claimAnswer
+  claims-accepted = rw (
+    long',
+    halved _ _ (first-sum t u work p),
+    halved _ _ (rw long' at (second-sum t u work p)),
+    halved _ _ (same-sum t u work p),
+    different-sum t u work p,
+  )
+      (sym (if-accepted _ (sumsOfPair t u) _ (pair-check t u (length work) .1 p)))
+
+-- a refused pair
+pub claims-refused : (t u : Table) (cells k : ℕ) → k ≡ refusal (pairOrder t u cells) → k ≢ 0
+    → refusedSums k ≡ claimAnswer t u cells
+unfolding claimAnswer
+claims-refused t u cells k e d = rw e (sym (if-refused _ _ _ (λ z. d (e ∙ z))))

@@ -1,0 +1,2 @@
+pub mod ListedCodes
+pub mod lemmas
