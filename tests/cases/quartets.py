@@ -7,7 +7,7 @@ and cases are then held to the five formulas.
 """
 import itertools
 import random
-from collections.abc import Iterable, Iterator
+from collections.abc import Iterator
 from functools import cache, cached_property
 from math import comb
 
@@ -44,6 +44,10 @@ PAIRS_OF = [comb(k, 2) for k in range(257)]  # how many pairs k labels make
 # A set of labels is the bits of a number.
 Labels = int
 
+# What hangs on the way between two labels: the subtrees, and for each node of the way all of its subtrees together; those of
+# two labels or more. The two are one list where they are equal.
+Way = tuple[list[Labels], list[Labels]]
+
 
 class Graph:
     """A tree as a graph. A side is what lies beyond an edge from one of its two ends, and is known by its place in `sides`."""
@@ -55,19 +59,23 @@ class Graph:
         for i in range(1, self.m):
             self.next[i].append(t[2 + i])
             self.next[t[2 + i]].append(i)
-        self.side = cache(self.side)  # type: ignore[method-assign]
-        edges = [(v, w) for v in range(self.m) for w in self.next[v]]
-        self.sides: list[Labels] = [self.side(v, w) for v, w in edges]
+        self.side: dict[tuple[int, int], Labels] = {}
+        for v in range(self.m):
+            for w in self.next[v]:
+                self.labels_beyond(v, w)
+        self.place = {edge: place for place, edge in enumerate(self.side)}
+        self.sides = list(self.side.values())
         self.sizes = [side.bit_count() for side in self.sides]
-        self.place = {edge: place for place, edge in enumerate(edges)}
 
-    def side(self, v: int, w: int) -> Labels:
-        """The labels on w's side of the edge between two neighbours v and w."""
-        found = 0 if self.labels[w] == X else 1 << self.labels[w]
-        for further in self.next[w]:
-            if further != v:
-                found |= self.side(w, further)
-        return found
+    def labels_beyond(self, v: int, w: int) -> Labels:
+        """The labels on w's side of the edge between two neighbours v and w, kept in `side`."""
+        if (v, w) not in self.side:
+            found = 0 if self.labels[w] == X else 1 << self.labels[w]
+            for further in self.next[w]:
+                if further != v:
+                    found |= self.labels_beyond(w, further)
+            self.side[v, w] = found
+        return self.side[v, w]
 
     @cached_property
     def claims(self) -> list[tuple[int, list[tuple[int, int]]]]:
@@ -86,15 +94,17 @@ class Graph:
         return found
 
     @cached_property
-    def ways(self) -> dict[tuple[int, int], tuple[list[Labels], list[Labels]]]:
-        """For every two labels a < b, what hangs on the way between them: the subtrees, and for each node of the way all of
-        its subtrees together; those of two labels or more. The two are one list where they are equal."""
+    def large(self) -> list[list[int]]:
+        """The neighbours of each node that have two labels or more on their side."""
+        return [[w for w in self.next[v] if self.side[v, w].bit_count() > 1] for v in range(self.m)]
+
+    @cached_property
+    def ways(self) -> dict[tuple[int, int], Way]:
+        """The way between every two labels a < b."""
         return {(a, b): way for a in range(self.n) for b, way in self.ways_from(a) if a < b}
 
-    def ways_from(self, a: int) -> Iterator[tuple[int, tuple[list[Labels], list[Labels]]]]:
-        every = (1 << self.n) - 1
-        large = [[(w, self.side(v, w)) for w in self.next[v] if self.side(v, w).bit_count() > 1] for v in range(self.m)]
-        tip = self.labels.index(a)
+    def ways_from(self, a: int) -> Iterator[tuple[int, Way]]:
+        every, side, tip = (1 << self.n) - 1, self.side, self.labels.index(a)
         todo: list[tuple[int, int, list[Labels], list[Labels]]] = [(tip, self.next[tip][0], [], [])]
         while todo:
             u, v, parts, wholes = todo.pop()
@@ -103,8 +113,8 @@ class Graph:
                 continue
             for w in self.next[v]:
                 if w != u:
-                    here = [side for x, side in large[v] if x not in (u, w)]
-                    whole = every & ~self.side(v, u) & ~self.side(v, w)
+                    here = [side[v, x] for x in self.large[v] if x != u and x != w]
+                    whole = every & ~side[v, u] & ~side[v, w]
                     todo.append((v, w, parts + here, wholes + [whole] if whole.bit_count() > 1 else wholes))
 
 
@@ -130,15 +140,15 @@ def same_and_different(tree: Graph, other: Graph) -> list[int]:
     same = different = 0
     for a, pairs in tree.claims:
         in_a = met[a]
-        reached = [(d, in_a[d], further) for d, further in other.claims if in_a[d]]
+        reached = [(d, in_a[d], PAIRS_OF[in_a[d]], further) for d, further in other.claims if in_a[d]]
         for b, c in pairs:
             in_b, in_c = met[b], met[c]
-            for d, ad, further in reached:
+            for d, ad, two_of_ad, further in reached:
                 bd, cd = in_b[d], in_c[d]
                 for e, f in further:
                     ae, af, be, bf, ce, cf = in_a[e], in_a[f], in_b[e], in_b[f], in_c[e], in_c[f]
-                    same += PAIRS_OF[ad] * (be * cf + bf * ce)
-                    different += ad * af * be * cd + ad * ae * bf * cd + ad * ae * bd * cf + ad * af * bd * ce
+                    same += two_of_ad * (be * cf + bf * ce)
+                    different += ad * ((af * be + ae * bf) * cd + (ae * cf + af * ce) * bd)
     return [same, different]
 
 
@@ -172,27 +182,27 @@ def cases_by_fours(t: Table, u: Table) -> list[int]:
     return counts
 
 
-def pairs_in(sets: Iterable[Labels], others: Iterable[Labels]) -> int:
+def pairs_in(sets: list[Labels], others: list[Labels]) -> int:
     """How many pairs of labels lie together in one of the sets and in one of the others."""
     return sum([PAIRS_OF[(one & other).bit_count()] for one in sets for other in others])
 
 
 def cases_by_pairs(t: Table, u: Table) -> list[int]:
-    """Two labels c and d are the partners that face a and b where they hang in one subtree on the way from a to b; where they
-    hang at one node in two subtrees the four are a star; where at two nodes, a has another partner. Each butterfly is met
-    twice, from either of its pairs."""
+    """Two labels c and d face a and b in a butterfly where they hang in one subtree on the way from a to b; where they hang at
+    one node in two subtrees, the four are a star; where at two nodes, a has another partner. Each butterfly is met twice,
+    from either of its pairs."""
     first, second, n = graph(t).ways, graph(u).ways, t[0]
     same = other_star = star_other = different = different_again = 0
     for pair, (parts, wholes) in first.items():
         other_parts, other_wholes = second[pair]
-        both = pairs_in(parts, other_parts)
-        at_node = both if other_parts is other_wholes else pairs_in(parts, other_wholes)
-        node_at = both if parts is wholes else pairs_in(wholes, other_parts)
-        same += both
-        other_star += at_node - both
-        star_other += node_at - both
-        different += sum([PAIRS_OF[part.bit_count()] for part in parts]) - at_node
-        different_again += sum([PAIRS_OF[part.bit_count()] for part in other_parts]) - node_at
+        in_both = pairs_in(parts, other_parts)
+        at_other_node = in_both if other_parts is other_wholes else pairs_in(parts, other_wholes)
+        at_node = in_both if parts is wholes else pairs_in(wholes, other_parts)
+        same += in_both
+        other_star += at_other_node - in_both
+        star_other += at_node - in_both
+        different += sum([PAIRS_OF[part.bit_count()] for part in parts]) - at_other_node
+        different_again += sum([PAIRS_OF[part.bit_count()] for part in other_parts]) - at_node
     assert different == different_again
     twice = [same, different, other_star, star_other]
     assert all(count % 2 == 0 for count in twice)

@@ -155,7 +155,7 @@ def changes(t: Table) -> Case:
             if word != t[at]:
                 counts[tree_refusal(t[:at] + [word] + t[at + 1:])] += 1
         counts[tree_refusal(t[:at] + [512] + t[at + 1:])] += X - 512
-    return Case(line(Kind.CHANGES, [], t), ["changes", *counts])
+    return Case(line(Kind.CHANGES, [], t, len(t)), ["changes", *counts])
 
 
 # ---- the cases

@@ -10,7 +10,8 @@
 //     5   4 labels table   topology: the number, then 1 and the partner, or 0
 //     6            table   every centre of three labels in rising order
 //     7            table   every topology of four labels in rising order: the partner, or 0 for a star
-//     8            table   every change of one word: how many tables are accepted, and refused by each number 1 to 7
+//     8            table   every change of one word, in as many cells as the table has words: how many tables are
+//                          accepted, and refused by each number 1 to 7
 //     9                    check of a table of as many zeros as there are cells
 //    10   table    table   crossings, on cells that hold 9000, 9001, ..: the number, then every cell
 //    11   table    table   split counts, on the same: the number, first, second, common, distance, then every cell
@@ -29,6 +30,7 @@ use super::pair_cases;
 use super::print;
 use super::quartet_cases;
 use super::tree_cases;
+ghost use Prim.Native.Nat.{_≤_};
 
 fn wide(x: u16) -> usize {
     x as usize
@@ -38,36 +40,41 @@ fn cells_of(thousands: u16, units: u16) -> usize {
     thousands as usize * 1000 + units as usize
 }
 
-fn most_cells(kind: u16) -> usize {
+// The most cells that a case of this kind gets. Two tables of 256 tips and 510 nodes need 259081.
+fn most_cells(kind: u16) -> usize
+    ensures { λ r. ⌜ r ≤ 259081 ⌝ }
+{
     match kind {
         1 | 10 | 11 | 12 => 1024,
         _ => 259081,
     }
 }
 
-fn ask_tree(kind: u16, first: &[u16], table: &[u16], work: &mut [u16]) {
+// The kinds that need no cells.
+fn ask_table(kind: u16, first: &[u16], table: &[u16]) {
     match kind {
         0 => tree_cases::check_case(table),
-        1 => tree_cases::walk_case(table, work),
-        2 => {
-            cells::number(work);
-            tree_cases::part_case(b"beyond", first, table, work);
-        }
-        3 => {
-            trees::walk(table, work);
-            tree_cases::part_case(b"walked", first, table, work);
-        }
         4 => tree_cases::centre_case(first, table),
         5 => tree_cases::topology_case(first, table),
         6 => fours::print_sets(b"centres", 3, table),
         7 => fours::print_sets(b"topologies", 4, table),
-        _ => {
-            cells::fill(work, 0);
-            tree_cases::check_case(work);
-        }
+        _ => print::bad_case(),
     }
 }
 
+// The kinds of one table and cells.
+fn ask_cells(kind: u16, first: &[u16], table: &[u16], work: &mut [u16]) {
+    match kind {
+        1 => tree_cases::walk_case(table, work),
+        2 => tree_cases::beyond_case(first, table, work),
+        3 => tree_cases::walked_case(first, table, work),
+        8 => changes::changes_case(table, work),
+        9 => tree_cases::zeros_case(work),
+        _ => ask_table(kind, first, table),
+    }
+}
+
+// The kinds of two tables.
 fn ask_pair(kind: u16, first: &[u16], second: &[u16], work: &mut [u16]) {
     match kind {
         10 => pair_cases::crossings_case(first, second, work),
@@ -75,41 +82,26 @@ fn ask_pair(kind: u16, first: &[u16], second: &[u16], work: &mut [u16]) {
         12 => pair_cases::crossings_case(second, second, work),
         13 => quartet_cases::quartets_case(first, second, work),
         14 => quartet_cases::quartets_case(second, second, work),
-        _ => print::bad_case(),
+        _ => ask_cells(kind, first, second, work),
     }
 }
 
-// The last cells of the work are lent.
-fn ask(kind: u16, cells: usize, len: usize, tables: &[u16], work: &mut [u16]) {
-    if most_cells(kind) < cells {
-        print::bad_case();
-        return;
+fn ask(kind: u16, cells: usize, len: usize, tables: &[u16]) {
+    let mut work = [0u16; 259081];
+    if cells <= most_cells(kind) {
+        if len <= tables.len() {
+            ask_pair(kind, &tables[..len], &tables[len..], &mut work[..cells]);
+            return;
+        }
     }
-    if tables.len() < len {
-        print::bad_case();
-        return;
-    }
-    if work.len() < cells {
-        print::bad_case();
-        return;
-    }
-    let from = work.len() - cells;
-    if kind < 10 {
-        ask_tree(kind, &tables[..len], &tables[len..], &mut work[from..]);
-    } else {
-        ask_pair(kind, &tables[..len], &tables[len..], &mut work[from..]);
-    }
+    print::bad_case();
 }
 
 // Runs the case of a line.
-pub(crate) fn run(words: &mut [u16], work: &mut [u16]) {
+pub(crate) fn run(words: &[u16]) {
     if words.len() < 4 {
         print::bad_case();
-        return;
-    }
-    if words[0] == 8 {
-        changes::changes_case(&mut words[4..]);
     } else {
-        ask(words[0], cells_of(words[1], words[2]), wide(words[3]), &words[4..], work);
+        ask(words[0], cells_of(words[1], words[2]), wide(words[3]), &words[4..]);
     }
 }

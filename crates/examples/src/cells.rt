@@ -18,6 +18,18 @@ pub(crate) fn number(cells: &mut [u16]) {
     }
 }
 
+// As many words in the cells as there are cells.
+pub(crate) fn copy(words: &[u16], cells: &mut [u16]) {
+    if words.len() < cells.len() {
+        return;
+    }
+    let mut i = 0;
+    while i < cells.len() {
+        cells[i] = words[i];
+        i += 1;
+    }
+}
+
 // x + y, or the largest number where that is too large.
 pub(crate) fn plus(x: u64, y: u64) -> u64 {
     if 18446744073709551615 - x < y {

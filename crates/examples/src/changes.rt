@@ -1,4 +1,5 @@
 // Every change of one word of a table, counted by what the check answers.
+use super::cells;
 use super::fours::one_more;
 use super::print;
 
@@ -27,7 +28,9 @@ fn try_words(table: &mut [u16], at: usize, counts: &mut [u64; 8]) {
     try_word(table, at, 65535, counts);
 }
 
-pub(crate) fn changes_case(table: &mut [u16]) {
+// The table is copied to the cells, and changed there.
+pub(crate) fn changes_case(words: &[u16], table: &mut [u16]) {
+    cells::copy(words, table);
     let mut counts = [0u64; 8];
     let mut at = 0;
     while at < table.len() {

@@ -24,12 +24,7 @@ fn four_at(code: u16) -> Four {
 
 // Whether the last three are labels below n in rising order.
 fn rises(four: Four, n: u16) -> bool {
-    if four.x < four.y {
-        if four.y < four.z {
-            return four.z < n;
-        }
-    }
-    false
+    (four.x < four.y) & (four.y < four.z) & (four.z < n)
 }
 
 // The tips of a table, or 0 where it is refused.

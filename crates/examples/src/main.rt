@@ -16,14 +16,14 @@ mod verdict; // verdict.rt: whether a quartet table is what the sets of four say
 use reader::Line;
 
 // Takes one byte of the text: a line end runs the case.
-fn step(line: Line, byte: u8, words: &mut [u16], work: &mut [u16]) -> Line {
+fn step(line: Line, byte: u8, words: &mut [u16]) -> Line {
     if byte != 10 {
         return reader::taken(line, byte, words);
     }
     let whole = reader::ended(line, words);
     let len = whole.len;
     if len <= words.len() {
-        cases::run(&mut words[..len], work);
+        cases::run(&words[..len]);
     }
     Line {
         len: 0,
@@ -32,10 +32,9 @@ fn step(line: Line, byte: u8, words: &mut [u16], work: &mut [u16]) -> Line {
     }
 }
 
-// Two tables of 256 tips have up to 2044 words, and need up to 259081 cells.
+// A line of two tables of 256 tips has up to 2048 numbers.
 fn read_cases(text: &[u8]) {
     let mut words = [0u16; 2100];
-    let mut work = [0u16; 259081];
     let mut line = Line {
         len: 0,
         number: 0,
@@ -43,7 +42,7 @@ fn read_cases(text: &[u8]) {
     };
     let mut i = 0;
     while i < text.len() {
-        line = step(line, text[i], &mut words, &mut work);
+        line = step(line, text[i], &mut words);
         i += 1;
     }
 }

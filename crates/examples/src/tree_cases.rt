@@ -26,7 +26,7 @@ pub(crate) fn walk_case(table: &[u16], walk: &mut [u16]) {
 }
 
 // The part of the walk beyond an edge.
-pub(crate) fn part_case(name: &[u8], edges: &[u16], table: &[u16], walk: &[u16]) {
+fn part_case(name: &[u8], edges: &[u16], table: &[u16], walk: &[u16]) {
     if edges.len() != 1 {
         print::bad_case();
         return;
@@ -35,6 +35,21 @@ pub(crate) fn part_case(name: &[u8], edges: &[u16], table: &[u16], walk: &[u16])
     print::number(trees::beyond_refusal(table, edges[0], walk));
     print::numbers(trees::beyond(table, edges[0], walk));
     print::end();
+}
+
+pub(crate) fn beyond_case(edges: &[u16], table: &[u16], walk: &mut [u16]) {
+    cells::number(walk);
+    part_case(b"beyond", edges, table, walk);
+}
+
+pub(crate) fn walked_case(edges: &[u16], table: &[u16], walk: &mut [u16]) {
+    trees::walk(table, walk);
+    part_case(b"walked", edges, table, walk);
+}
+
+pub(crate) fn zeros_case(table: &mut [u16]) {
+    cells::fill(table, 0);
+    check_case(table);
 }
 
 pub(crate) fn centre_case(labels: &[u16], table: &[u16]) {
@@ -49,6 +64,16 @@ pub(crate) fn centre_case(labels: &[u16], table: &[u16]) {
     print::end();
 }
 
+fn print_topology(topology: Topology) {
+    match topology {
+        Topology::Butterfly(partner) => {
+            print::number(1);
+            print::number(partner);
+        }
+        Topology::Star => print::number(0),
+    }
+}
+
 pub(crate) fn topology_case(labels: &[u16], table: &[u16]) {
     if labels.len() != 4 {
         print::bad_case();
@@ -58,12 +83,6 @@ pub(crate) fn topology_case(labels: &[u16], table: &[u16]) {
     print::name(b"topology");
     print::number(answer.refusal);
     let topology = answer.topology;
-    match topology {
-        Topology::Butterfly(partner) => {
-            print::number(1);
-            print::number(partner);
-        }
-        Topology::Star => print::number(0),
-    }
+    print_topology(topology);
     print::end();
 }

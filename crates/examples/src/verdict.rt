@@ -17,19 +17,9 @@ fn sets_of_four(n: u64) -> u64 {
 }
 
 fn is_counted(table: QuartetTable, counts: &[u64; 8]) -> bool {
-    if table.a != counts[0] {
-        return false;
-    }
-    if table.b != counts[1] {
-        return false;
-    }
-    if table.c != counts[2] {
-        return false;
-    }
-    if table.d != counts[3] {
-        return false;
-    }
-    table.e == counts[4]
+    let butterflies = (table.a == counts[0]) & (table.b == counts[1]);
+    let stars = (table.c == counts[2]) & (table.d == counts[3]) & (table.e == counts[4]);
+    butterflies & stars
 }
 
 fn adds_up(table: QuartetTable, n: u16) -> bool {
@@ -51,18 +41,22 @@ fn agrees(table: QuartetTable, first: &[u16], second: &[u16], n: u16) -> bool {
     is_counted(table, &counts)
 }
 
-pub(crate) fn print_of(table: QuartetTable, first: &[u16], second: &[u16]) {
-    if table.refusal != 0 {
-        print::name(b" refused");
-        return;
-    }
-    let n = fours::tips_of(first);
+fn print_agreement(n: u16, agrees: bool) {
     if 16 < n {
         print::name(b" large");
     }
-    if agrees(table, first, second, n) {
+    if agrees {
         print::name(b" agrees");
     } else {
         print::name(b" differs");
+    }
+}
+
+pub(crate) fn print_of(table: QuartetTable, first: &[u16], second: &[u16]) {
+    if table.refusal != 0 {
+        print::name(b" refused");
+    } else {
+        let n = fours::tips_of(first);
+        print_agreement(n, agrees(table, first, second, n));
     }
 }

@@ -8,10 +8,10 @@ use Rattle.examples.proofs.read_cases.Statement.{statement}
 use Rattle.examples.proofs.read_cases.Tie as tie
 
 abbrev Inv-loop : tie.InvT-loop
-Inv-loop text words₀ work₀ line₀ i₀ words work line i = (length words ≡ 2100) × (length work ≡ 259081)
+Inv-loop text words₀ line₀ i₀ words line i = length words ≡ 2100
 
 abbrev μ-loop : tie.MeasureT-loop
-μ-loop text words₀ work₀ line₀ i₀ words work line i = length text - i
+μ-loop text words₀ line₀ i₀ words line i = length text - i
 
 loop-holds : tie.Need-loop-holds Inv-loop μ-loop
 loop-holds c = search needs
@@ -21,9 +21,6 @@ shared-slice-read-step c = search needs
 
 slice-aggregate-step : tie.Need-slice-aggregate-step Inv-loop μ-loop
 slice-aggregate-step c = search needs
-
-slice-aggregate-step-2 : tie.Need-slice-aggregate-step-2 Inv-loop μ-loop
-slice-aggregate-step-2 c = search needs
 
 step-requires : tie.Need-step-requires Inv-loop μ-loop
 step-requires c κs = search needs
@@ -49,7 +46,6 @@ read-cases-spec =
     loop-holds
     shared-slice-read-step
     slice-aggregate-step
-    slice-aggregate-step-2
     step-requires
     add-i
     loop-less

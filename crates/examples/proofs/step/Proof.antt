@@ -1,6 +1,7 @@
 -- The part of the words that is lent has its length.
 -- Assumes nothing.
 use mathlib.Core.Path.{sym}
+use native.Mathlib.Omega.{arith}
 use lib.Seq.{length-take-le}
 use borrow.Author.Needs.{needs}
 use Rattle.examples.proofs.step.Statement.{statement}
@@ -18,12 +19,11 @@ returns c = search needs
 ended-requires : tie.Need-ended-requires
 ended-requires c κs = search needs
 
-slice-relend-prefix-run : tie.Need-slice-relend-prefix-run
-slice-relend-prefix-run c = search needs
+slice-reshare-prefix-run : tie.Need-slice-reshare-prefix-run
+slice-reshare-prefix-run c = search needs
 
 slice-aggregate-run : tie.Need-slice-aggregate-run
-slice-aggregate-run c =
-    sym (length-take-le _ _ (c .before .if2 .taken))
+slice-aggregate-run c = sym (length-take-le _ _ (omega arith))
 
 run-requires : tie.Need-run-requires
 run-requires c κs = search needs
@@ -31,14 +31,11 @@ run-requires c κs = search needs
 same-length-2 : tie.Need-same-length-2
 same-length-2 c = search needs
 
-same-length-3 : tie.Need-same-length-3
-same-length-3 c = search needs
-
 returns-2 : tie.Need-returns-2
 returns-2 c = search needs
 
-same-length-4 : tie.Need-same-length-4
-same-length-4 c = search needs
+same-length-3 : tie.Need-same-length-3
+same-length-3 c = search needs
 
 returns-3 : tie.Need-returns-3
 returns-3 c = search needs
@@ -51,11 +48,10 @@ step-spec =
     same-length
     returns
     ended-requires
-    slice-relend-prefix-run
+    slice-reshare-prefix-run
     slice-aggregate-run
     run-requires
     same-length-2
-    same-length-3
     returns-2
-    same-length-4
+    same-length-3
     returns-3)

@@ -8,10 +8,13 @@ use Rattle.examples.proofs.changes.changes_case.Statement.{statement}
 use Rattle.examples.proofs.changes.changes_case.Tie as tie
 
 abbrev Inv-loop : tie.InvT-loop
-Inv-loop table₀ counts₀ at₀ t4 table counts at = length table ≡ length table₀
+Inv-loop words table₀ counts₀ at₀ t5 table counts at = length table ≡ length table₀
 
 abbrev μ-loop : tie.MeasureT-loop
-μ-loop table₀ counts₀ at₀ t4 table counts at = length table₀ - at
+μ-loop words table₀ counts₀ at₀ t5 table counts at = length table₀ - at
+
+copy-requires : tie.Need-copy-requires Inv-loop μ-loop
+copy-requires c κs = search needs
 
 loop-holds : tie.Need-loop-holds Inv-loop μ-loop
 loop-holds c = search needs
@@ -52,6 +55,7 @@ changes-case-spec =
     (tie.spec
     Inv-loop
     μ-loop
+    copy-requires
     loop-holds
     try-words-requires
     add-at
