@@ -6,8 +6,8 @@
 
 Nothing is built here: `rt check compare` does that. Nothing here knows how the program works: every file is cut and
 checked rule by rule, every set of four is looked up edge by edge, claims are listed one by one, and splits are sets of
-labels. Above 16 tips the sets of four are counted by quartet_cases.py, by threes. bin/compare is tried in a copy of its
-folder, with an rt that proves nothing and puts the program in its place.
+labels. The refusal of one table, and above 16 tips the count of the sets of four by pairs, are those of cases/. bin/compare
+is tried in a copy of its folder, with an rt that proves nothing and puts the program in its place.
 """
 import itertools
 import os
@@ -26,8 +26,9 @@ from math import comb
 from typing import Any
 
 sys.dont_write_bytecode = True
-from quartet_cases import cases_by_threes, related_pair, unrelated_pair, with_labels_exchanged
-from tree_cases import OUTSIDE, P, Q, R, THREE, TWO, W, X, balanced, caterpillar, damaged, star, table
+from cases.quartets import cases_by_pairs
+from cases.shapes import balanced, caterpillar, related_pair, star, unrelated_pair, with_labels_exchanged
+from cases.tables import OUTSIDE, P, Q, R, THREE, TWO, W, X, damaged, table, tree_refusal
 
 ROOT = pathlib.Path(__file__).resolve().parent.parent
 PROGRAM = pathlib.Path(os.environ.get("LESKWYN_COMPARE") or ROOT / "target" / "bin" / "compare").absolute()
@@ -70,31 +71,7 @@ def changed(t: list[int], at: int, word: int) -> list[int]:
     return t[:at] + [word] + t[at + 1:]
 
 
-# ---- the refusals of docs/SPECIFICATION.md, in their order
-
-def tree_refusal(t):
-    """The number of the tree check; 0 stands for accepted."""
-    if len(t) < 2:
-        return 1
-    n, m = t[:2]
-    if n not in range(2, 257):
-        return 2
-    if m not in range(n, 2 * n - 1):
-        return 3
-    if len(t) != 2 + 2 * m:
-        return 4
-    parents, labels = t[2:2 + m], t[2 + m:]
-    if parents[:2] != [0, 0] or any(parents[i] not in range(1, i) for i in range(2, m)):
-        return 5
-    if labels[0] != 0 or any(label != X and label >= n for label in labels):
-        return 6
-    if any(labels.count(label) != 1 for label in range(n)):
-        return 6
-    children = [parents[1:].count(i) for i in range(m)]
-    if any(children[i] < 2 if labels[i] == X else children[i] > 0 for i in range(1, m)):
-        return 7
-    return 0
-
+# ---- the refusals of a file, in their order
 
 def cut(content: bytes) -> tuple[list[int], list[int]]:
     """The words of the first tree, and those of the second."""
@@ -203,7 +180,7 @@ def listing(content: bytes) -> bytes:
     if number:
         return b"refused %d\n" % number
     t, u = cut(content)
-    five = cases(t, u) if t[0] <= ENUMERATED else cases_by_threes(t, u)
+    five = cases(t, u) if t[0] <= ENUMERATED else cases_by_pairs(t, u)
     one, other = splits(t), splits(u)
     lines = {"leaves": [t[0]], "claims": [claim_sum(t), claim_sum(u), *pair_sums(t, u)], "quartets": five,
              "distance": [sum(five[1:4])], "splits": [len(one), len(other), len(one & other), len(one ^ other)]}

@@ -4,7 +4,7 @@
     python3 tests/newick_tests.py
 
 Nothing here knows how the tool works: a random tree is a set of edges, its splits come from walking over them, a
-table's splits come from climbing its parent words, and the check of a table is written from that page.
+table's splits come from climbing its parent words, and the check of a table is that of cases/tables.py.
 """
 import contextlib
 import importlib.machinery
@@ -21,25 +21,18 @@ import unittest
 import unittest.mock
 from collections.abc import Callable, Iterable
 
+sys.dont_write_bytecode = True
+from cases.tables import P, Q, R, THREE, TWO, W, X, tree_refusal
+
 # Without installed packages: the tool needs none, and starts sooner.
 PYTHON = [sys.executable, "-I", "-S"]
 TOOL = pathlib.Path(__file__).resolve().parent.parent / "tools" / "newick"
-X = 65535
 Done = subprocess.CompletedProcess[bytes]
 Run = Callable[..., Done]
 Splits = set[frozenset[frozenset[int]]]
 
-# docs/SPECIFICATION.md, 'Reference pairs'.
-P = [5, 8, 0, 0, 1, 1, 3, 3, 5, 5, 0, X, 1, X, 2, X, 3, 4]
-Q = [5, 7, 0, 0, 1, 1, 3, 3, 3, 0, X, 1, X, 2, 3, 4]
-R = [5, 8, 0, 0, 1, 1, 3, 3, 5, 5, 0, X, 2, X, 1, X, 3, 4]
-W = [5, 6, 0, 0, 1, 1, 1, 1, 0, X, 1, 2, 3, 4]
-TWO = [2, 2, 0, 0, 0, 1]
-THREE = [3, 4, 0, 0, 1, 1, 0, X, 1, 2]
-
 
 def load_tool() -> types.ModuleType:
-    sys.dont_write_bytecode = True
     loader = importlib.machinery.SourceFileLoader("newick", str(TOOL))
     module = importlib.util.module_from_spec(importlib.util.spec_from_loader("newick", loader))
     loader.exec_module(module)
@@ -63,29 +56,6 @@ def two_tables(content: bytes) -> tuple[list[int], list[int]]:
     words = unpacked(content)
     size = 2 + 2 * words[1]
     return words[:size], words[size:]
-
-
-def tree_refusal(t):
-    """The number of the tree check; 0 stands for accepted."""
-    if len(t) < 2:
-        return 1
-    n, m = t[0], t[1]
-    if n < 2 or n > 256:
-        return 2
-    if m < n or m > 2 * n - 2:
-        return 3
-    if len(t) != 2 + 2 * m:
-        return 4
-    parent, label = t[2:2 + m], t[2 + m:]
-    if parent[0] != 0 or parent[1] != 0 or any(parent[i] == 0 or parent[i] >= i for i in range(2, m)):
-        return 5
-    if label[0] != 0 or sorted(word for word in label if word != X) != list(range(n)):
-        return 6
-    for i in range(1, m):
-        children = sum(1 for j in range(2, m) if parent[j] == i)
-        if (label[i] == X and children < 2) or (label[i] != X and children > 0):
-            return 7
-    return 0
 
 
 def edge_sets(t: list[int]) -> list[list[int]]:

@@ -1,0 +1,107 @@
+// One case: KIND THOUSANDS UNITS WORDS FIRST SECOND. The call gets 1000 times THOUSANDS plus UNITS cells; FIRST has
+// WORDS words and SECOND the rest of the line.
+//
+//   KIND  FIRST    SECOND  asked; what is printed after the name
+//     0            table   check: the number, or 0 with tips and nodes
+//     1            table   walk into the cells, which hold 9000, 9001, ..: the number, then every cell
+//     2   edge     table   beyond, on cells that hold 9000, 9001, ..: the number, then the part
+//     3   edge     table   beyond, on the walk that `walk` writes: the number, then the part
+//     4   3 labels table   centre: the number and the node
+//     5   4 labels table   topology: the number, then 1 and the partner, or 0
+//     6            table   every centre of three labels in rising order
+//     7            table   every topology of four labels in rising order: the partner, or 0 for a star
+//     8            table   every change of one word, in as many cells as the table has words: how many tables are
+//                          accepted, and refused by each number 1 to 7
+//     9                    check of a table of as many zeros as there are cells
+//    10   table    table   crossings, on cells that hold 9000, 9001, ..: the number, then every cell
+//    11   table    table   split counts, on the same: the number, first, second, common, distance, then every cell
+//    12            table   crossings of one slice as both trees
+//    13   table    table   claim sums and the quartet table, on cells that hold 7: claims, the number, S, S', S2, S3 and
+//                          the sum of the cells afterwards; quartets, the number, A to E, the distance and the sum of the
+//                          cells afterwards; last what verdict.rt says of the table
+//    14            table   claim sums and the quartet table of one slice as both trees
+//
+// Any other kind, more cells than there are (1024 where every cell is printed), fewer words than WORDS, and another
+// number of edges or labels, are a bad case.
+use super::cells;
+use super::changes;
+use super::fours;
+use super::pair_cases;
+use super::print;
+use super::quartet_cases;
+use super::tree_cases;
+ghost use Prim.Native.Nat.{_≤_};
+
+fn wide(x: u16) -> usize {
+    x as usize
+}
+
+fn cells_of(thousands: u16, units: u16) -> usize {
+    thousands as usize * 1000 + units as usize
+}
+
+// The most cells that a case of this kind gets. Two tables of 256 tips and 510 nodes need 259081.
+fn most_cells(kind: u16) -> usize
+    ensures { λ r. ⌜ r ≤ 259081 ⌝ }
+{
+    match kind {
+        1 | 10 | 11 | 12 => 1024,
+        _ => 259081,
+    }
+}
+
+// The kinds that need no cells.
+fn ask_table(kind: u16, first: &[u16], table: &[u16]) {
+    match kind {
+        0 => tree_cases::check_case(table),
+        4 => tree_cases::centre_case(first, table),
+        5 => tree_cases::topology_case(first, table),
+        6 => fours::print_sets(b"centres", 3, table),
+        7 => fours::print_sets(b"topologies", 4, table),
+        _ => print::bad_case(),
+    }
+}
+
+// The kinds of one table and cells.
+fn ask_cells(kind: u16, first: &[u16], table: &[u16], work: &mut [u16]) {
+    match kind {
+        1 => tree_cases::walk_case(table, work),
+        2 => tree_cases::beyond_case(first, table, work),
+        3 => tree_cases::walked_case(first, table, work),
+        8 => changes::changes_case(table, work),
+        9 => tree_cases::zeros_case(work),
+        _ => ask_table(kind, first, table),
+    }
+}
+
+// The kinds of two tables.
+fn ask_pair(kind: u16, first: &[u16], second: &[u16], work: &mut [u16]) {
+    match kind {
+        10 => pair_cases::crossings_case(first, second, work),
+        11 => pair_cases::splits_case(first, second, work),
+        12 => pair_cases::crossings_case(second, second, work),
+        13 => quartet_cases::quartets_case(first, second, work),
+        14 => quartet_cases::quartets_case(second, second, work),
+        _ => ask_cells(kind, first, second, work),
+    }
+}
+
+fn ask(kind: u16, cells: usize, len: usize, tables: &[u16]) {
+    let mut work = [0u16; 259081];
+    if cells <= most_cells(kind) {
+        if len <= tables.len() {
+            ask_pair(kind, &tables[..len], &tables[len..], &mut work[..cells]);
+            return;
+        }
+    }
+    print::bad_case();
+}
+
+// Runs the case of a line.
+pub(crate) fn run(words: &[u16]) {
+    if words.len() < 4 {
+        print::bad_case();
+    } else {
+        ask(words[0], cells_of(words[1], words[2]), wide(words[3]), &words[4..]);
+    }
+}

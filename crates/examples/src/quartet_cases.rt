@@ -1,0 +1,37 @@
+// Cases of two tables that are counted, from 7 in every cell before each call.
+use super::cells;
+use super::print;
+use super::verdict;
+
+fn print_claims(first: &[u16], second: &[u16], work: &mut [u16]) {
+    cells::fill(work, 7);
+    let sums = quartets::claim_sums(first, second, work);
+    print::name(b"claims");
+    print::number(sums.refusal);
+    print::large(sums.first);
+    print::large(sums.second);
+    print::large(sums.same);
+    print::large(sums.different);
+    print::large(cells::sum_of(work));
+}
+
+fn print_table(first: &[u16], second: &[u16], work: &mut [u16]) {
+    cells::fill(work, 7);
+    let table = quartets::quartet_table(first, second, work);
+    print::name(b" quartets");
+    print::number(table.refusal);
+    print::large(table.a);
+    print::large(table.b);
+    print::large(table.c);
+    print::large(table.d);
+    print::large(table.e);
+    print::large(table.distance);
+    print::large(cells::sum_of(work));
+    verdict::print_of(table, first, second);
+}
+
+pub(crate) fn quartets_case(first: &[u16], second: &[u16], work: &mut [u16]) {
+    print_claims(first, second, work);
+    print_table(first, second, work);
+    print::end();
+}
