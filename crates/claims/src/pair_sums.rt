@@ -23,9 +23,9 @@ fn node_row(
     width: usize,
     n: u16,
     rows: &[usize],
-    parents: &[u16],
-    starts: &[usize],
-    edges: &[usize],
+    second_parents: &[u16],
+    second_starts: &[usize],
+    second_edges: &[usize],
     inner: &[usize],
     count: usize,
     block: &mut [Cell],
@@ -35,15 +35,16 @@ fn node_row(
     along: &mut [u64],
     dots: &mut [u64],
 ) -> PairTerms
-    requires { ⌜ RowRoom (now work) width n (now rows) (now parents) (now starts) (now edges) (length (now block)) ⌝ }
+    requires { ⌜ RowRoom (now work) width n (now rows) (now «second_parents») (now «second_starts»)
+        (now «second_edges») (length (now block)) ⌝ }
     requires { ⌜ Scratch (now sums) (now totals) (now down) (now along) (now dots) ⌝ }
-    requires { ⌜ InnerNodes (now parents) (now inner) count (length (now parents))
+    requires { ⌜ InnerNodes (now «second_parents») (now inner) count (length (now «second_parents»))
         × (count ≤ length (now inner)) ⌝ }
     ensures { λ r. ⌜
-        (r .s2 ≡ sum (length (now (parents .entry)))
-        (rowS2 (now (work .entry)) width n (now (rows .entry)) (now (parents .entry))))
-        × (r .s3 ≡ sum (length (now (parents .entry)))
-        (rowS3 (now (work .entry)) width n (now (rows .entry)) (now (parents .entry))))
+        (r .s2 ≡ sum (length (now («second_parents» .entry)))
+        (rowS2 (now (work .entry)) width n (now (rows .entry)) (now («second_parents» .entry))))
+        × (r .s3 ≡ sum (length (now («second_parents» .entry)))
+        (rowS3 (now (work .entry)) width n (now (rows .entry)) (now («second_parents» .entry))))
         ⌝ }
 {
     if rows.len() < 3 {
@@ -54,14 +55,14 @@ fn node_row(
     let mut i = 0;
     while i < count {
         let v = inner[i];
-        let from = starts[v];
-        let to = starts[v + 1];
+        let from = second_starts[v];
+        let to = second_starts[v + 1];
         let pair = node_pair(
             work,
             width,
             n,
             rows,
-            &edges[from..to],
+            &second_edges[from..to],
             block,
             sums,
             totals,
@@ -80,25 +81,28 @@ fn node_row(
 pub(crate) fn pair_sums(
     work: &[Cell],
     n: u16,
-    parents: &[u16],
-    starts: &[usize],
-    edges: &[usize],
-    others: &[u16],
-    begins: &[usize],
-    columns: &[usize],
+    first_parents: &[u16],
+    first_starts: &[usize],
+    first_edges: &[usize],
+    second_parents: &[u16],
+    second_starts: &[usize],
+    second_edges: &[usize],
 ) -> PairTerms
-    requires { ⌜ NodePairs (now work) (length (now others) - 1) n (now parents) (now starts) (now edges)
-        (now others) (now begins) (now columns) ⌝ }
+    requires { ⌜ NodePairs (now work) (length (now «second_parents») - 1) n
+        (now «first_parents») (now «first_starts») (now «first_edges»)
+        (now «second_parents») (now «second_starts») (now «second_edges») ⌝ }
     ensures { λ r. ⌜
-        (r .s2 ≡ sum (length (now (parents .entry)))
-        (nodeS2 (now (work .entry)) (length (now (others .entry)) - 1) n (now (parents .entry)) (now (others .entry))))
-        × (r .s3 ≡ sum (length (now (parents .entry)))
-        (nodeS3 (now (work .entry)) (length (now (others .entry)) - 1) n (now (parents .entry)) (now (others .entry))))
+        (r .s2 ≡ sum (length (now («first_parents» .entry)))
+        (nodeS2 (now (work .entry)) (length (now («second_parents» .entry)) - 1) n
+        (now («first_parents» .entry)) (now («second_parents» .entry))))
+        × (r .s3 ≡ sum (length (now («first_parents» .entry)))
+        (nodeS3 (now (work .entry)) (length (now («second_parents» .entry)) - 1) n
+        (now («first_parents» .entry)) (now («second_parents» .entry))))
         ⌝ }
 {
-    let width = others.len() - 1;
+    let width = second_parents.len() - 1;
     let mut inner = [0usize; NODES];
-    let count = inner_nodes(&begins[..others.len() + 1], &mut inner);
+    let count = inner_nodes(&second_starts[..second_parents.len() + 1], &mut inner);
     let mut block: [Cell; BLOCK] = [0; BLOCK];
     let mut sums = [0u64; TIPS];
     let mut totals = [0u64; TIPS];
@@ -108,17 +112,17 @@ pub(crate) fn pair_sums(
     let mut s2: u64 = 0;
     let mut s3: u64 = 0;
     let mut v = 0;
-    while v < parents.len() {
-        let from = starts[v];
-        let to = starts[v + 1];
+    while v < first_parents.len() {
+        let from = first_starts[v];
+        let to = first_starts[v + 1];
         let row = node_row(
             work,
             width,
             n,
-            &edges[from..to],
-            others,
-            begins,
-            columns,
+            &first_edges[from..to],
+            second_parents,
+            second_starts,
+            second_edges,
             &inner,
             count,
             &mut block,

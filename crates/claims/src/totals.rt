@@ -25,28 +25,28 @@ pub struct ClaimSums {
 }
 
 // The sums of two trees given by their parents, whose crossings are in the cells.
-fn sums_of(parents: &[u16], others: &[u16], work: &[Cell], n: u16) -> ClaimSums
-    requires { ⌜ Summable (now work) n (now parents) (now others) ⌝ }
-    ensures { λ r. ⌜ r ≡ summed (now (work .entry)) n (now (parents .entry)) (now (others .entry)) ⌝ }
+fn sums_of(first_parents: &[u16], second_parents: &[u16], work: &[Cell], n: u16) -> ClaimSums
+    requires { ⌜ Summable (now work) n (now «first_parents») (now «second_parents») ⌝ }
+    ensures { λ r. ⌜ r ≡ summed (now (work .entry)) n (now («first_parents» .entry)) (now («second_parents» .entry)) ⌝ }
 {
-    let mut starts = [0usize; NODES];
-    let mut edges = [0usize; CODES];
-    list_codes(parents, &mut starts, &mut edges);
-    let mut begins = [0usize; NODES];
-    let mut columns = [0usize; CODES];
-    list_codes(others, &mut begins, &mut columns);
+    let mut first_starts = [0usize; NODES];
+    let mut first_edges = [0usize; CODES];
+    list_codes(first_parents, &mut first_starts, &mut first_edges);
+    let mut second_starts = [0usize; NODES];
+    let mut second_edges = [0usize; CODES];
+    list_codes(second_parents, &mut second_starts, &mut second_edges);
     let mut sizes: [Cell; TIPS] = [0; TIPS];
     let first = tree_sum(
         work,
-        others.len() - 1,
+        second_parents.len() - 1,
         n,
-        parents,
-        &starts,
-        &edges,
+        first_parents,
+        &first_starts,
+        &first_edges,
         &mut sizes,
     );
-    let second = tree_sum(work, 1, n, others, &begins, &columns, &mut sizes);
-    let pairs = pair_sums(work, n, parents, &starts, &edges, others, &begins, &columns);
+    let second = tree_sum(work, 1, n, second_parents, &second_starts, &second_edges, &mut sizes);
+    let pairs = pair_sums(work, n, first_parents, &first_starts, &first_edges, second_parents, &second_starts, &second_edges);
     ClaimSums {
         refusal: 0,
         first: first / 2,

@@ -30,11 +30,8 @@ use super::pair_cases;
 use super::print;
 use super::quartet_cases;
 use super::tree_cases;
+use table_words::as_index;
 ghost use Prim.Native.Nat.{_≤_};
-
-fn wide(x: u16) -> usize {
-    x as usize
-}
 
 fn cells_of(thousands: u16, units: u16) -> usize {
     thousands as usize * 1000 + units as usize
@@ -102,6 +99,6 @@ pub(crate) fn run(words: &[u16]) {
     if words.len() < 4 {
         print::bad_case();
     } else {
-        ask(words[0], cells_of(words[1], words[2]), wide(words[3]), &words[4..]);
+        ask(words[0], cells_of(words[1], words[2]), as_index(words[3]), &words[4..]);
     }
 }

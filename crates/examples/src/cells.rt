@@ -1,4 +1,5 @@
 // The cells that are lent to a call: what they hold before, and their sum afterwards.
+use table_words::cell_count;
 
 // x in every cell.
 pub(crate) fn fill(cells: &mut [u16], x: u16) {
@@ -38,15 +39,11 @@ pub(crate) fn plus(x: u64, y: u64) -> u64 {
     x + y
 }
 
-fn wide(x: u16) -> u64 {
-    x as u64
-}
-
 pub(crate) fn sum_of(cells: &[u16]) -> u64 {
     let mut sum = 0;
     let mut i = 0;
     while i < cells.len() {
-        sum = plus(sum, wide(cells[i]));
+        sum = plus(sum, cell_count(cells[i]));
         i += 1;
     }
     sum

@@ -2,10 +2,7 @@
 use super::cells;
 use super::fours::one_more;
 use super::print;
-
-fn wide(x: u16) -> usize {
-    x as usize
-}
+use table_words::as_index;
 
 // The number of the check where the word at `at` is x, counted unless x stands there; the word is put back.
 fn try_word(table: &mut [u16], at: usize, x: u16, counts: &mut [u64; 8]) {
@@ -13,7 +10,7 @@ fn try_word(table: &mut [u16], at: usize, x: u16, counts: &mut [u64; 8]) {
         let old = table[at];
         if x != old {
             table[at] = x;
-            one_more(counts, wide(trees::refusal_of(trees::check(table))));
+            one_more(counts, as_index(trees::refusal_of(trees::check(table))));
             table[at] = old;
         }
     }

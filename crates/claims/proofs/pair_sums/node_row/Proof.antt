@@ -1,21 +1,22 @@
 -- The invariant: the pairs with the first `i` listed nodes of the second tree are summed.
 -- Assumes nothing.
-use Prim.Native.Nat.{ℕ, _-_, _≤_, _<_}
+use Prim.Native.Nat.{ℕ, _+_, _-_, _≤_, _<_}
 use mathlib.Core.Path.{_≡_, refl, sym, _∙_}
 use native.Mathlib.Omega.{arith}
 use lib.ListN.{length}
+use Rattle.table_words.specs.Sizes.{nodeRoom}
 use Rattle.tree_check.specs.Table.{word}
 use Rattle.claims.specs.lemmas.CodeLists.{part-inside}
 use Rattle.claims.specs.lemmas.PairLoops.{Summed, summed-none, summed-next, summed-most, summed-all}
-use Rattle.claims.specs.lemmas.PairLoops.{rowS2, rowS3, few-row, inner-S2, inner-S3, row-room, row-S2, row-S3}
+use Rattle.claims.specs.lemmas.PairLoops.{NodeRow, rowS2, rowS3, few-row, inner-S2, inner-S3, row-room, row-S2, row-S3}
 use Rattle.claims.proofs.pair_sums.node_row.Statement.{statement}
 use Rattle.claims.proofs.pair_sums.node_row.Tie as tie
 
 abbrev Inv-loop : tie.InvT-loop
-Inv-loop work width n rows parents starts edges inner count block₀ sums₀ totals₀ down₀ along₀ dots₀ s2₀ s3₀ i₀
-    block sums totals down along dots s2 s3 i =
+Inv-loop work width n rows qs starts edges inner count
+    block₀ sums₀ totals₀ down₀ along₀ dots₀ s2₀ s3₀ i₀ block sums totals down along dots s2 s3 i =
     (i ≤ count)
-    × Summed (λ k. rowS2 work width n rows parents (word inner k)) (λ k. rowS3 work width n rows parents (word inner k))
+    × Summed (λ k. rowS2 work width n rows qs (word inner k)) (λ k. rowS3 work width n rows qs (word inner k))
     i s2 s3
     × (length block ≡ length block₀)
     × (length sums ≡ length sums₀)
@@ -25,189 +26,159 @@ Inv-loop work width n rows parents starts edges inner count block₀ sums₀ tot
     × (length dots ≡ length dots₀)
 
 abbrev μ-loop : tie.MeasureT-loop
-μ-loop work width n rows parents starts edges inner count block₀ sums₀ totals₀ down₀ along₀ dots₀ s2₀ s3₀ i₀
-    block sums totals down along dots s2 s3 i = count - i
+μ-loop work width n rows qs starts edges inner count
+    block₀ sums₀ totals₀ down₀ along₀ dots₀ s2₀ s3₀ i₀ block sums totals down along dots s2 s3 i = count - i
+
+-- ---- the points of the program
+
+abbrev start : tie.In-loop Inv-loop μ-loop → tie.Start Inv-loop μ-loop
+start c = c .before .before .before .before .before .before .before .before .before .before .before .before .before .before .before
+
+-- after a pair of nodes, the turn
+abbrev turn : tie.After-node-pair Inv-loop μ-loop → tie.In-loop Inv-loop μ-loop
+turn c = c .before .before .before .before .before .before .before .before .before .before .before
+
+-- in a turn the first tree's node has three codes or more into it, ..
+row : (c : tie.In-loop Inv-loop μ-loop)
+    → (let a = start c .args in NodeRow (a .work .now) (a .width) (a .n) (a .rows .now) (a .second-parents .now) (a .second-starts .now)
+    (a .second-edges .now) (length (a .block .now)))
+row c = start c .pre .0 .row (omega (arith, c .before .before .if1 .left))
+
+-- .. and the listed one is a node of the second
+node : (c : tie.In-loop Inv-loop μ-loop)
+    → (let a = start c .args in word (a .inner .now) (c .before .loop .i) < length (a .second-parents .now))
+node c = start c .pre .1 .1 .0 .before _ (c .loop-test .taken)
+
+-- what is read in it lies in its slices
+low : (c : tie.In-loop Inv-loop μ-loop)
+    → (let a = start c .args in
+    (word (a .inner .now) (c .before .loop .i) < 510) × (length (a .second-starts .now) ≡ nodeRoom) × (a .count ≤ 510))
+low c =
+    let h = row c .lists in (
+      omega (arith, h .parents .few, node c),
+      h .begins .long,
+      omega (arith, h .parents .few, start c .pre .1 .1 .0 .few),
+    )
+
+-- the sums with the turn's pair
+module _ (c : tie.After-node-pair Inv-loop μ-loop) where
+  abbrev l : tie.In-loop Inv-loop μ-loop
+  l = turn c
+
+  summed : (let a = start l .args in
+      Summed (λ k. rowS2 (a .work .now) (a .width) (a .n) (a .rows .now) (a .second-parents .now) (word (a .inner .now) k))
+      (λ k. rowS3 (a .work .now) (a .width) (a .n) (a .rows .now) (a .second-parents .now) (word (a .inner .now) k))
+      (l .before .loop .i + 1) (l .before .loop .s2 + c .node-pair .result .s2)
+      (l .before .loop .s3 + c .node-pair .result .s3))
+  summed = summed-next _ _ _ _ _ (l .before .loop .inv .1) _ _
+      (row-S2 _ _ _ _ _ _ _ _ (row l) _ (node l) _ (c .node-pair .ensures .0))
+      (row-S3 _ _ _ _ _ _ _ _ (row l) _ (node l) _ (c .node-pair .ensures .1))
+
+  sums-low : (l .before .loop .s2 + c .node-pair .result .s2 ≤ 699170560)
+      × (l .before .loop .s3 + c .node-pair .result .s3 ≤ 699170560)
+  sums-low =
+      let a = start l .args in
+      let n = start l .pre .1 .1 .0 in
+      let h = row l in
+      summed-most _ _ _ _ _ summed (a .count) 699170560 (omega (arith, l .loop-test .taken))
+      (omega (arith, inner-S2 (a .work .now) (a .width) (a .n) (a .rows .now) _ _ _ n, h .all-S2))
+      (omega (arith, inner-S3 (a .work .now) (a .width) (a .n) (a .rows .now) _ _ _ n, h .all-S3))
+
+-- ---- what is asked there
 
 returns : tie.Need-returns Inv-loop μ-loop
 returns c =
     let a = c .before .before .before .before .before .before .before .before .before .before .before .before .before .args in
-    let q = few-row (a .work .now) (a .width) (a .n) (a .rows .now) (a .parents .now) (c .if1 .taken) in
+    let q = few-row (a .work .now) (a .width) (a .n) (a .rows .now) (a .second-parents .now) (c .if1 .taken) in
     (sym (q .0), sym (q .1))
 
 loop-holds : tie.Need-loop-holds Inv-loop μ-loop
 loop-holds c = (omega arith, summed-none _ _, refl, refl, refl, refl, refl, refl)
 
 mul-v : tie.Need-mul-v Inv-loop μ-loop
-mul-v c =
-    let l = c in
-    let s = l .before .before .before .before .before .before .before .before .before .before .before .before .before .before .before in
-    let h = s .pre .0 .row (omega (arith, l .before .before .if1 .left)) in
-    omega (arith, h .lists .parents .few, s .pre .1 .1 .0 .few, l .loop-test .taken)
+mul-v c = omega (arith, low c, c .loop-test .taken)
 
 shared-slice-read-v : tie.Need-shared-slice-read-v Inv-loop μ-loop
-shared-slice-read-v c =
-    let l = c .before in
-    let s = l .before .before .before .before .before .before .before .before .before .before .before .before .before .before .before in
-    omega (arith, s .pre .1 .1 .1, l .loop-test .taken)
+shared-slice-read-v c = omega (arith, start (c .before) .pre .1 .1 .1, c .before .loop-test .taken)
 
 mul-from : tie.Need-mul-from Inv-loop μ-loop
-mul-from c =
-    let l = c .before in
-    let s = l .before .before .before .before .before .before .before .before .before .before .before .before .before .before .before in
-    let h = s .pre .0 .row (omega (arith, l .before .before .if1 .left)) in
-    let v = s .pre .1 .1 .0 .before _ (l .loop-test .taken) in
-    omega (arith, h .lists .parents .few, v, h .lists .begins .long)
+mul-from c = omega (arith, low (c .before))
 
 shared-slice-read-from : tie.Need-shared-slice-read-from Inv-loop μ-loop
-shared-slice-read-from c =
-    let l = c .before .before in
-    let s = l .before .before .before .before .before .before .before .before .before .before .before .before .before .before .before in
-    let h = s .pre .0 .row (omega (arith, l .before .before .if1 .left)) in
-    let v = s .pre .1 .1 .0 .before _ (l .loop-test .taken) in
-    omega (arith, h .lists .parents .few, v, h .lists .begins .long)
+shared-slice-read-from c = omega (arith, low (c .before .before))
 
 add-to : tie.Need-add-to Inv-loop μ-loop
-add-to c =
-    let l = c .before .before in
-    let s = l .before .before .before .before .before .before .before .before .before .before .before .before .before .before .before in
-    let h = s .pre .0 .row (omega (arith, l .before .before .if1 .left)) in
-    let v = s .pre .1 .1 .0 .before _ (l .loop-test .taken) in
-    omega (arith, h .lists .parents .few, v, h .lists .begins .long)
+add-to c = omega (arith, low (c .before .before))
 
 mul-to : tie.Need-mul-to Inv-loop μ-loop
-mul-to c =
-    let l = c .before .before in
-    let s = l .before .before .before .before .before .before .before .before .before .before .before .before .before .before .before in
-    let h = s .pre .0 .row (omega (arith, l .before .before .if1 .left)) in
-    let v = s .pre .1 .1 .0 .before _ (l .loop-test .taken) in
-    omega (arith, h .lists .parents .few, v, h .lists .begins .long)
+mul-to c = omega (arith, low (c .before .before))
 
 shared-slice-read-to : tie.Need-shared-slice-read-to Inv-loop μ-loop
-shared-slice-read-to c =
-    let l = c .before .before .before in
-    let s = l .before .before .before .before .before .before .before .before .before .before .before .before .before .before .before in
-    let h = s .pre .0 .row (omega (arith, l .before .before .if1 .left)) in
-    let v = s .pre .1 .1 .0 .before _ (l .loop-test .taken) in
-    omega (arith, h .lists .parents .few, v, h .lists .begins .long)
+shared-slice-read-to c = omega (arith, low (c .before .before .before))
 
 mul-node-pair : tie.Need-mul-node-pair Inv-loop μ-loop
 mul-node-pair c =
     let l = c .before .before .before in
-    let s = l .before .before .before .before .before .before .before .before .before .before .before .before .before .before .before in
-    let h = s .pre .0 .row (omega (arith, l .before .before .if1 .left)) in
-    let v = s .pre .1 .1 .0 .before _ (l .loop-test .taken) in
-    omega (arith, part-inside _ _ _ (h .lists) _ v)
+    omega (arith, part-inside _ _ _ (row l .lists) _ (node l))
 
 sub-node-pair : tie.Need-sub-node-pair Inv-loop μ-loop
 sub-node-pair c =
     let l = c .before .before .before in
-    let s = l .before .before .before .before .before .before .before .before .before .before .before .before .before .before .before in
-    let h = s .pre .0 .row (omega (arith, l .before .before .if1 .left)) in
-    let v = s .pre .1 .1 .0 .before _ (l .loop-test .taken) in
-    part-inside _ _ _ (h .lists) _ v .0
+    part-inside _ _ _ (row l .lists) _ (node l) .0
 
 part-node-pair-start : tie.Need-part-node-pair-start Inv-loop μ-loop
 part-node-pair-start c =
     let l = c .before .before .before in
-    let s = l .before .before .before .before .before .before .before .before .before .before .before .before .before .before .before in
-    let h = s .pre .0 .row (omega (arith, l .before .before .if1 .left)) in
-    let v = s .pre .1 .1 .0 .before _ (l .loop-test .taken) in
-    part-inside _ _ _ (h .lists) _ v .0
+    part-inside _ _ _ (row l .lists) _ (node l) .0
 
 part-node-pair-end : tie.Need-part-node-pair-end Inv-loop μ-loop
 part-node-pair-end c =
     let l = c .before .before .before in
-    let s = l .before .before .before .before .before .before .before .before .before .before .before .before .before .before .before in
-    let h = s .pre .0 .row (omega (arith, l .before .before .if1 .left)) in
-    let v = s .pre .1 .1 .0 .before _ (l .loop-test .taken) in
-    part-inside _ _ _ (h .lists) _ v .1
+    part-inside _ _ _ (row l .lists) _ (node l) .1
 
 node-pair-requires : tie.Need-node-pair-requires Inv-loop μ-loop
 node-pair-requires c κs =
     let l = c .before .before .before .before .before .before .before .before .before .before in
-    let s = l .before .before .before .before .before .before .before .before .before .before .before .before .before .before .before in
-    let h = s .pre .0 .row (omega (arith, l .before .before .if1 .left)) in
-    let v = s .pre .1 .1 .0 .before _ (l .loop-test .taken) in
+    let s = start l .pre .1 .0 in
     let i = l .before .loop .inv in (
-      rw (i .2) (row-room _ _ _ _ _ _ _ _ h _ v),
+      rw (i .2) (row-room _ _ _ _ _ _ _ _ (row l) _ (node l)),
       record {
-        sums-long = omega (arith, i .3, s .pre .1 .0 .sums-long);
-        totals-long = omega (arith, i .4, s .pre .1 .0 .totals-long);
-        down-long = omega (arith, i .5, s .pre .1 .0 .down-long);
-        along-long = omega (arith, i .6, s .pre .1 .0 .along-long);
-        dots-long = omega (arith, i .7, s .pre .1 .0 .dots-long);
+        sums-long = omega (arith, i .3, s .sums-long);
+        totals-long = omega (arith, i .4, s .totals-long);
+        down-long = omega (arith, i .5, s .down-long);
+        along-long = omega (arith, i .6, s .along-long);
+        dots-long = omega (arith, i .7, s .dots-long);
       },
     )
 
 add-s2 : tie.Need-add-s2 Inv-loop μ-loop
-add-s2 c =
-    let p = c .before .before .before .before .before .before .before .before .before .before .before .before .before in
-    let l = p .before .before .before .before .before .before .before .before .before .before .before in
-    let s = l .before .before .before .before .before .before .before .before .before .before .before .before .before .before .before in
-    let h = s .pre .0 .row (omega (arith, l .before .before .if1 .left)) in
-    let v = s .pre .1 .1 .0 .before _ (l .loop-test .taken) in
-    let q = summed-next _ _ _ _ _ (l .before .loop .inv .1) _ _
-    (row-S2 _ _ _ _ _ _ _ _ h _ v _ (p .node-pair .ensures .0))
-    (row-S3 _ _ _ _ _ _ _ _ h _ v _ (p .node-pair .ensures .1)) in
-    let a = s .args in
-    let n = s .pre .1 .1 .0 in
-    omega (
-      arith,
-      summed-most _ _ _ _ _ q (a .count) 699170560 (omega (arith, l .loop-test .taken))
-          (omega (arith, inner-S2 (a .work .now) (a .width) (a .n) (a .rows .now) _ _ _ n, h .all-S2))
-          (omega (arith, inner-S3 (a .work .now) (a .width) (a .n) (a .rows .now) _ _ _ n, h .all-S3)),
-    )
+add-s2 c = omega (arith, sums-low (c .before .before .before .before .before .before .before .before .before .before .before .before .before))
 
 add-s3 : tie.Need-add-s3 Inv-loop μ-loop
-add-s3 c =
-    let p = c .before .before .before .before .before .before .before .before .before .before .before .before .before .before in
-    let l = p .before .before .before .before .before .before .before .before .before .before .before in
-    let s = l .before .before .before .before .before .before .before .before .before .before .before .before .before .before .before in
-    let h = s .pre .0 .row (omega (arith, l .before .before .if1 .left)) in
-    let v = s .pre .1 .1 .0 .before _ (l .loop-test .taken) in
-    let q = summed-next _ _ _ _ _ (l .before .loop .inv .1) _ _
-    (row-S2 _ _ _ _ _ _ _ _ h _ v _ (p .node-pair .ensures .0))
-    (row-S3 _ _ _ _ _ _ _ _ h _ v _ (p .node-pair .ensures .1)) in
-    let a = s .args in
-    let n = s .pre .1 .1 .0 in
-    omega (
-      arith,
-      summed-most _ _ _ _ _ q (a .count) 699170560 (omega (arith, l .loop-test .taken))
-          (omega (arith, inner-S2 (a .work .now) (a .width) (a .n) (a .rows .now) _ _ _ n, h .all-S2))
-          (omega (arith, inner-S3 (a .work .now) (a .width) (a .n) (a .rows .now) _ _ _ n, h .all-S3)),
-    )
+add-s3 c = omega (arith, sums-low (c .before .before .before .before .before .before .before .before .before .before .before .before .before .before))
 
 add-i : tie.Need-add-i Inv-loop μ-loop
 add-i c =
-    let l = c .before .before .before .before .before .before .before .before .before .before .before .before .before .before .before .before .before .before .before .before .before .before .before .before .before in
-    let s = l .before .before .before .before .before .before .before .before .before .before .before .before .before .before .before in
-    let h = s .pre .0 .row (omega (arith, l .before .before .if1 .left)) in
-    omega (arith, h .lists .parents .few, s .pre .1 .1 .0 .few, l .loop-test .taken)
+    let l = turn (c .before .before .before .before .before .before .before .before .before .before .before .before .before .before) in
+    omega (arith, low l, l .loop-test .taken)
 
 loop-less : tie.Need-loop-less Inv-loop μ-loop
-loop-less c =
-    let l = c .before .before .before .before .before .before .before .before .before .before .before .before .before .before .before .before .before .before .before .before .before .before .before .before .before in
-    omega (arith, l .loop-test .taken)
+loop-less c = omega (arith, turn (c .before .before .before .before .before .before .before .before .before .before .before .before .before .before) .loop-test .taken)
 
 loop-again : tie.Need-loop-again Inv-loop μ-loop
 loop-again c =
     let p = c .before .before .before .before .before .before .before .before .before .before .before .before .before .before in
-    let l = p .before .before .before .before .before .before .before .before .before .before .before in
-    let s = l .before .before .before .before .before .before .before .before .before .before .before .before .before .before .before in
-    let h = s .pre .0 .row (omega (arith, l .before .before .if1 .left)) in
-    let v = s .pre .1 .1 .0 .before _ (l .loop-test .taken) in
-    let q = summed-next _ _ _ _ _ (l .before .loop .inv .1) _ _
-    (row-S2 _ _ _ _ _ _ _ _ h _ v _ (p .node-pair .ensures .0))
-    (row-S3 _ _ _ _ _ _ _ _ h _ v _ (p .node-pair .ensures .1)) in
-    let i = l .before .loop .inv in (
+    let l = turn p in
+    let i = l .before .loop .inv in
+    let lasts = p .node-pair .kept .1 .1 .1 .1 .1 in (
       omega (arith, l .loop-test .taken),
-      q,
-      p .node-pair .kept .1 .1 .1 .1 .1 .0 ∙ i .2,
-      p .node-pair .kept .1 .1 .1 .1 .1 .1 .0 ∙ i .3,
-      p .node-pair .kept .1 .1 .1 .1 .1 .1 .1 .0 ∙ i .4,
-      p .node-pair .kept .1 .1 .1 .1 .1 .1 .1 .1 .0 ∙ i .5,
-      p .node-pair .kept .1 .1 .1 .1 .1 .1 .1 .1 .1 .0 ∙ i .6,
-      p .node-pair .kept .1 .1 .1 .1 .1 .1 .1 .1 .1 .1 .0 ∙ i .7,
+      summed p,
+      lasts .0 ∙ i .2,
+      lasts .1 .0 ∙ i .3,
+      lasts .1 .1 .0 ∙ i .4,
+      lasts .1 .1 .1 .0 ∙ i .5,
+      lasts .1 .1 .1 .1 .0 ∙ i .6,
+      lasts .1 .1 .1 .1 .1 .0 ∙ i .7,
     )
 
 same-length : tie.Need-same-length Inv-loop μ-loop
@@ -230,12 +201,14 @@ same-length-6 c = c .before .loop .inv .7
 
 returns-2 : tie.Need-returns-2 Inv-loop μ-loop
 returns-2 c =
-    let i = c .before .loop .inv in
     let s = c .before .before .before .before .before .before .before .before .before .before .before .before .before .before .before in
+    let i = c .before .loop .inv in
     let a = s .args in
     let n = s .pre .1 .1 .0 in
-    let q = summed-all _ _ _ _ _ (i .1) _ (i .0) (omega (arith, c .loop-test .left)) in
-    (q .0 ∙ inner-S2 (a .work .now) (a .width) (a .n) (a .rows .now) _ _ _ n, q .1 ∙ inner-S3 (a .work .now) (a .width) (a .n) (a .rows .now) _ _ _ n)
+    let q = summed-all _ _ _ _ _ (i .1) _ (i .0) (omega (arith, c .loop-test .left)) in (
+      q .0 ∙ inner-S2 (a .work .now) (a .width) (a .n) (a .rows .now) _ _ _ n,
+      q .1 ∙ inner-S3 (a .work .now) (a .width) (a .n) (a .rows .now) _ _ _ n,
+    )
 
 pub node-row-spec : {M : Type 1} → statement M
 node-row-spec =

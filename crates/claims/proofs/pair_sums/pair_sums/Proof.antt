@@ -15,10 +15,10 @@ use Rattle.claims.proofs.pair_sums.pair_sums.Statement.{statement}
 use Rattle.claims.proofs.pair_sums.pair_sums.Tie as tie
 
 abbrev Inv-loop : tie.InvT-loop
-Inv-loop work n parents starts edges others begins columns width inner count
+Inv-loop work n ps starts edges qs starts' edges' width inner count
     block₀ sums₀ totals₀ down₀ along₀ dots₀ s2₀ s3₀ v₀ block sums totals down along dots s2 s3 v =
-    (v ≤ length parents)
-    × Summed (nodeS2 work (length others - 1) n parents others) (nodeS3 work (length others - 1) n parents others)
+    (v ≤ length ps)
+    × Summed (nodeS2 work (length qs - 1) n ps qs) (nodeS3 work (length qs - 1) n ps qs)
     v s2 s3
     × (length block ≡ 65536)
     × (length sums ≡ tipsMost)
@@ -28,8 +28,8 @@ Inv-loop work n parents starts edges others begins columns width inner count
     × (length dots ≡ tipsMost)
 
 abbrev μ-loop : tie.MeasureT-loop
-μ-loop work n parents starts edges others begins columns width inner count
-    block₀ sums₀ totals₀ down₀ along₀ dots₀ s2₀ s3₀ v₀ block sums totals down along dots s2 s3 v = length parents - v
+μ-loop work n ps starts edges qs starts' edges' width inner count
+    block₀ sums₀ totals₀ down₀ along₀ dots₀ s2₀ s3₀ v₀ block sums totals down along dots s2 s3 v = length ps - v
 
 -- ---- the points of the program
 
@@ -46,7 +46,7 @@ turn c = c .before .before .before .before .before .before .before .before .befo
 
 -- the second tree's inner nodes
 inner : (c : tie.After-inner-nodes Inv-loop μ-loop)
-    → (let qs = start c .args .others .now in
+    → (let qs = start c .args .second-parents .now in
     InnerNodes qs (c .inner-nodes .last .1 .0) (c .inner-nodes .result) (length qs))
 inner c =
     let h = start c .pre .second in
@@ -58,9 +58,9 @@ module _ (c : tie.After-node-row Inv-loop μ-loop) where
   l = turn c
 
   summed : (let a = start (listed l) .args in
-      let w = length (a .others .now) - 1 in
-      Summed (nodeS2 (a .work .now) w (a .n) (a .parents .now) (a .others .now))
-      (nodeS3 (a .work .now) w (a .n) (a .parents .now) (a .others .now)) (l .before .loop .v + 1)
+      let w = length (a .second-parents .now) - 1 in
+      Summed (nodeS2 (a .work .now) w (a .n) (a .first-parents .now) (a .second-parents .now))
+      (nodeS3 (a .work .now) w (a .n) (a .first-parents .now) (a .second-parents .now)) (l .before .loop .v + 1)
       (l .before .loop .s2 + c .node-row .result .s2) (l .before .loop .s3 + c .node-row .result .s3))
   summed =
       let h = start (listed l) .pre in

@@ -13,22 +13,26 @@ use borrow.Author.Needs.{needs}
 use Rattle.claims.proofs.totals.claim_sums.Statement.{statement}
 use Rattle.claims.proofs.totals.claim_sums.Tie as tie
 
+-- ---- the points of the program, once the answer is known to be a pair
+
+abbrev start : tie.After-known-told → tie.Start
+start c = c .before .before .before .before .before .before .before .before .before .before
+
+abbrev crossed : tie.After-known-told → tie.After-cross-pair
+crossed c = c .before .before .before .before .before
+
+-- ---- what is asked there
+
 -- a pair with cells enough, with n and the edges of both trees as told
 record Told (c : tie.After-known-told) : Type 0 where
-  pair : PairWithCells (c .before .before .before .before .before .before .before .before .before .before .args .first .now)
-      (c .before .before .before .before .before .before .before .before .before .before .args .second .now)
-      (length (c .before .before .before .before .before .before .before .before .before .before .args .work .now))
-  n-is : c .before .answer .given .0 .0
-      ≡ tips (c .before .before .before .before .before .before .before .before .before .before .args .first .now)
-  m-is : c .before .answer .given .0 .1 .0 + 1
-      ≡ nodes (c .before .before .before .before .before .before .before .before .before .before .args .first .now)
-  k-is : c .before .answer .given .0 .1 .1 .0 + 1
-      ≡ nodes (c .before .before .before .before .before .before .before .before .before .before .args .second .now)
+  pair : PairWithCells (start c .args .first .now) (start c .args .second .now) (length (start c .args .work .now))
+  n-is : c .before .answer .given .0 .0 ≡ tips (start c .args .first .now)
+  m-is : c .before .answer .given .0 .1 .0 + 1 ≡ nodes (start c .args .first .now)
+  k-is : c .before .answer .given .0 .1 .1 .0 + 1 ≡ nodes (start c .args .second .now)
 
 told : (c : tie.After-known-told) → Told c
 told c =
-    let x = c .before .before .before .before .before in
-    let p = work-says _ _ _ _ _ _ (sym (x .cross-pair .ensures .0) ∙ c .before .answer .given .1) in
+    let p = work-says _ _ _ _ _ _ (sym (crossed c .cross-pair .ensures .0) ∙ c .before .answer .given .1) in
     let q = nodes-are _ _ _ (p .0) _ _ (p .2) (p .3) in
     record { pair = p .0; n-is = p .1; m-is = q .0; k-is = q .1 }
 
@@ -96,7 +100,7 @@ sums-of-requires : tie.Need-sums-of-requires
 sums-of-requires c κs =
     let k = c .before .before .before in
     let t = told k in
-    lent-summable _ _ _ _ (t .pair) (k .before .before .before .before .before .cross-pair .ensures .2)
+    lent-summable _ _ _ _ (t .pair) (crossed k .cross-pair .ensures .2)
     _ _ _ (t .n-is) (t .m-is) (t .k-is)
 
 same-length-2 : tie.Need-same-length-2
@@ -106,7 +110,7 @@ returns-2 : tie.Need-returns-2
 returns-2 c =
     let k = c .before .before .before .before in
     let t = told k in
-    let x = k .before .before .before .before .before .cross-pair .ensures .2 in
+    let x = crossed k .cross-pair .ensures .2 in
     (lent-claims _ _ _ _ (t .pair) x _ _ _ (t .n-is) (t .m-is) (t .k-is) _ (c .sums-of .ensures), x)
 
 pub claim-sums-spec : {M : Type 1} → statement M

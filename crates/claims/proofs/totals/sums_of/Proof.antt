@@ -42,7 +42,7 @@ fit ps p = record {
 }
 
 first-listed : (c : tie.After-list-codes)
-    → CodeLists (start c .args .parents .now) (c .list-codes .last .1 .0) (c .list-codes .last .1 .1 .0)
+    → CodeLists (start c .args .first-parents .now) (c .list-codes .last .1 .0) (c .list-codes .last .1 .1 .0)
 first-listed c =
     let p = start c .pre in
     let f = fit _ (p .first) in
@@ -51,7 +51,7 @@ first-listed c =
     (listed-edges _ _ _ f _ (c .list-codes .kept .1 .1 .0) (e .1))
 
 second-listed : (c : tie.After-list-codes2)
-    → CodeLists (start (first c) .args .others .now) (c .list-codes2 .last .1 .0) (c .list-codes2 .last .1 .1 .0)
+    → CodeLists (start (first c) .args .second-parents .now) (c .list-codes2 .last .1 .0) (c .list-codes2 .last .1 .1 .0)
 second-listed c =
     let p = start (first c) .pre in
     let f = fit _ (p .second) in
@@ -135,7 +135,7 @@ returns c =
     let u = (c .before .before .before .before .before .before .before) in
     let t = summed u in
     let a = start (first (listed t)) .args in
-    summed-is (a .work .now) _ (a .parents .now) (a .others .now) _ _ _ _
+    summed-is (a .work .now) _ (a .first-parents .now) (a .second-parents .now) _ _ _ _
     (t .tree-sum .ensures .0) (u .tree-sum2 .ensures .0) (c .before .pair-sums .ensures .0)
     (c .before .pair-sums .ensures .1)
 
