@@ -101,9 +101,10 @@ class Graph:
     @cached_property
     def ways(self) -> dict[tuple[int, int], Way]:
         """The way between every two labels a < b."""
-        return {(a, b): way for a in range(self.n) for b, way in self.ways_from(a) if a < b}
+        return {(a, b): way for a in range(self.n - 1) for b, way in self.ways_from(a)}
 
     def ways_from(self, a: int) -> Iterator[tuple[int, Way]]:
+        """The larger labels, each with the way to it."""
         every, side, tip = (1 << self.n) - 1, self.side, self.labels.index(a)
         todo: list[tuple[int, int, list[Labels], list[Labels]]] = [(tip, self.next[tip][0], [], [])]
         while todo:
@@ -112,7 +113,7 @@ class Graph:
                 yield self.labels[v], (parts, parts if parts == wholes else wholes)
                 continue
             for w in self.next[v]:
-                if w != u:
+                if w != u and side[v, w] >> a:
                     here = [side[v, x] for x in self.large[v] if x != u and x != w]
                     whole = every & ~side[v, u] & ~side[v, w]
                     todo.append((v, w, parts + here, wholes + [whole] if whole.bit_count() > 1 else wholes))
@@ -140,15 +141,15 @@ def same_and_different(tree: Graph, other: Graph) -> list[int]:
     same = different = 0
     for a, pairs in tree.claims:
         in_a = met[a]
-        reached = [(d, in_a[d], PAIRS_OF[in_a[d]], further) for d, further in other.claims if in_a[d]]
+        reached = [(d, e, f, in_a[d], in_a[e], in_a[f]) for d, further in other.claims if in_a[d] for e, f in further]
+        # a term has two labels of T1 and T1', or one with another of T1 in T2' or T3'
+        reached = [one for one in reached if one[3] > 1 or one[4] or one[5]]
         for b, c in pairs:
             in_b, in_c = met[b], met[c]
-            for d, ad, two_of_ad, further in reached:
-                bd, cd = in_b[d], in_c[d]
-                for e, f in further:
-                    ae, af, be, bf, ce, cf = in_a[e], in_a[f], in_b[e], in_b[f], in_c[e], in_c[f]
-                    same += two_of_ad * (be * cf + bf * ce)
-                    different += ad * ((af * be + ae * bf) * cd + (ae * cf + af * ce) * bd)
+            for d, e, f, ad, ae, af in reached:
+                bd, be, bf, cd, ce, cf = in_b[d], in_b[e], in_b[f], in_c[d], in_c[e], in_c[f]
+                same += PAIRS_OF[ad] * (be * cf + bf * ce)
+                different += ad * af * be * cd + ad * ae * bf * cd + ad * ae * bd * cf + ad * af * bd * ce
     return [same, different]
 
 

@@ -5,7 +5,7 @@ import random
 from collections.abc import Iterator
 from functools import cached_property
 
-from cases.lines import MOST_PRINTED, Answer, Case, Kind, bad, lent, line
+from cases.lines import MOST_CELLS, MOST_PRINTED, Case, Kind, bad, lent, line
 from cases.shapes import balanced, caterpillar, random_table, star
 from cases.tables import OUTSIDE, P, Q, R, REFERENCE, THREE, TWO, X, Table, damaged, tree_refusal
 
@@ -211,12 +211,9 @@ def large_cases() -> Iterator[Case]:
 
 
 def bad_cases() -> Iterator[Case]:
-    """Too many cells to print or tips to enumerate; another number of edges or labels; fewer words than are told."""
-    yield bad(*line(Kind.WALK, [], P, MOST_PRINTED + 1))
-    yield from (bad(*line(Kind.BEYOND, [], P, 5)), bad(*line(Kind.WALKED, [1, 2], P, 5)))
-    yield from (bad(*line(Kind.CENTRE, [0, 1], P)), bad(*line(Kind.TOPOLOGY, [0, 1, 2], P)))
-    yield from (bad(*line(kind, [], star(17))) for kind in (Kind.CENTRES, Kind.TOPOLOGIES))
-    yield from (bad(0), bad(0, 0, 0), bad(8, 0, 0), bad(0, 0, 0, 13, *TWO, *TWO), bad(9, 259, 82, 0))
+    """Short lines, fewer words than are told, too many cells to print, and more than there are."""
+    yield from (bad(Kind.CHECK), bad(Kind.CHECK, 0, 0), bad(Kind.CHANGES, 0, 6), bad(Kind.CHECK, 0, 0, 13, *TWO, *TWO))
+    yield from (bad(*line(Kind.WALK, [], P, MOST_PRINTED + 1)), bad(*line(Kind.ZEROS, [], [], MOST_CELLS + 1)))
 
 
 def all_cases() -> Iterator[Case]:

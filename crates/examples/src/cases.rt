@@ -8,8 +8,8 @@
 //     3   edge     table   beyond, on the walk that `walk` writes: the number, then the part
 //     4   3 labels table   centre: the number and the node
 //     5   4 labels table   topology: the number, then 1 and the partner, or 0
-//     6            table   every centre of three labels in rising order
-//     7            table   every topology of four labels in rising order: the partner, or 0 for a star
+//     6            table   every centre of three labels below 16 in rising order
+//     7            table   every topology of four labels below 16 in rising order: the partner, or 0 for a star
 //     8            table   every change of one word, in as many cells as the table has words: how many tables are
 //                          accepted, and refused by each number 1 to 7
 //     9                    check of a table of as many zeros as there are cells
@@ -21,8 +21,8 @@
 //                          cells afterwards; last what verdict.rt says of the table
 //    14            table   claim sums and the quartet table of one slice as both trees
 //
-// Any other kind, more cells than there are (1024 where every cell is printed), fewer words than WORDS, and another
-// number of edges or labels, are a bad case.
+// Any other kind, more cells than there are (1024 where every cell is printed), and fewer words than WORDS are a bad case;
+// an edge or a label that is missing is 0.
 use super::cells;
 use super::changes;
 use super::fours;
@@ -63,16 +63,17 @@ fn ask_table(kind: u16, first: &[u16], table: &[u16]) {
 fn ask_cells(kind: u16, first: &[u16], table: &[u16], work: &mut [u16]) {
     match kind {
         1 => tree_cases::walk_case(table, work),
-        2 => tree_cases::beyond_case(first, table, work),
-        3 => tree_cases::walked_case(first, table, work),
+        2 => tree_cases::part_case(b"beyond", cells::word_at(first, 0), table, work),
+        3 => tree_cases::walked_case(cells::word_at(first, 0), table, work),
         8 => changes::changes_case(table, work),
-        9 => tree_cases::zeros_case(work),
+        9 => tree_cases::check_case(work),
         _ => ask_table(kind, first, table),
     }
 }
 
 // The kinds of two tables.
 fn ask_pair(kind: u16, first: &[u16], second: &[u16], work: &mut [u16]) {
+    cells::fill(kind, work);
     match kind {
         10 => pair_cases::crossings_case(first, second, work),
         11 => pair_cases::splits_case(first, second, work),
@@ -99,6 +100,12 @@ pub(crate) fn run(words: &[u16]) {
     if words.len() < 4 {
         print::bad_case();
     } else {
-        ask(words[0], cells_of(words[1], words[2]), as_index(words[3]), &words[4..]);
+        ask(
+            words[0],
+            cells_of(words[1], words[2]),
+            as_index(words[3]),
+            &words[4..],
+        );
     }
+    print::end();
 }

@@ -1,22 +1,26 @@
 // The cells that are lent to a call: what they hold before, and their sum afterwards.
 use table_words::cell_count;
 
-// x in every cell.
-pub(crate) fn fill(cells: &mut [u16], x: u16) {
+// What a cell holds before a case of this kind: 9000, 9001, .. where cells are printed, and 7 where they are summed.
+fn before(kind: u16, i: usize) -> u16 {
+    match kind {
+        9 => 0,
+        13 | 14 => 7,
+        _ => (9000 + i % 1024) as u16,
+    }
+}
+
+pub(crate) fn fill(kind: u16, cells: &mut [u16]) {
     let mut i = 0;
     while i < cells.len() {
-        cells[i] = x;
+        cells[i] = before(kind, i);
         i += 1;
     }
 }
 
-// 9000, 9001, .. in the cells.
-pub(crate) fn number(cells: &mut [u16]) {
-    let mut i = 0;
-    while i < cells.len() {
-        cells[i] = (9000 + i % 1024) as u16;
-        i += 1;
-    }
+// The word at a place, or 0 where there is none.
+pub(crate) fn word_at(words: &[u16], i: usize) -> u16 {
+    if i < words.len() { words[i] } else { 0 }
 }
 
 // As many words in the cells as there are cells.

@@ -36,5 +36,4 @@ pub(crate) fn changes_case(words: &[u16], table: &mut [u16]) {
     }
     print::name(b"changes");
     print::counts(&counts);
-    print::end();
 }

@@ -60,20 +60,15 @@ fn print_set(size: u16, table: &[u16], n: u16, four: Four) {
     }
 }
 
-// Every set of that size, three or four, of a table of at most 16 tips.
+// Every set of that size, three or four, of a table's labels below 16.
 pub(crate) fn print_sets(name: &[u8], size: u16, table: &[u16]) {
     let n = tips_of(table);
-    if 16 < n {
-        print::bad_case();
-        return;
-    }
     print::name(name);
     let mut code = 0;
     while code < 65535 {
         print_set(size, table, n, four_at(code));
         code += 1;
     }
-    print::end();
 }
 
 // The place of the case in A B C D E, from the partner in each tree.
@@ -99,11 +94,12 @@ pub(crate) fn one_more(counts: &mut [u64; 8], place: usize) {
     }
 }
 
-fn count_four(first: &[u16], second: &[u16], n: u16, four: Four, counts: &mut [u64; 8]) {
-    if rises(four, n) {
-        if four.w < four.x {
-            one_more(counts, place_of(partner_in(first, four), partner_in(second, four)));
-        }
+// The place of the case of four labels; 8, which is not counted, where they are no set of labels below n.
+fn place_in(first: &[u16], second: &[u16], n: u16, four: Four) -> usize {
+    if (four.w < four.x) & rises(four, n) {
+        place_of(partner_in(first, four), partner_in(second, four))
+    } else {
+        8
     }
 }
 
@@ -112,7 +108,7 @@ fn count_four(first: &[u16], second: &[u16], n: u16, four: Four, counts: &mut [u
 pub(crate) fn count(first: &[u16], second: &[u16], n: u16, counts: &mut [u64; 8]) {
     let mut code = 0;
     while code < 65535 {
-        count_four(first, second, n, four_at(code), counts);
+        one_more(counts, place_in(first, second, n, four_at(code)));
         code += 1;
     }
 }

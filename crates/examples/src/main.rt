@@ -15,31 +15,28 @@ mod verdict; // verdict.rt: whether a quartet table is what the sets of four say
 
 use reader::Line;
 
-// Takes one byte of the text: a line end runs the case.
+// Takes one byte of the text: a digit goes to the number, any other byte ends it, and a line end runs the case.
 fn step(line: Line, byte: u8, words: &mut [u16]) -> Line {
-    if byte != 10 {
-        return reader::taken(line, byte, words);
+    if 48 <= byte {
+        return Line {
+            len: line.len,
+            number: reader::with_digit(line.number, byte - 48),
+        };
     }
-    let whole = reader::ended(line, words);
-    let len = whole.len;
+    let len = reader::put(words, line.len, line.number);
+    if byte != 10 {
+        return Line { len, number: 0 };
+    }
     if len <= words.len() {
         cases::run(&words[..len]);
     }
-    Line {
-        len: 0,
-        number: 0,
-        inside: false,
-    }
+    Line { len: 0, number: 0 }
 }
 
 // A line of two tables of 256 tips has up to 2048 numbers.
 fn read_cases(text: &[u8]) {
     let mut words = [0u16; 2100];
-    let mut line = Line {
-        len: 0,
-        number: 0,
-        inside: false,
-    };
+    let mut line = Line { len: 0, number: 0 };
     let mut i = 0;
     while i < text.len() {
         line = step(line, text[i], &mut words);

@@ -1,17 +1,13 @@
 // Cases of two tables whose every cell is printed, from 9000, 9001, .. in the cells.
-use super::cells;
 use super::print;
 
 pub(crate) fn crossings_case(first: &[u16], second: &[u16], work: &mut [u16]) {
-    cells::number(work);
     print::name(b"crossings");
     print::number(tree_pairs::crossings(first, second, work));
     print::numbers(work);
-    print::end();
 }
 
 pub(crate) fn splits_case(first: &[u16], second: &[u16], work: &mut [u16]) {
-    cells::number(work);
     let counts = splits::split_counts(first, second, work);
     print::name(b"splits");
     print::number(counts.refusal);
@@ -20,5 +16,4 @@ pub(crate) fn splits_case(first: &[u16], second: &[u16], work: &mut [u16]) {
     print::number(counts.common);
     print::number(counts.distance);
     print::numbers(work);
-    print::end();
 }

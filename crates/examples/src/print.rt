@@ -36,5 +36,5 @@ pub(crate) fn end() {
 }
 
 pub(crate) fn bad_case() {
-    io::write_all(STDOUT_FILENO, b"bad case\n");
+    io::write_all(STDOUT_FILENO, b"bad case");
 }

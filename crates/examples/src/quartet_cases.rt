@@ -4,7 +4,6 @@ use super::print;
 use super::verdict;
 
 fn print_claims(first: &[u16], second: &[u16], work: &mut [u16]) {
-    cells::fill(work, 7);
     let sums = quartets::claim_sums(first, second, work);
     print::name(b"claims");
     print::number(sums.refusal);
@@ -16,7 +15,7 @@ fn print_claims(first: &[u16], second: &[u16], work: &mut [u16]) {
 }
 
 fn print_table(first: &[u16], second: &[u16], work: &mut [u16]) {
-    cells::fill(work, 7);
+    cells::fill(13, work);
     let table = quartets::quartet_table(first, second, work);
     print::name(b" quartets");
     print::number(table.refusal);
@@ -33,5 +32,4 @@ fn print_table(first: &[u16], second: &[u16], work: &mut [u16]) {
 pub(crate) fn quartets_case(first: &[u16], second: &[u16], work: &mut [u16]) {
     print_claims(first, second, work);
     print_table(first, second, work);
-    print::end();
 }

@@ -1,5 +1,5 @@
 // Cases of one table.
-use super::cells;
+use super::cells::word_at;
 use super::print;
 use trees::Checked;
 use trees::Topology;
@@ -14,54 +14,36 @@ pub(crate) fn check_case(table: &[u16]) {
         }
         Checked::Refused(number) => print::number(number),
     }
-    print::end();
 }
 
 pub(crate) fn walk_case(table: &[u16], walk: &mut [u16]) {
-    cells::number(walk);
     print::name(b"walk");
     print::number(trees::walk(table, walk));
     print::numbers(walk);
-    print::end();
 }
 
 // The part of the walk beyond an edge.
-fn part_case(name: &[u8], edges: &[u16], table: &[u16], walk: &[u16]) {
-    if edges.len() != 1 {
-        print::bad_case();
-        return;
-    }
+pub(crate) fn part_case(name: &[u8], edge: u16, table: &[u16], walk: &[u16]) {
     print::name(name);
-    print::number(trees::beyond_refusal(table, edges[0], walk));
-    print::numbers(trees::beyond(table, edges[0], walk));
-    print::end();
+    print::number(trees::beyond_refusal(table, edge, walk));
+    print::numbers(trees::beyond(table, edge, walk));
 }
 
-pub(crate) fn beyond_case(edges: &[u16], table: &[u16], walk: &mut [u16]) {
-    cells::number(walk);
-    part_case(b"beyond", edges, table, walk);
-}
-
-pub(crate) fn walked_case(edges: &[u16], table: &[u16], walk: &mut [u16]) {
+pub(crate) fn walked_case(edge: u16, table: &[u16], walk: &mut [u16]) {
     trees::walk(table, walk);
-    part_case(b"walked", edges, table, walk);
-}
-
-pub(crate) fn zeros_case(table: &mut [u16]) {
-    cells::fill(table, 0);
-    check_case(table);
+    part_case(b"walked", edge, table, walk);
 }
 
 pub(crate) fn centre_case(labels: &[u16], table: &[u16]) {
-    if labels.len() != 3 {
-        print::bad_case();
-        return;
-    }
-    let answer = trees::centre(table, labels[0], labels[1], labels[2]);
+    let answer = trees::centre(
+        table,
+        word_at(labels, 0),
+        word_at(labels, 1),
+        word_at(labels, 2),
+    );
     print::name(b"centre");
     print::number(answer.refusal);
     print::number(answer.node);
-    print::end();
 }
 
 fn print_topology(topology: Topology) {
@@ -75,14 +57,15 @@ fn print_topology(topology: Topology) {
 }
 
 pub(crate) fn topology_case(labels: &[u16], table: &[u16]) {
-    if labels.len() != 4 {
-        print::bad_case();
-        return;
-    }
-    let answer = trees::topology_of(table, labels[0], labels[1], labels[2], labels[3]);
+    let answer = trees::topology_of(
+        table,
+        word_at(labels, 0),
+        word_at(labels, 1),
+        word_at(labels, 2),
+        word_at(labels, 3),
+    );
     print::name(b"topology");
     print::number(answer.refusal);
     let topology = answer.topology;
     print_topology(topology);
-    print::end();
 }

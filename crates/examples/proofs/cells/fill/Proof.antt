@@ -8,13 +8,16 @@ use Rattle.examples.proofs.cells.fill.Statement.{statement}
 use Rattle.examples.proofs.cells.fill.Tie as tie
 
 abbrev Inv-loop : tie.InvT-loop
-Inv-loop cells₀ x i₀ cells i = length cells ≡ length cells₀
+Inv-loop kind cells₀ i₀ cells i = length cells ≡ length cells₀
 
 abbrev μ-loop : tie.MeasureT-loop
-μ-loop cells₀ x i₀ cells i = length cells₀ - i
+μ-loop kind cells₀ i₀ cells i = length cells₀ - i
 
 loop-holds : tie.Need-loop-holds Inv-loop μ-loop
 loop-holds c = search needs
+
+before-requires : tie.Need-before-requires Inv-loop μ-loop
+before-requires c κs = search needs
 
 mul-cells : tie.Need-mul-cells Inv-loop μ-loop
 mul-cells c = search needs
@@ -29,7 +32,7 @@ loop-less : tie.Need-loop-less Inv-loop μ-loop
 loop-less c = search needs
 
 loop-again : tie.Need-loop-again Inv-loop μ-loop
-loop-again c = simp length-set (c .before .loop .inv)
+loop-again c = simp length-set (c .before .before .loop .inv)
 
 same-length : tie.Need-same-length Inv-loop μ-loop
 same-length c = search needs
@@ -44,6 +47,7 @@ fill-spec =
     Inv-loop
     μ-loop
     loop-holds
+    before-requires
     mul-cells
     slice-write-cells
     add-i

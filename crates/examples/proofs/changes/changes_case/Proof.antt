@@ -40,9 +40,6 @@ name-requires c κs = search needs
 counts-requires : tie.Need-counts-requires Inv-loop μ-loop
 counts-requires c κs = search needs
 
-end-requires : tie.Need-end-requires Inv-loop μ-loop
-end-requires c κs = search needs
-
 same-length : tie.Need-same-length Inv-loop μ-loop
 same-length c = search needs
 
@@ -64,6 +61,5 @@ changes-case-spec =
     slice-aggregate-name
     name-requires
     counts-requires
-    end-requires
     same-length
     returns)

@@ -17,8 +17,11 @@ loop-holds c = search needs
 four-at-requires : tie.Need-four-at-requires Inv-loop μ-loop
 four-at-requires c κs = search needs
 
-count-four-requires : tie.Need-count-four-requires Inv-loop μ-loop
-count-four-requires c κs = search needs
+place-in-requires : tie.Need-place-in-requires Inv-loop μ-loop
+place-in-requires c κs = search needs
+
+one-more-requires : tie.Need-one-more-requires Inv-loop μ-loop
+one-more-requires c κs = search needs
 
 add-code : tie.Need-add-code Inv-loop μ-loop
 add-code c = search needs
@@ -40,7 +43,8 @@ count-spec =
     μ-loop
     loop-holds
     four-at-requires
-    count-four-requires
+    place-in-requires
+    one-more-requires
     add-code
     loop-less
     loop-again

@@ -14,12 +14,6 @@ abbrev μ-loop : tie.MeasureT-loop
 tips-of-requires : tie.Need-tips-of-requires Inv-loop μ-loop
 tips-of-requires c κs = search needs
 
-bad-case-requires : tie.Need-bad-case-requires Inv-loop μ-loop
-bad-case-requires c κs = search needs
-
-returns : tie.Need-returns Inv-loop μ-loop
-returns c = search needs
-
 name-requires : tie.Need-name-requires Inv-loop μ-loop
 name-requires c κs = search needs
 
@@ -41,11 +35,8 @@ loop-less c = search needs
 loop-again : tie.Need-loop-again Inv-loop μ-loop
 loop-again c = search needs
 
-end-requires : tie.Need-end-requires Inv-loop μ-loop
-end-requires c κs = search needs
-
-returns-2 : tie.Need-returns-2 Inv-loop μ-loop
-returns-2 c = search needs
+returns : tie.Need-returns Inv-loop μ-loop
+returns c = search needs
 
 pub print-sets-spec : {M : Type 1} → statement M
 print-sets-spec =
@@ -54,8 +45,6 @@ print-sets-spec =
     Inv-loop
     μ-loop
     tips-of-requires
-    bad-case-requires
-    returns
     name-requires
     loop-holds
     four-at-requires
@@ -63,5 +52,4 @@ print-sets-spec =
     add-code
     loop-less
     loop-again
-    end-requires
-    returns-2)
+    returns)
