@@ -108,7 +108,7 @@ def beyond(t: Table, edge: int, cells: int) -> Case:
 
 
 def walked(t: Table, edge: int) -> Case:
-    cells = [0] * MOST_PRINTED
+    cells = lent(MOST_PRINTED)
     if tree_refusal(t) == 0:
         cells[:t[0]] = Tree(t).walk()
     return Case(line(Kind.WALKED, [edge], t, MOST_PRINTED), ["walked", *part(t, edge, cells)])

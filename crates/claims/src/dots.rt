@@ -8,7 +8,7 @@ ghost use lib.ListN.{length};
 ghost use Rattle.sums.specs.Sum.{sum};
 ghost use Rattle.node_pairs.specs.theorems.ClosedForms.{dotSquares, termSquares};
 ghost use Rattle.claims.specs.lemmas.Filled.{filled};
-ghost use Rattle.claims.specs.lemmas.Lines.{squared};
+ghost use Rattle.claims.specs.lemmas.CellLines.{squared};
 ghost use Rattle.claims.specs.lemmas.LineDots.{FewLines, AddRoom, added, scaled, lineOf, dotSquaresOf, termSquaresOf};
 
 // The squares of dot products, and of their terms.
@@ -17,30 +17,30 @@ pub(crate) struct DotSums {
     pub terms: u64,
 }
 
-// The first `count` numbers become 0.
-fn clear(dots: &mut [u64], count: usize)
-    requires { ⌜ count ≤ length (now dots) ⌝ }
-    ensures { λ _. ⌜ now (dots .exit) ≡ filled (λ l. 0) count (now (dots .entry)) ⌝ }
+// The first `lines` numbers become 0.
+fn clear(dots: &mut [u64], lines: usize)
+    requires { ⌜ lines ≤ length (now dots) ⌝ }
+    ensures { λ _. ⌜ now (dots .exit) ≡ filled (λ l. 0) lines (now (dots .entry)) ⌝ }
 {
     let mut l = 0;
-    while l < count {
+    while l < lines {
         dots[l] = 0;
         l += 1;
     }
 }
 
 // t times each cell of a line is added to its dot product. The squares of what was added.
-fn add_line(cells: &[Cell], t: u64, at: usize, gap: usize, count: usize, dots: &mut [u64]) -> u64
-    requires { ⌜ AddRoom (now cells) t at gap count (now dots) ⌝ }
+fn add_line(cells: &[Cell], t: u64, at: usize, gap: usize, lines: usize, dots: &mut [u64]) -> u64
+    requires { ⌜ AddRoom (now cells) t at gap lines (now dots) ⌝ }
     ensures { λ _. ⌜ now (dots .exit)
-        ≡ filled (added (now (cells .entry)) (now (dots .entry)) t at gap) count (now (dots .entry)) ⌝ }
-    ensures { λ r. ⌜ (r ≡ sum count (squared (scaled (now (cells .entry)) t at gap)))
-        × (r ≤ count * 4294967296) ⌝ }
+        ≡ filled (added (now (cells .entry)) (now (dots .entry)) t at gap) lines (now (dots .entry)) ⌝ }
+    ensures { λ r. ⌜ (r ≡ sum lines (squared (scaled (now (cells .entry)) t at gap)))
+        × (r ≤ lines * 4294967296) ⌝ }
 {
     let mut s: u64 = 0;
     let mut k = at;
     let mut l = 0;
-    while l < count {
+    while l < lines {
         let z = t * cell_count(cells[k]);
         dots[l] = dots[l] + z;
         s += z * z;
@@ -89,20 +89,20 @@ fn line_dots(
 pub(crate) fn all_dots(
     cells: &[Cell],
     gap: usize,
-    count: usize,
+    lines: usize,
     step: usize,
     len: usize,
     dots: &mut [u64],
 ) -> DotSums
-    requires { ⌜ FewLines (now cells) gap count step len × (count ≤ length (now dots)) ⌝ }
-    ensures { λ r. ⌜ (r .dots ≡ dotSquares count len (lineOf (now (cells .entry)) gap step))
-        × (r .terms ≡ termSquares count len (lineOf (now (cells .entry)) gap step))
+    requires { ⌜ FewLines (now cells) gap lines step len × (lines ≤ length (now dots)) ⌝ }
+    ensures { λ r. ⌜ (r .dots ≡ dotSquares lines len (lineOf (now (cells .entry)) gap step))
+        × (r .terms ≡ termSquares lines len (lineOf (now (cells .entry)) gap step))
         × (r .dots ≤ 281474976710656) × (r .terms ≤ 72057594037927936) ⌝ }
 {
     let mut squares: u64 = 0;
     let mut terms: u64 = 0;
     let mut i = 0;
-    while i < count {
+    while i < lines {
         let line = line_dots(cells, gap, step, i, len, dots);
         squares += line.dots;
         terms += line.terms;

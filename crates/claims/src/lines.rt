@@ -7,8 +7,8 @@ ghost use lib.ListN.{length};
 ghost use Rattle.sums.specs.Sum.{sum};
 ghost use Rattle.tree_check.specs.Table.{word};
 ghost use Rattle.claims.specs.lemmas.Filled.{filled};
-ghost use Rattle.claims.specs.lemmas.Lines.{Line, Lines, Totals, AllTotals, Low};
-ghost use Rattle.claims.specs.lemmas.Lines.{lineCell, restCell, lineSum, lineRest, squared};
+ghost use Rattle.claims.specs.lemmas.CellLines.{Line, Lines, Totals, AllTotals, Low};
+ghost use Rattle.claims.specs.lemmas.CellLines.{lineCell, restCell, lineSum, lineRest, squared};
 
 // The sum of a line.
 pub(crate) fn line_sum(cells: &[Cell], at: usize, step: usize, len: usize) -> u64
@@ -93,18 +93,18 @@ pub(crate) fn total_squares(xs: &[u64], len: usize) -> u64
 pub(crate) fn line_sums(
     cells: &[Cell],
     gap: usize,
-    count: usize,
+    lines: usize,
     step: usize,
     len: usize,
     out: &mut [u64],
 )
-    requires { ⌜ Lines (length (now cells)) gap count step len × (count ≤ length (now out)) ⌝ }
+    requires { ⌜ Lines (length (now cells)) gap lines step len × (lines ≤ length (now out)) ⌝ }
     ensures { λ _. ⌜ now (out .exit)
-        ≡ filled (lineSum (now (cells .entry)) gap step len) count (now (out .entry)) ⌝ }
+        ≡ filled (lineSum (now (cells .entry)) gap step len) lines (now (out .entry)) ⌝ }
 {
     let mut i = 0;
     let mut at = 0;
-    while i < count {
+    while i < lines {
         out[i] = line_sum(cells, at, step, len);
         at += gap;
         i += 1;
@@ -115,20 +115,20 @@ pub(crate) fn line_sums(
 pub(crate) fn line_rests(
     cells: &[Cell],
     gap: usize,
-    count: usize,
+    lines: usize,
     step: usize,
     len: usize,
     totals: &[u64],
     out: &mut [u64],
 )
-    requires { ⌜ Lines (length (now cells)) gap count step len × (count ≤ length (now out)) ⌝ }
-    requires { ⌜ AllTotals (now cells) (now totals) gap count step len ⌝ }
+    requires { ⌜ Lines (length (now cells)) gap lines step len × (lines ≤ length (now out)) ⌝ }
+    requires { ⌜ AllTotals (now cells) (now totals) gap lines step len ⌝ }
     ensures { λ _. ⌜ now (out .exit)
-        ≡ filled (lineRest (now (cells .entry)) (now (totals .entry)) gap step len) count (now (out .entry)) ⌝ }
+        ≡ filled (lineRest (now (cells .entry)) (now (totals .entry)) gap step len) lines (now (out .entry)) ⌝ }
 {
     let mut i = 0;
     let mut at = 0;
-    while i < count {
+    while i < lines {
         out[i] = line_rest(cells, at, step, len, totals);
         at += gap;
         i += 1;

@@ -12,7 +12,7 @@ ghost use Rattle.sums.specs.Sum.{sum};
 ghost use Rattle.shapes.specs.Claims.{choose2};
 ghost use Rattle.tree_check.specs.Table.{word};
 ghost use Rattle.claims.specs.lemmas.CodeSizes.{codeSize};
-ghost use Rattle.claims.specs.lemmas.NodeSums.{sizesApart, nodeSum};
+ghost use Rattle.claims.specs.lemmas.SumsByNode.{sizesApart, nodeSum};
 ghost use Rattle.claims.specs.lemmas.SizeTerms.{SizesFew, sizeTerm};
 ghost use Rattle.claims.specs.lemmas.TreeSizes.{NodeSizes, TreeSizes};
 
@@ -36,16 +36,16 @@ fn size_term(s: u64, pairs: u64, rest: u64) -> u64
 }
 
 // What a node adds, from the sizes of the sets behind the codes into it.
-fn node_term(sizes: &[Cell], count: usize) -> u64
-    requires { ⌜ SizesFew (now sizes) count ⌝ }
-    ensures { λ r. ⌜ r ≡ sizesApart count (word (now (sizes .entry))) ⌝ }
+fn node_term(sizes: &[Cell], codes: usize) -> u64
+    requires { ⌜ SizesFew (now sizes) codes ⌝ }
+    ensures { λ r. ⌜ r ≡ sizesApart codes (word (now (sizes .entry))) ⌝ }
 {
-    let whole = line_sum(sizes, 0, 1, count);
-    let squares = line_squares(sizes, 0, 1, count);
+    let whole = line_sum(sizes, 0, 1, codes);
+    let squares = line_squares(sizes, 0, 1, codes);
     let mut plus: u64 = 0;
     let mut pairs: u64 = 0;
     let mut i = 0;
-    while i < count {
+    while i < codes {
         let s = cell_count(sizes[i]);
         let p = pairs_of(s);
         plus += size_term(s, p, whole - s);

@@ -8,7 +8,7 @@ ghost use Rattle.table_words.specs.Sizes.{tipsMost};
 ghost use Rattle.node_pairs.specs.theorems.Cells.{pairS2, pairS3};
 ghost use Rattle.node_pairs.specs.theorems.ThreeRows.{products3, weighed3};
 ghost use Rattle.claims.specs.lemmas.LineDots.{FewLines, lineOf};
-ghost use Rattle.claims.specs.lemmas.Lines.{lineCell};
+ghost use Rattle.claims.specs.lemmas.CellLines.{lineCell};
 ghost use Rattle.claims.specs.lemmas.ThreeLines.{LowLine, TwoSums};
 
 // A line and another: the sum of the first and of its squares, the products of cells at the same place, and these times

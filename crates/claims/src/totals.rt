@@ -45,8 +45,25 @@ fn sums_of(first_parents: &[u16], second_parents: &[u16], work: &[Cell], n: u16)
         &first_edges,
         &mut sizes,
     );
-    let second = tree_sum(work, 1, n, second_parents, &second_starts, &second_edges, &mut sizes);
-    let pairs = pair_sums(work, n, first_parents, &first_starts, &first_edges, second_parents, &second_starts, &second_edges);
+    let second = tree_sum(
+        work,
+        1,
+        n,
+        second_parents,
+        &second_starts,
+        &second_edges,
+        &mut sizes,
+    );
+    let pairs = pair_sums(
+        work,
+        n,
+        first_parents,
+        &first_starts,
+        &first_edges,
+        second_parents,
+        &second_starts,
+        &second_edges,
+    );
     ClaimSums {
         refusal: 0,
         first: first / 2,

@@ -59,7 +59,7 @@ fn ask_table(kind: u16, first: &[u16], table: &[u16]) {
     }
 }
 
-// The kinds of one table and cells.
+// The kinds of one table and cells, and those that need none.
 fn ask_cells(kind: u16, first: &[u16], table: &[u16], work: &mut [u16]) {
     match kind {
         1 => tree_cases::walk_case(table, work),
@@ -71,7 +71,7 @@ fn ask_cells(kind: u16, first: &[u16], table: &[u16], work: &mut [u16]) {
     }
 }
 
-// The kinds of two tables.
+// The kinds of two tables, and the others.
 fn ask_pair(kind: u16, first: &[u16], second: &[u16], work: &mut [u16]) {
     cells::fill(kind, work);
     match kind {

@@ -1,4 +1,4 @@
-// The cells that are lent to a call: what they hold before, and their sum afterwards.
+// Cells that are lent to a call: what they hold before, and their sum afterwards; words that are read or copied.
 use table_words::cell_count;
 
 // What a cell holds before a case of this kind: 9000, 9001, .. where cells are printed, and 7 where they are summed.

@@ -3,7 +3,7 @@
 // A case is a line of decimal numbers; cases.rt lists the kinds. The files stdin and stdout are written by
 // tests/example_cases.py, which works the answers out of docs/SPECIFICATION.md and shares nothing with the libraries.
 mod cases; // cases.rt: the kinds of cases
-mod cells; // cells.rt: the cells that are lent, and saturating sums
+mod cells; // cells.rt: what lent cells hold before a call, and their sum afterwards
 mod changes; // changes.rt: every change of one word of a table
 mod fours; // fours.rt: every set of three and of four labels
 mod pair_cases; // pair_cases.rt: crossings and split counts

@@ -68,6 +68,10 @@ listed f = elim (eqb (f .refusal) 0) [ true ↦ lines f | false ↦ line refused
 
 -- ---- the lent buffer
 
+-- how many bytes are always enough
+abbrev pub textRoom : ℕ
+textRoom = 512
+
 -- a buffer that is long enough begins with the listing afterwards; any other stays as it is
 unfoldable pub afterListing : Figures → List ℕ → List ℕ
 afterListing f old =

@@ -7,4 +7,5 @@ pub use figures::Claims;
 pub use figures::Figures;
 pub use figures::Quartets;
 pub use figures::Splits;
+pub use printed::TEXT;
 pub use printed::listing;

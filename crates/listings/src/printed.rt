@@ -9,7 +9,10 @@ ghost use lib.ListN.{length};
 ghost use Rattle.io.specs.Counts.{Counts};
 ghost use Rattle.listings.specs.lemmas.Written.{Written};
 ghost use Rattle.listings.specs.Listing.{firstLines, quartetLines, splitLine, lines, listed};
-ghost use Rattle.listings.specs.Listing.{bytesListed, afterListing};
+ghost use Rattle.listings.specs.Listing.{textRoom, bytesListed, afterListing};
+
+// The length of a text that is always enough for a listing.
+pub const TEXT: usize = 512;
 
 // The lines of the tips and of the claim sums.
 fn put_first_lines(figures: Figures, out: &mut [u8]) -> usize
@@ -78,11 +81,11 @@ pub fn listing(figures: Figures, out: &mut [u8]) -> usize
     ensures { λ r. ⌜
         (r ≡ bytesListed figures (now (out .entry)))
         × (now (out .exit) ≡ afterListing figures (now (out .entry)))
-        × (length (listed figures) ≤ 512)
+        × (length (listed figures) ≤ textRoom)
         ⌝ }
     ensures { λ r. ⌜ Counts r (now (out .exit)) ⌝ }
 {
-    let mut text = [0u8; 512];
+    let mut text = [0u8; TEXT];
     let n = put_listing(figures, &mut text);
     if n <= out.len() {
         return copy(&text[..n], 0, out);

@@ -5,7 +5,7 @@ pub mod CellTotals
 pub mod Cells
 pub mod CellsAlike
 pub mod ClosedForms
-pub mod CodeLists
+pub mod CodesOfANode
 pub mod Hooks
 pub mod NodePairs
 pub mod NodeSums

@@ -14,6 +14,17 @@ use Rattle.pair_check.specs.PairOrder.{pairOrder}
 use Rattle.listings.specs.declared.figures.Figures.{Figures}
 use Rattle.listings.specs.Listing.{ofRefusal}
 
+-- the most bytes of a file, and the most words
+abbrev pub bytesMost : ℕ
+bytesMost = 1016
+
+abbrev pub wordsMost : ℕ
+wordsMost = 508
+
+-- the work cells that each count of a file is lent
+abbrev pub cellsLent : ℕ
+cellsLent = 15625
+
 -- words of 16 bits, the lower byte first; a last odd byte gives none
 unfoldable pub fileWords : List ℕ → List ℕ
 fileWords [] = []
@@ -38,12 +49,12 @@ secondTable words = drop (firstLength words) words
 
 -- the pair's order on the two tables of a file, with 15625 cells
 unfoldable pub wordsOrder : List ℕ → List Rule
-wordsOrder words = pairOrder (firstTable words) (secondTable words) 15625
+wordsOrder words = pairOrder (firstTable words) (secondTable words) cellsLent
 
 unfoldable pub fileOrder : List ℕ → List Rule
 fileOrder bytes =
     -- more than 1016 bytes
-    (14, ltb 1016 (length bytes))
+    (14, ltb bytesMost (length bytes))
     -- an odd number of bytes
     ∷ (15, not (eqb (length bytes % 2) 0))
     -- then the pair's order

@@ -1,8 +1,8 @@
 // One comparison file: its bytes compared.
 mod words; // words.rt: the words of a file, and the first table's length
-mod files; // files.rt: a file compared
+mod comparison; // comparison.rt: a file compared
 
-pub use files::compare;
+pub use comparison::compare;
 pub use listings::Claims;
 pub use listings::Figures;
 pub use listings::Quartets;

@@ -17,7 +17,7 @@ use Rattle.node_pairs.specs.theorems.CellForms.{pairsOff}
 use Rattle.node_pairs.specs.theorems.PairsOff.{pairs-off-cell}
 use Rattle.sums.specs.theorems.Products.{product-le}
 use Rattle.claims.specs.lemmas.Block.{Block, blockCell}
-use Rattle.claims.specs.lemmas.Lines.{Line, Low, lineCell, squared}
+use Rattle.claims.specs.lemmas.CellLines.{Line, Low, lineCell, squared}
 use Rattle.claims.specs.lemmas.MatrixBounds.{cell-row-le, cell-column-le, row-without-is, column-without-is}
 use Rattle.claims.specs.lemmas.MatrixBounds.{row-le, column-le, squares-le, row-squares-le, column-squares-le}
 use Rattle.claims.specs.lemmas.MatrixBounds.{down-le, along-le}

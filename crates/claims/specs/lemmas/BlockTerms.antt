@@ -16,7 +16,7 @@ use Rattle.node_pairs.specs.theorems.CellForms.{pairS2-cells}
 use Rattle.node_pairs.specs.theorems.ClosedForms.{dotSquares, termSquares, pairS3-rows, pairS3-columns}
 use Rattle.sums.specs.theorems.Products.{product-le}
 use Rattle.claims.specs.lemmas.Block.{Block, blockCell}
-use Rattle.claims.specs.lemmas.Lines.{Lines, AllTotals, lineSum, lineRest}
+use Rattle.claims.specs.lemmas.CellLines.{Lines, AllTotals, lineSum, lineRest}
 use Rattle.claims.specs.lemmas.Filled.{filled, filled-at, length-filled}
 use Rattle.claims.specs.lemmas.MatrixBounds.{cell-row-le, cell-column-le, row-without-is, column-without-is}
 use Rattle.claims.specs.lemmas.MatrixBounds.{row-le, column-le}

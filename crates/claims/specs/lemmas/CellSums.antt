@@ -8,7 +8,7 @@ use Rattle.sums.specs.Sum.{sum}
 use Rattle.shapes.specs.Claims.{choose2}
 use Rattle.node_pairs.specs.theorems.CellForms.{pairsOff}
 use Rattle.node_pairs.specs.theorems.Hooks.{hooksPlus, hooksMinus}
-use Rattle.claims.specs.lemmas.Lines.{sum-next, sum-step}
+use Rattle.claims.specs.lemmas.CellLines.{sum-next, sum-step}
 
 module _ (d d' : ℕ) (I : ℕ → ℕ → ℕ) where
   -- what cell i, j gives to twice S2, ..

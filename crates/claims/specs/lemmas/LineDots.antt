@@ -13,7 +13,7 @@ use Rattle.sums.specs.SetsOfFour.{sets2}
 use Rattle.tree_check.specs.Table.{word}
 use Rattle.node_pairs.specs.theorems.ClosedForms.{dot, dotSquares, termSquares}
 use Rattle.sums.specs.theorems.Products.{product-le}
-use Rattle.claims.specs.lemmas.Lines.{Line, Low, lineCell, squared, sum-next, sum-step}
+use Rattle.claims.specs.lemmas.CellLines.{Line, Low, lineCell, squared, sum-next, sum-step}
 use Rattle.claims.specs.lemmas.Filled.{filled, filled-at}
 use Rattle.claims.specs.lemmas.MatrixBounds.{products-le}
 

@@ -17,11 +17,11 @@ use Rattle.node_pairs.specs.theorems.CellsAlike.{pairS2-ext, pairS3-ext}
 use Rattle.tree_check.specs.Table.{word}
 use Rattle.claims.specs.lemmas.Block.{Block, blockCell}
 use Rattle.claims.specs.lemmas.CodeCells.{Crossed, codeCell, ownCell, childCell}
-use Rattle.claims.specs.lemmas.CodeLists.{CodeLists, nodePart, part-length, part-edge, edge-inside}
+use Rattle.claims.specs.lemmas.NodeCodes.{CodeLists, nodePart, part-length, part-edge, edge-inside}
 use Rattle.code_lists.specs.ListedCodes.{degreeAt}
 use Rattle.code_lists.specs.lemmas.InnerNodes.{InnerNodes}
 use Rattle.claims.specs.lemmas.NodeBlock.{NodeEdges, RowsFilled}
-use Rattle.claims.specs.lemmas.NodeSums.{edgeInto, pairSumS2, pairSumS3}
+use Rattle.claims.specs.lemmas.SumsByNode.{edgeInto, pairSumS2, pairSumS3}
 
 -- ---- two sums in step
 

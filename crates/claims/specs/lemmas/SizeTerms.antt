@@ -12,8 +12,8 @@ use Rattle.sums.specs.theorems.Products.{product-le}
 use Rattle.shapes.specs.Claims.{choose2}
 use Rattle.node_pairs.specs.theorems.NodeSums.{others, others-and-own, node-closed}
 use Rattle.tree_check.specs.Table.{word}
-use Rattle.claims.specs.lemmas.Lines.{Line, lineCell, squared, sum-next}
-use Rattle.claims.specs.lemmas.NodeSums.{sizesApart}
+use Rattle.claims.specs.lemmas.CellLines.{Line, lineCell, squared, sum-next}
+use Rattle.claims.specs.lemmas.SumsByNode.{sizesApart}
 
 -- `count` sizes that add up to 256 at most
 pub record SizesFew (sizes : List ℕ) (count : ℕ) : Type 0 where

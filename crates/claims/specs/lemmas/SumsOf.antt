@@ -21,13 +21,13 @@ use Rattle.tree_pairs.specs.Crossings.{crossed}
 use Rattle.claims.specs.ClaimAnswer.{sumsOfPair, refusedSums, claimAnswer}
 use Rattle.claims.specs.declared.totals.ClaimSums.{ClaimSums}
 use Rattle.claims.specs.lemmas.CodeCells.{Crossed, codeCell, row-start}
-use Rattle.claims.specs.lemmas.CodeLists.{CodeLists}
+use Rattle.claims.specs.lemmas.NodeCodes.{CodeLists}
 use Rattle.code_lists.specs.ListedCodes.{degreeAt}
 use Rattle.code_lists.specs.lemmas.CodesAt.{Parents, Starts, EdgeList}
 use Rattle.claims.specs.lemmas.CodeSizes.{codeSize, SizeCell}
 use Rattle.claims.specs.lemmas.DirectedCells.{crossed-cells}
-use Rattle.claims.specs.lemmas.NodeSums.{edgeInto, nodeSum, first-sum, second-sum, same-sum, different-sum}
-use Rattle.claims.specs.lemmas.NodeSums.{first-whole, second-whole, cells-whole}
+use Rattle.claims.specs.lemmas.SumsByNode.{edgeInto, nodeSum, first-sum, second-sum, same-sum, different-sum}
+use Rattle.claims.specs.lemmas.SumsByNode.{first-whole, second-whole, cells-whole}
 use Rattle.claims.specs.lemmas.PairLoops.{NodePairs, nodeS2, nodeS3}
 use Rattle.claims.specs.lemmas.TreeCodes.{tree-parents, degree-few, root-degree}
 use Rattle.claims.specs.lemmas.TreeSizes.{TreeSizes}

@@ -12,7 +12,7 @@ use Rattle.sums.specs.theorems.Exclusion.{pair-apart}
 use Rattle.node_pairs.specs.theorems.Cells.{pairS2, pairS3}
 use Rattle.node_pairs.specs.theorems.ThreeRows.{products, weighed, products3, weighed3, products-turned, weighed-turned}
 use Rattle.node_pairs.specs.theorems.ThreeRows.{three-rows-S2, three-rows-S3}
-use Rattle.claims.specs.lemmas.Lines.{lineCell}
+use Rattle.claims.specs.lemmas.CellLines.{lineCell}
 use Rattle.claims.specs.lemmas.LineDots.{FewLines, lineOf}
 
 -- a line in a slice, short and low

@@ -7,7 +7,7 @@ use native.Mathlib.Decide.{decLt}
 use native.Mathlib.Omega.{arith}
 use lib.ListN.{length}
 use Rattle.shapes.specs.Directions.{head}
-use Rattle.node_pairs.specs.theorems.CodeLists.{Lists, lists-codes, distinct}
+use Rattle.node_pairs.specs.theorems.CodesOfANode.{Lists, lists-codes, distinct}
 use Rattle.tree_check.specs.Table.{Table, word, tips, nodes, parents, parent}
 use Rattle.tree_check.specs.lemmas.TableParts.{parents-length}
 use Rattle.tree_check.specs.IsTree.{IsTree}

@@ -10,12 +10,12 @@ use Rattle.table_words.specs.Sizes.{tipsMost}
 use Rattle.sums.specs.Sum.{sum}
 use Rattle.sums.specs.theorems.SumLaws.{sum-suc, sum-ext, sum-part}
 use Rattle.tree_check.specs.Table.{word}
-use Rattle.claims.specs.lemmas.CodeLists.{CodeLists, nodePart, part-length, part-edge, edge-inside}
+use Rattle.claims.specs.lemmas.NodeCodes.{CodeLists, nodePart, part-length, part-edge, edge-inside}
 use Rattle.code_lists.specs.ListedCodes.{degreeAt}
 use Rattle.claims.specs.lemmas.CodeSizes.{codeSize, SizeCell, SizesRoom}
 use Rattle.claims.specs.lemmas.NodeBlock.{Written}
 use Rattle.claims.specs.lemmas.SizeTerms.{SizesFew}
-use Rattle.claims.specs.lemmas.NodeSums.{edgeInto, sizesApart, nodeSum, sizes-apart-ext}
+use Rattle.claims.specs.lemmas.SumsByNode.{edgeInto, sizesApart, nodeSum, sizes-apart-ext}
 
 -- ---- one node
 

@@ -14,7 +14,7 @@ use Rattle.sums.specs.theorems.BitLaws.{is-eq, is-other}
 use Rattle.shapes.specs.Directions.{head}
 use Rattle.shapes.specs.theorems.DirectionLaws.{head-even, head-odd}
 use Rattle.node_pairs.specs.CodesInto.{degreeOf}
-use Rattle.node_pairs.specs.theorems.CodeLists.{degree-suc}
+use Rattle.node_pairs.specs.theorems.CodesOfANode.{degree-suc}
 use Rattle.tree_check.specs.Table.{word}
 use Rattle.code_lists.specs.ListedCodes.{codesOf, degreeAt, codesBefore}
 use Rattle.code_lists.specs.lemmas.CodesAt.{Parents, degree-mono, starts-inside, starts-suc}

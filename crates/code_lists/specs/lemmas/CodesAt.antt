@@ -15,8 +15,8 @@ use Rattle.sums.specs.theorems.BitLaws.{is-eq, is-other, alike}
 use Rattle.shapes.specs.Directions.{head}
 use Rattle.shapes.specs.theorems.DirectionLaws.{head-even, head-odd, code-cases}
 use Rattle.node_pairs.specs.CodesInto.{degreeOf, codeAt}
-use Rattle.node_pairs.specs.theorems.CodeLists.{code-before, code-last, degree-suc, lists-codes}
-use Rattle.node_pairs.specs.theorems.CodeLists.{distinct}
+use Rattle.node_pairs.specs.theorems.CodesOfANode.{code-before, code-last, degree-suc, lists-codes}
+use Rattle.node_pairs.specs.theorems.CodesOfANode.{distinct}
 use Rattle.tree_check.specs.Table.{word}
 use Rattle.code_lists.specs.ListedCodes.{codesOf, degreeAt, codeInto, codesBefore}
 

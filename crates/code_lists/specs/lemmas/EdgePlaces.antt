@@ -14,7 +14,7 @@ use Rattle.sums.specs.theorems.SumLaws.{sum-part}
 use Rattle.sums.specs.theorems.BitLaws.{is-eq, is-other}
 use Rattle.shapes.specs.Directions.{head}
 use Rattle.node_pairs.specs.CodesInto.{degreeOf, codeAt}
-use Rattle.node_pairs.specs.theorems.CodeLists.{code-before, code-last, degree-suc}
+use Rattle.node_pairs.specs.theorems.CodesOfANode.{code-before, code-last, degree-suc}
 use Rattle.tree_check.specs.Table.{word}
 use Rattle.code_lists.specs.ListedCodes.{codesOf, degreeAt, codeInto, codesBefore}
 use Rattle.code_lists.specs.lemmas.CodesAt.{Parents, degree-mono, starts-inside, starts-suc}

@@ -2,21 +2,19 @@
 -- Assumes nothing.
 use mathlib.Core.Path.{_≡_, refl, sym, _∙_, ap}
 use mathlib.Core.List.{List}
-use mathlib.Core.Logic.{_≢_}
-use Prim.Native.Nat.{ℕ, zero, suc, _+_, _*_, _-_, _≤_, _<_}
+use Prim.Native.Nat.{ℕ, suc, _+_, _*_, _-_, _≤_, _<_}
 use native.Mathlib.Decide.{ℕ-discrete, decLt}
 use native.Mathlib.Nat.{lt-of-not-le}
-use native.Mathlib.Numerals.{add-one}
 use native.Mathlib.Omega.{arith}
 use lib.ListN.{length, set, length-set}
 use lib.Seq.{getD-set-same, getD-set-other}
 use Rattle.sums.specs.Sum.{sum}
 use Rattle.sums.specs.theorems.SumLaws.{sum-ext, sum-mono, sum-const}
-use Rattle.sums.specs.Bits.{bit, is}
 use Rattle.sums.specs.theorems.BitLaws.{bit-T, bit-no, bit-le, is-eq, is-other}
+use Rattle.sums.specs.Bits.{is}
 use Rattle.sums.specs.theorems.TestLaws.{le-iff}
-use Rattle.node_pairs.specs.CodesInto.{degreeOf, codeAt}
-use Rattle.node_pairs.specs.theorems.CodeLists.{code-before, code-last, degree-suc, lists-codes}
+use Rattle.node_pairs.specs.CodesInto.{degreeOf}
+use Rattle.node_pairs.specs.theorems.CodesOfANode.{code-before, code-last, degree-suc, lists-codes}
 use Rattle.tree_check.specs.Table.{word}
 use Rattle.code_lists.specs.ListedCodes.{degreeAt, isInner, innerCount, innerAt, nodesSeen, innerCell}
 use Rattle.code_lists.specs.lemmas.Passed.{if-passed, if-not, lt-true, lt-false, le-true, le-false}

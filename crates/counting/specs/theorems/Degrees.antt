@@ -10,7 +10,7 @@ use Rattle.sums.specs.Bits.{bit}
 use Rattle.sums.specs.theorems.BitLaws.{bit-not}
 use Rattle.shapes.specs.Directions.{head, behind}
 use Rattle.shapes.specs.theorems.DirectionLaws.{behind-even, behind-odd, code-cases}
-use Rattle.node_pairs.specs.theorems.CodeLists.{Lists}
+use Rattle.node_pairs.specs.theorems.CodesOfANode.{Lists}
 use Rattle.node_pairs.specs.theorems.CellTotals.{listed-behind-one}
 use Rattle.tree_check.specs.Table.{Table, tips, nodes, parent, nodeOf, beyond}
 use Rattle.tree_check.specs.IsTree.{IsTree}

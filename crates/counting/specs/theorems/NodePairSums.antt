@@ -12,7 +12,7 @@ use Rattle.shapes.specs.Directions.{head}
 use Rattle.shapes.specs.Claims.{choose2}
 use Rattle.node_pairs.specs.theorems.Cells.{sumApart, pairS2, pairS3}
 use Rattle.node_pairs.specs.CodesInto.{degreeOf, codeAt}
-use Rattle.node_pairs.specs.theorems.CodeLists.{Lists, lists-codes}
+use Rattle.node_pairs.specs.theorems.CodesOfANode.{Lists, lists-codes}
 use Rattle.node_pairs.specs.theorems.NodeSums.{S-by-nodes}
 use Rattle.node_pairs.specs.theorems.NodePairs.{Listed, S2-by-node-pairs, S3-by-node-pairs}
 use Rattle.node_pairs.specs.theorems.CellTotals.{crossings-le}

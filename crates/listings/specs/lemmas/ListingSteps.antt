@@ -19,6 +19,7 @@ use Rattle.listings.specs.lemmas.Written.{Written, written, written-both
 use Rattle.listings.specs.Listing.{leavesWord, claimsWord, quartetsWord, distanceWord, splitsWord, refusedWord}
 use Rattle.listings.specs.Listing.{firstLines, quartetLines, splitLine, lines, listed}
 use Rattle.listings.specs.Listing.{afterListing, bytesListed}
+use Rattle.listings.specs.Listing.{textRoom}
 
 -- ---- the lines, one after the other
 
@@ -66,7 +67,7 @@ listed-refused f old end new k e d h = rw (ne-eqb (f .refusal) 0 d, listed) (rw 
 -- ---- the listing in the lent buffer
 
 module _ (f : Figures) (old text : List ℕ) (n : ℕ) (new : List ℕ) (h : Written 0 text (listed f) n new)
-    (m : n ≤ 512) where
+    (m : n ≤ textRoom) where
   bytes : take n new ≡ listed f
   bytes = h .text
 
@@ -75,7 +76,7 @@ module _ (f : Figures) (old text : List ℕ) (n : ℕ) (new : List ℕ) (h : Wri
 
   pub listing-fits : n ≤ length old → (r : ℕ) (last : List ℕ) → r ≡ 0 + length (take n new)
       → last ≡ written 0 (take n new) old
-      → (r ≡ bytesListed f old) × (last ≡ afterListing f old) × (length (listed f) ≤ 512)
+      → (r ≡ bytesListed f old) × (last ≡ afterListing f old) × (length (listed f) ≤ textRoom)
   unfolding bytesListed afterListing written
   listing-fits l r last er el = (
     rw (fits, bytesListed) (omega (arith, ap length bytes)),
@@ -90,7 +91,7 @@ module _ (f : Figures) (old text : List ℕ) (n : ℕ) (new : List ℕ) (h : Wri
       after = rw bytes (rw (zero-add, written))
 
   pub listing-short : length old < n
-      → (0 ≡ bytesListed f old) × (old ≡ afterListing f old) × (length (listed f) ≤ 512)
+      → (0 ≡ bytesListed f old) × (old ≡ afterListing f old) × (length (listed f) ≤ textRoom)
   unfolding bytesListed afterListing
   listing-short l = (rw (short, bytesListed), rw (short, afterListing), omega (arith, count))
     where
@@ -114,10 +115,10 @@ listing-counts f old r new er en = rw (er, en) (
 )
 
 -- 512 bytes hold a listing that has no more: the bytes that are told are the listing
-pub listing-in-512 : (f : Figures) (old : List ℕ) → length (listed f) ≤ 512 → 512 ≤ length old
+pub listing-in-room : (f : Figures) (old : List ℕ) → length (listed f) ≤ textRoom → textRoom ≤ length old
     → take (bytesListed f old) (afterListing f old) ≡ listed f
 unfolding bytesListed afterListing
-listing-in-512 f old l m =
+listing-in-room f old l m =
     rw (fits, bytesListed, afterListing) (take-append-seam (listed f) (drop (length (listed f)) old))
   where
     fits : leb (length (listed f)) (length old) ≡ true

@@ -18,7 +18,7 @@ use Rattle.shapes.specs.theorems.DirectionLaws.{into, one-way}
 use Rattle.shapes.specs.theorems.Shape.{Shape}
 use Rattle.shapes.specs.theorems.LabelSums.{bitIn, crossing}
 use Rattle.node_pairs.specs.theorems.Cells.{apart, sumApart, pairS2, pairS3}
-use Rattle.node_pairs.specs.theorems.CodeLists.{Lists}
+use Rattle.node_pairs.specs.theorems.CodesOfANode.{Lists}
 
 -- ---- fewer than three codes
 

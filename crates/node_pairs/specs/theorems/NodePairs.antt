@@ -12,7 +12,7 @@ use Rattle.shapes.specs.theorems.ClaimPairs.{sumPairs, same-ordered, different-
 use Rattle.node_pairs.specs.theorems.Cells.{sumApart, pairS2, pairS3}
 use Rattle.node_pairs.specs.theorems.ApartSums.{apart-sum}
 use Rattle.node_pairs.specs.CodesInto.{degreeOf, codeAt}
-use Rattle.node_pairs.specs.theorems.CodeLists.{Lists, lists-codes}
+use Rattle.node_pairs.specs.theorems.CodesOfANode.{Lists, lists-codes}
 use Rattle.node_pairs.specs.theorems.NodeSums.{by-nodes}
 
 -- a tree with a list of the codes into each node

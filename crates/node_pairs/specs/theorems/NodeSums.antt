@@ -16,7 +16,7 @@ use Rattle.shapes.specs.theorems.EulerCentre.{head-le}
 use Rattle.shapes.specs.Claims.{sumClaims, choose2, claimTerm}
 use Rattle.shapes.specs.theorems.OrderedClaims.{sumOrdered, ordered-cong, claims-ordered}
 use Rattle.node_pairs.specs.theorems.Cells.{apart, sumApart}
-use Rattle.node_pairs.specs.theorems.CodeLists.{Lists, same-ne}
+use Rattle.node_pairs.specs.theorems.CodesOfANode.{Lists, same-ne}
 
 -- ---- one node
 

@@ -24,10 +24,11 @@ use Rattle.pair_file.specs.PairFile.{fileWords, firstLength, firstTable,
 use Rattle.pair_file.specs.PairFile.{fileOrder, figuresOf, comparison}
 use Rattle.pair_file.specs.lemmas.FileWords.{first-part, second-part}
 use Rattle.pair_file.specs.lemmas.FileOrder.{too-long, odd-length, even-length}
+use Rattle.pair_file.specs.PairFile.{bytesMost, cellsLent}
 
 -- the figures of two tables, by the pair's order
 unfoldable pub pairFigures : Table → Table → Figures
-pairFigures t u = figuresOf (refusal (pairOrder t u 15625)) t u
+pairFigures t u = figuresOf (refusal (pairOrder t u cellsLent)) t u
 
 -- the figures of a file's words
 unfoldable pub wordFigures : List ℕ → Figures
@@ -60,15 +61,15 @@ answered n sums cases counts = record {
 figures-refused : (k : ℕ) (t u : Table) → k ≢ 0 → ofRefusal k ≡ figuresOf k t u
 figures-refused k t u d = sym (if-refused k _ _ d)
 
-pub pair-refused : (t u : Table) (k : ℕ) → k ≡ refusal (pairOrder t u 15625) → k ≢ 0 → ofRefusal k ≡ pairFigures t u
+pub pair-refused : (t u : Table) (k : ℕ) → k ≡ refusal (pairOrder t u cellsLent) → k ≢ 0 → ofRefusal k ≡ pairFigures t u
 unfolding pairFigures
 pair-refused t u k e d = figures-refused k t u d ∙ ap (λ (j : ℕ). figuresOf j t u) e
 
-pub pair-accepted : (t u : Table) → PairWithCells t u 15625 → (n : ℕ) (sums : ClaimSums) (cases : QuartetTable)
-    (counts : SplitCounts) → n ≡ tips t → sums ≡ claimAnswer t u 15625 → cases ≡ quartetAnswer t u 15625
-    → counts ≡ splitAnswer t u 15625 → answered n sums cases counts ≡ pairFigures t u
+pub pair-accepted : (t u : Table) → PairWithCells t u cellsLent → (n : ℕ) (sums : ClaimSums) (cases : QuartetTable)
+    (counts : SplitCounts) → n ≡ tips t → sums ≡ claimAnswer t u cellsLent → cases ≡ quartetAnswer t u cellsLent
+    → counts ≡ splitAnswer t u cellsLent → answered n sums cases counts ≡ pairFigures t u
 unfolding pairFigures claimAnswer quartetAnswer splitAnswer ifAccepted
-pair-accepted t u p n sums cases counts en e ec es = rw (en, e, ec, es, pair-check t u 15625 .1 p) refl
+pair-accepted t u p n sums cases counts en e ec es = rw (en, e, ec, es, pair-check t u cellsLent .1 p) refl
 
 -- ---- a whole file
 
@@ -86,10 +87,10 @@ module _ (bytes : List ℕ) where
       let u = secondTable (fileWords bytes) in
       figures-refused k t u d ∙ ap (λ (j : ℕ). figuresOf j t u) (sym e)
 
-  pub file-too-long : 1016 < length bytes → ofRefusal 14 ≡ comparison bytes
+  pub file-too-long : bytesMost < length bytes → ofRefusal 14 ≡ comparison bytes
   file-too-long l = file-refused 14 (λ z. omega (arith, z)) (too-long bytes l)
 
-  module _ (l : length bytes ≤ 1016) where
+  module _ (l : length bytes ≤ bytesMost) where
     pub file-odd : length bytes % 2 ≢ 0 → ofRefusal 15 ≡ comparison bytes
     file-odd d = file-refused 15 (λ z. omega (arith, z)) (odd-length bytes l d)
 

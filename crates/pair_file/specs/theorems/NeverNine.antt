@@ -20,6 +20,7 @@ use Rattle.pair_check.specs.lemmas.PairOutcomes.{tables-refused, pair-kept}
 use Rattle.pair_file.specs.PairFile.{fileWords, firstTable, secondTable, wordsOrder, fileOrder}
 use Rattle.pair_file.specs.lemmas.FileWords.{words-length, tables-length}
 use Rattle.pair_file.specs.lemmas.FileOrder.{too-long, odd-length, even-length}
+use Rattle.pair_file.specs.PairFile.{bytesMost, cellsLent, wordsMost}
 
 -- two numbers whose sum is at most 2 * k have a product of at most k * k, the smaller named first
 lower-product : (k a b x : ℕ) → a + x ≡ k → b ≤ k + x → a * b ≤ k * k
@@ -37,7 +38,7 @@ product-most k a b l = elim (decLe a k) [
 ]
 
 -- two trees of at most 508 words have a cell for each pair of edges among 15625
-cells-enough : (t u : Table) → IsTree t → IsTree u → length t + length u ≤ 508 → cellsNeeded t u ≤ 15625
+cells-enough : (t u : Table) → IsTree t → IsTree u → length t + length u ≤ wordsMost → cellsNeeded t u ≤ cellsLent
 cells-enough t u g h l = product-most 125 _ _ (omega (arith, g .words, h .words))
 
 -- 9 is no number of two tables alone
@@ -56,16 +57,16 @@ tables-never-nine t u z = elim (ℕ-discrete (refusal (treeOrder t)) 0) [
       | no d ↦ omega (arith, z, tips-differ t u g h d)
     ]
 
-never-pair : (t u : Table) → length t + length u ≤ 508 → refusal (pairOrder t u 15625) ≢ 9
+never-pair : (t u : Table) → length t + length u ≤ wordsMost → refusal (pairOrder t u cellsLent) ≢ 9
 never-pair t u few z = elim (ℕ-discrete (refusal (tablesOrder t u)) 0) [
   | yes e ↦ (let p = tables-check t u .0 e in
-      omega (arith, z, pair-kept t u 15625 p (cells-enough t u (p .first) (p .second) few)))
-  | no d ↦ tables-never-nine t u (sym (tables-refused t u 15625 _ refl d) ∙ z)
+      omega (arith, z, pair-kept t u cellsLent p (cells-enough t u (p .first) (p .second) few)))
+  | no d ↦ tables-never-nine t u (sym (tables-refused t u cellsLent _ refl d) ∙ z)
 ]
 
 -- the number of a file is never 9
 pub never-nine : (bytes : List ℕ) → refusal (fileOrder bytes) ≢ 9
-never-nine bytes z = elim (decLe (length bytes) 1016) [
+never-nine bytes z = elim (decLe (length bytes) bytesMost) [
   | yes l ↦ elim (ℕ-discrete (length bytes % 2) 0) [
     | yes e ↦ short l (sym (even-length bytes l e) ∙ z)
     | no d ↦ omega (arith, z, odd-length bytes l d)
@@ -73,6 +74,6 @@ never-nine bytes z = elim (decLe (length bytes) 1016) [
   | no d ↦ omega (arith, z, too-long bytes (omega arith))
 ]
   where
-    short : length bytes ≤ 1016 → refusal (wordsOrder (fileWords bytes)) ≢ 9
+    short : length bytes ≤ bytesMost → refusal (wordsOrder (fileWords bytes)) ≢ 9
     short l = unfold wordsOrder in never-pair (firstTable (fileWords bytes)) (secondTable (fileWords bytes))
         (omega (arith, tables-length (fileWords bytes), words-length bytes))

@@ -10,7 +10,7 @@ use Rattle.table_words.specs.Sizes.{tipsMost}
 use Rattle.sums.specs.Sum.{sum}
 use Rattle.tree_check.specs.Table.{word}
 use Rattle.sums.specs.theorems.Products.{product-le}
-use Rattle.claims.specs.lemmas.Lines.{lineCell, squared, sum-step}
+use Rattle.claims.specs.lemmas.CellLines.{lineCell, squared, sum-step}
 use Rattle.claims.specs.lemmas.Filled.{filled, filled-next, filled-later}
 use Rattle.claims.specs.lemmas.LineDots.{scaled, added}
 use borrow.Author.Needs.{needs}
@@ -18,8 +18,8 @@ use Rattle.claims.proofs.dots.add_line.Statement.{statement}
 use Rattle.claims.proofs.dots.add_line.Tie as tie
 
 abbrev Inv-loop : tie.InvT-loop
-Inv-loop cells t at gap count dots₀ s₀ k₀ l₀ dots s k l =
-    (l ≤ count)
+Inv-loop cells t at gap lines dots₀ s₀ k₀ l₀ dots s k l =
+    (l ≤ lines)
     × (k ≡ at + l * gap)
     × (length dots ≡ length dots₀)
     × (dots ≡ filled (added cells dots₀ t at gap) l dots₀)
@@ -27,7 +27,7 @@ Inv-loop cells t at gap count dots₀ s₀ k₀ l₀ dots s k l =
     × (s ≤ l * 4294967296)
 
 abbrev μ-loop : tie.MeasureT-loop
-μ-loop cells t at gap count dots₀ s₀ k₀ l₀ dots s k l = count - l
+μ-loop cells t at gap lines dots₀ s₀ k₀ l₀ dots s k l = lines - l
 
 abbrev loop : tie.After-cell-count Inv-loop μ-loop → tie.At-loop Inv-loop μ-loop
 loop c = c .before .before .before
@@ -141,7 +141,7 @@ same-length c = search needs
 returns : tie.Need-returns Inv-loop μ-loop
 returns c =
     let l = c .before .loop in
-    let e : l .l ≡ c .before .before .before .before .args .count = omega arith in
+    let e : l .l ≡ c .before .before .before .before .args .lines = omega arith in
     (rw e at (l .inv .3), (rw e at (l .inv .4), omega arith))
 
 pub add-line-spec : {M : Type 1} → statement M

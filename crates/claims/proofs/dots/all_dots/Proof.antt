@@ -6,7 +6,7 @@ use native.Mathlib.Omega.{arith}
 use lib.ListN.{length}
 use Rattle.sums.specs.Sum.{sum}
 use Rattle.node_pairs.specs.theorems.Aggregates.{squares}
-use Rattle.claims.specs.lemmas.Lines.{sum-step}
+use Rattle.claims.specs.lemmas.CellLines.{sum-step}
 use Rattle.claims.specs.lemmas.LineDots.{dotSquaresOf, termSquaresOf, fewer-lines, dot-squares-lines}
 use Rattle.claims.specs.lemmas.LineDots.{term-squares-lines}
 use borrow.Author.Needs.{needs}
@@ -14,8 +14,8 @@ use Rattle.claims.proofs.dots.all_dots.Statement.{statement}
 use Rattle.claims.proofs.dots.all_dots.Tie as tie
 
 abbrev Inv-loop : tie.InvT-loop
-Inv-loop cells gap count step len dots₀ squares₀ terms₀ i₀ dots squares terms i =
-    (i ≤ count)
+Inv-loop cells gap lines step len dots₀ squares₀ terms₀ i₀ dots squares terms i =
+    (i ≤ lines)
     × (length dots ≡ length dots₀)
     × (squares ≡ sum i (λ l. dotSquaresOf cells gap step l len))
     × (terms ≡ sum i (λ l. termSquaresOf cells gap step l len))
@@ -23,7 +23,7 @@ Inv-loop cells gap count step len dots₀ squares₀ terms₀ i₀ dots squares 
     × (terms ≤ i * 281474976710656)
 
 abbrev μ-loop : tie.MeasureT-loop
-μ-loop cells gap count step len dots₀ squares₀ terms₀ i₀ dots squares terms i = count - i
+μ-loop cells gap lines step len dots₀ squares₀ terms₀ i₀ dots squares terms i = lines - i
 
 abbrev start : tie.At-loop Inv-loop μ-loop → tie.Start Inv-loop μ-loop
 start c = c .before .before .before
@@ -78,7 +78,7 @@ returns : tie.Need-returns Inv-loop μ-loop
 returns c =
     let l = c .before .loop in
     let p = start (c .before) in
-    let e : l .i ≡ p .args .count = omega arith in (
+    let e : l .i ≡ p .args .lines = omega arith in (
       rw e at (l .inv .2) ∙ dot-squares-lines (p .args .cells .now) (p .args .gap) (p .args .step) _ _,
       rw e at (l .inv .3) ∙ term-squares-lines (p .args .cells .now) (p .args .gap) (p .args .step) _ _,
       omega (arith, l .inv .4, p .pre .0 .count-few),

@@ -10,11 +10,11 @@ use Rattle.claims.proofs.dots.clear.Statement.{statement}
 use Rattle.claims.proofs.dots.clear.Tie as tie
 
 abbrev Inv-loop : tie.InvT-loop
-Inv-loop dots₀ count l₀ dots l =
-    (l ≤ count) × (length dots ≡ length dots₀) × (dots ≡ filled (λ l. 0) l dots₀)
+Inv-loop dots₀ lines l₀ dots l =
+    (l ≤ lines) × (length dots ≡ length dots₀) × (dots ≡ filled (λ l. 0) l dots₀)
 
 abbrev μ-loop : tie.MeasureT-loop
-μ-loop dots₀ count l₀ dots l = count - l
+μ-loop dots₀ lines l₀ dots l = lines - l
 
 loop-holds : tie.Need-loop-holds Inv-loop μ-loop
 unfolding filled
@@ -43,7 +43,7 @@ same-length c = search needs
 returns : tie.Need-returns Inv-loop μ-loop
 returns c =
     let l = c .before .loop in
-    let e : l .l ≡ c .before .before .args .count = omega arith in
+    let e : l .l ≡ c .before .before .args .lines = omega arith in
     rw e at (l .inv .2)
 
 pub clear-spec : {M : Type 1} → statement M

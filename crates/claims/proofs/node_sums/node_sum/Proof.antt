@@ -2,7 +2,7 @@
 -- Assumes nothing.
 use mathlib.Core.Path.{sym}
 use native.Mathlib.Omega.{arith}
-use Rattle.claims.specs.lemmas.NodeSums.{sizes-few}
+use Rattle.claims.specs.lemmas.SumsByNode.{sizes-few}
 use Rattle.claims.specs.lemmas.TreeSizes.{sizes-room, written-few, written-sum}
 use Rattle.claims.proofs.node_sums.node_sum.Statement.{statement}
 use Rattle.claims.proofs.node_sums.node_sum.Tie as tie

@@ -9,10 +9,10 @@ use Rattle.claims.proofs.node_sums.node_term.Statement.{statement}
 use Rattle.claims.proofs.node_sums.node_term.Tie as tie
 
 abbrev Inv-loop : tie.InvT-loop
-Inv-loop sizes count whole squares plus₀ pairs₀ i₀ plus pairs i = (i ≤ count) × SizeTerms sizes count i plus pairs
+Inv-loop sizes codes whole squares plus₀ pairs₀ i₀ plus pairs i = (i ≤ codes) × SizeTerms sizes codes i plus pairs
 
 abbrev μ-loop : tie.MeasureT-loop
-μ-loop sizes count whole squares plus₀ pairs₀ i₀ plus pairs i = count - i
+μ-loop sizes codes whole squares plus₀ pairs₀ i₀ plus pairs i = codes - i
 
 line-sum-requires : tie.Need-line-sum-requires Inv-loop μ-loop
 line-sum-requires c κs = sizes-line _ _ (c .before .pre)
@@ -49,7 +49,7 @@ sub-size-term c =
     omega (
       arith,
       b .cell-count .ensures .0,
-      line-whole (s .args .sizes .now) (s .args .count) _ (w .line-sum .ensures),
+      line-whole (s .args .sizes .now) (s .args .codes) _ (w .line-sum .ensures),
       size-low _ _ (s .pre) _ (l .loop-test .taken),
     )
 
@@ -60,7 +60,7 @@ size-term-requires c κs =
     let w = l .before .before .before in
     let s = w .before .before in
     let q = size-low _ _ (s .pre) _ (l .loop-test .taken) in
-    let e = line-whole (s .args .sizes .now) (s .args .count) _ (w .line-sum .ensures) in
+    let e = line-whole (s .args .sizes .now) (s .args .codes) _ (w .line-sum .ensures) in
     (omega (arith, b .cell-count .ensures .0, q), omega (arith, e, q), c .pairs-of .ensures .0)
 
 add-plus : tie.Need-add-plus Inv-loop μ-loop
@@ -94,7 +94,7 @@ loop-again c =
       omega (arith, l .loop-test .taken),
       next-term _ _ (s .pre) _ (l .loop-test .taken) _ _ (w .line-sum .result) (b .cell-count .result) _ _
           (l .before .loop .inv .1)
-          (line-whole (s .args .sizes .now) (s .args .count) _ (w .line-sum .ensures))
+          (line-whole (s .args .sizes .now) (s .args .codes) _ (w .line-sum .ensures))
           (b .cell-count .ensures .0)
           (p .pairs-of .ensures .0) (c .size-term .ensures .0) (c .size-term .ensures .1) (p .pairs-of .ensures .1),
     )
@@ -106,7 +106,7 @@ mul-result c =
     let s = q .before .before .before in
     omega (
       arith,
-      node-is (s .args .sizes .now) (s .args .count) _ _ _ _ (l .loop .inv .1) (l .loop .inv .0)
+      node-is (s .args .sizes .now) (s .args .codes) _ _ _ _ (l .loop .inv .1) (l .loop .inv .0)
           (omega (arith, c .loop-test .left)) (q .line-squares .ensures),
       s .pre .few,
     )
@@ -118,7 +118,7 @@ sub-result c =
     let s = q .before .before .before in
     omega (
       arith,
-      node-is (s .args .sizes .now) (s .args .count) _ _ _ _ (l .loop .inv .1) (l .loop .inv .0)
+      node-is (s .args .sizes .now) (s .args .codes) _ _ _ _ (l .loop .inv .1) (l .loop .inv .0)
           (omega (arith, c .loop-test .left)) (q .line-squares .ensures),
       s .pre .few,
     )
@@ -130,7 +130,7 @@ returns c =
     let s = q .before .before .before in
     omega (
       arith,
-      node-is (s .args .sizes .now) (s .args .count) _ _ _ _ (l .loop .inv .1) (l .loop .inv .0)
+      node-is (s .args .sizes .now) (s .args .codes) _ _ _ _ (l .loop .inv .1) (l .loop .inv .0)
           (omega (arith, c .loop-test .left)) (q .line-squares .ensures),
       s .pre .few,
     )

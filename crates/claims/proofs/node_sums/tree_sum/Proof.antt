@@ -5,8 +5,8 @@ use mathlib.Core.Path.{_≡_, refl, _∙_}
 use native.Mathlib.Omega.{arith}
 use lib.ListN.{length}
 use Rattle.sums.specs.Sum.{sum}
-use Rattle.claims.specs.lemmas.CodeLists.{part-inside}
-use Rattle.claims.specs.lemmas.NodeSums.{nodeSum}
+use Rattle.claims.specs.lemmas.NodeCodes.{part-inside}
+use Rattle.claims.specs.lemmas.SumsByNode.{nodeSum}
 use Rattle.claims.specs.lemmas.TreeSizes.{no-node, node-sizes, next-node}
 use Rattle.claims.proofs.node_sums.tree_sum.Statement.{statement}
 use Rattle.claims.proofs.node_sums.tree_sum.Tie as tie

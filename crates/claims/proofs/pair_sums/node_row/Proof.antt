@@ -1,12 +1,12 @@
 -- The invariant: the pairs with the first `i` listed nodes of the second tree are summed.
 -- Assumes nothing.
-use Prim.Native.Nat.{ℕ, _+_, _-_, _≤_, _<_}
+use Prim.Native.Nat.{_+_, _-_, _≤_, _<_}
 use mathlib.Core.Path.{_≡_, refl, sym, _∙_}
 use native.Mathlib.Omega.{arith}
 use lib.ListN.{length}
 use Rattle.table_words.specs.Sizes.{nodeRoom}
 use Rattle.tree_check.specs.Table.{word}
-use Rattle.claims.specs.lemmas.CodeLists.{part-inside}
+use Rattle.claims.specs.lemmas.NodeCodes.{part-inside}
 use Rattle.claims.specs.lemmas.PairLoops.{Summed, summed-none, summed-next, summed-most, summed-all}
 use Rattle.claims.specs.lemmas.PairLoops.{NodeRow, rowS2, rowS3, few-row, inner-S2, inner-S3, row-room, row-S2, row-S3}
 use Rattle.claims.proofs.pair_sums.node_row.Statement.{statement}

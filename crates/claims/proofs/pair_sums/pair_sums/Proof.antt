@@ -6,7 +6,7 @@ use native.Mathlib.Omega.{arith}
 use lib.ListN.{length, length-replicate}
 use Rattle.table_words.specs.Sizes.{tipsMost}
 use Rattle.code_lists.specs.lemmas.InnerNodes.{InnerNodes}
-use Rattle.claims.specs.lemmas.CodeLists.{part-inside}
+use Rattle.claims.specs.lemmas.NodeCodes.{part-inside}
 use Rattle.claims.specs.lemmas.LentStarts.{lent-length, lent-inner}
 use Rattle.claims.specs.lemmas.PairLoops.{Summed, summed-none, summed-next, summed-most, summed-all}
 use Rattle.claims.specs.lemmas.PairLoops.{nodeS2, nodeS3, node-room, node-S2, node-S3}

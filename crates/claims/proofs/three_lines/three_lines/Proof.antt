@@ -6,7 +6,7 @@ use native.Mathlib.Omega.{arith}
 use Rattle.table_words.specs.Sizes.{tipsMost}
 use Rattle.sums.specs.theorems.Products.{product-le}
 use Rattle.node_pairs.specs.theorems.Cells.{pairS2, pairS3}
-use Rattle.claims.specs.lemmas.Lines.{lineCell}
+use Rattle.claims.specs.lemmas.CellLines.{lineCell}
 use Rattle.claims.specs.lemmas.LineDots.{FewLines, lineOf}
 use Rattle.claims.specs.lemmas.ThreeLines.{ThreeSums, first-low, second-low, third-low, first-le, second-le, third-le}
 use Rattle.claims.specs.lemmas.ThreeLines.{first-is, second-is, third-is, xy-le, yz-le, zx-le, lines-S2, lines-S3}

@@ -8,7 +8,7 @@ use Rattle.sums.specs.Sum.{sum}
 use Rattle.sums.specs.theorems.Products.{product-le}
 use Rattle.tree_check.specs.Table.{word}
 use Rattle.node_pairs.specs.theorems.ThreeRows.{products, weighed}
-use Rattle.claims.specs.lemmas.Lines.{lineCell, sum-step}
+use Rattle.claims.specs.lemmas.CellLines.{lineCell, sum-step}
 use borrow.Author.Needs.{needs}
 use Rattle.claims.proofs.three_lines.two_lines.Statement.{statement}
 use Rattle.claims.proofs.three_lines.two_lines.Tie as tie

@@ -1,14 +1,14 @@
 -- Lists of codes for both trees, then the sums over nodes and over pairs of nodes.
 -- Assumes nothing.
-use mathlib.Core.Path.{_≡_, refl, sym, _∙_}
+use mathlib.Core.Path.{refl, sym}
 use mathlib.Core.List.{List}
-use Prim.Native.Nat.{ℕ, _*_, _-_}
+use Prim.Native.Nat.{ℕ, _-_}
 use native.Mathlib.Omega.{arith}
-use lib.ListN.{length, replicate, length-replicate}
+use lib.ListN.{replicate, length-replicate}
 use Rattle.table_words.specs.Sizes.{codeRoom, nodeRoom}
 use Rattle.code_lists.specs.lemmas.CodesAt.{Parents}
 use Rattle.code_lists.specs.lemmas.Listed.{Fit, listed-starts, listed-edges}
-use Rattle.claims.specs.lemmas.CodeLists.{CodeLists}
+use Rattle.claims.specs.lemmas.NodeCodes.{CodeLists}
 use Rattle.claims.specs.lemmas.SumsOf.{first-lists, second-lists, first-sizes, second-sizes, node-pairs, summed-is}
 use borrow.Author.Needs.{needs}
 use Rattle.claims.proofs.totals.sums_of.Statement.{statement}

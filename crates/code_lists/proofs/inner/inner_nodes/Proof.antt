@@ -1,8 +1,8 @@
 -- The invariant: `inner` begins with those of the nodes before `v - 1` that have three codes or more into them.
 -- Assumes nothing.
-use mathlib.Core.Path.{_≡_, refl, sym, _∙_, ap}
-use mathlib.Core.Logic.{_⊎_, ⊎-elim}
-use Prim.Native.Nat.{ℕ, suc, _+_, _-_, _≤_, _<_}
+use mathlib.Core.Path.{_≡_}
+use mathlib.Core.Logic.{⊎-elim}
+use Prim.Native.Nat.{suc, _+_, _-_, _≤_, _<_}
 use native.Mathlib.Omega.{arith}
 use lib.ListN.{length}
 use Rattle.tree_check.specs.Table.{word}
@@ -19,29 +19,39 @@ Inv-loop starts inner₀ count₀ v₀ inner count v =
 abbrev μ-loop : tie.MeasureT-loop
 μ-loop starts inner₀ count₀ v₀ inner count v = length starts - v
 
+-- ---- the points of the program
+
+abbrev turn : tie.After-codes-between Inv-loop μ-loop → tie.In-loop Inv-loop μ-loop
+turn c = c .before .before .before
+
+abbrev start : tie.After-codes-between Inv-loop μ-loop → tie.Start Inv-loop μ-loop
+start c = c .before .before .before .before .before .before .before .before
+
+-- ---- what is asked there
+
 -- how many codes lead into node v - 1
 codes : (c : tie.After-codes-between Inv-loop μ-loop)
-    → (let v = c .before .before .before .before .loop .v in
-    let starts = c .before .before .before .before .before .before .before .before .args .starts .now in
+    → (let v = turn c .before .loop .v in
+    let starts = start c .args .starts .now in
     c .codes-between .result ≡ word starts (suc (v - 1)) - word starts (v - 1))
 codes c =
-    let v = c .before .before .before .before .loop .v in
-    let e : suc (v - 1) ≡ v = omega (arith, c .before .before .before .before .loop .inv .0) in
+    let v = turn c .before .loop .v in
+    let e : suc (v - 1) ≡ v = omega (arith, turn c .before .loop .inv .0) in
     rw e (c .codes-between .ensures)
 
 -- there is a cell for it
 room : (c : tie.After-codes-between Inv-loop μ-loop)
-    → (let l = c .before .before .before .before .loop in l .count < length (l .inner))
+    → (let l = turn c .before .loop in l .count < length (l .inner))
 room c =
-    let l = c .before .before .before .before in
+    let l = turn c .before in
     let h = l .loop .inv .2 in
     omega (
       arith,
       h .long,
       h .many,
-      inner-le (l .before .before .before .before .args .starts .now) (l .loop .v - 1),
+      inner-le (start c .args .starts .now) (l .loop .v - 1),
       l .before .if1 .left,
-      c .before .before .before .loop-test .taken,
+      turn c .loop-test .taken,
       l .loop .inv .0,
     )
 
@@ -89,9 +99,9 @@ loop-less c = search needs
 
 loop-again : tie.Need-loop-again Inv-loop μ-loop
 loop-again c =
-    let l = c .before .before .before .before .before .loop in
+    let l = turn (c .before) .before .loop in
     let h = l .inv .2 in
-    let m = c .before .before .before .before .loop-test .taken in
+    let m = turn (c .before) .loop-test .taken in
     let d = codes (c .before) in
     let e : l .v + 1 - 1 ≡ suc (l .v - 1) = omega (arith, l .inv .0) in (
       omega arith,

@@ -18,12 +18,22 @@ Inv-loop parents counts₀ i₀ counts i =
 abbrev μ-loop : tie.MeasureT-loop
 μ-loop parents counts₀ i₀ counts i = length parents - i
 
+-- ---- the points of the program
+
+abbrev start : tie.After-as-index Inv-loop μ-loop → tie.Start Inv-loop μ-loop
+start c = c .before .before .before .before .before
+
+abbrev turn : tie.After-as-index Inv-loop μ-loop → tie.In-loop Inv-loop μ-loop
+turn c = c .before .before
+
+-- ---- what is asked there
+
 -- the parent has a cell
-inside : (c : tie.After-as-index Inv-loop μ-loop) → c .as-index .result < length (c .before .before .before .loop .counts)
+inside : (c : tie.After-as-index Inv-loop μ-loop) → c .as-index .result < length (turn c .before .loop .counts)
 inside c =
-    let l = c .before .before .before .loop in
-    let p = c .before .before .before .before .before in
-    let m = c .before .before .loop-test .taken in
+    let l = turn c .before .loop in
+    let p = start c in
+    let m = turn c .loop-test .taken in
     let v = c .as-index in
     omega (
       arith,
@@ -33,23 +43,23 @@ inside c =
     )
 
 -- its count is low, ..
-up-low : (c : tie.After-as-index Inv-loop μ-loop) → word (c .before .before .before .loop .counts) (c .as-index .result) < codeRoom
+up-low : (c : tie.After-as-index Inv-loop μ-loop) → word (turn c .before .loop .counts) (c .as-index .result) < codeRoom
 up-low c =
-    let l = c .before .before .before .loop in
-    let p = c .before .before .before .before .before in
-    let m = c .before .before .loop-test .taken in
+    let l = turn c .before .loop in
+    let p = start c in
+    let m = turn c .loop-test .taken in
     let v = c .as-index in
     up-few (p .args .parents .now) (p .pre) (l .i) (v .result) (l .inv .0) m (sym (v .ensures .0))
     (l .counts) (l .inv .2)
 
 -- .. and so is then the count of node i
 down-low : (c : tie.After-as-index Inv-loop μ-loop) →
-    (let l = c .before .before .before .loop in
+    (let l = turn c .before .loop in
     word (set (l .counts) (c .as-index .result) (word (l .counts) (c .as-index .result) + 1)) (l .i) < codeRoom)
 down-low c =
-    let l = c .before .before .before .loop in
-    let p = c .before .before .before .before .before in
-    let m = c .before .before .loop-test .taken in
+    let l = turn c .before .loop in
+    let p = start c in
+    let m = turn c .loop-test .taken in
     let v = c .as-index in
     down-few (p .args .parents .now) (p .pre) (l .i) (v .result) (l .inv .0) m (sym (v .ensures .0))
     (l .counts) (l .inv .2)
@@ -106,9 +116,9 @@ loop-less c = search needs
 
 loop-again : tie.Need-loop-again Inv-loop μ-loop
 loop-again c =
-    let l = c .before .before .before .loop in
-    let p = c .before .before .before .before .before in
-    let m = c .before .before .loop-test .taken in
+    let l = turn c .before .loop in
+    let p = start c in
+    let m = turn c .loop-test .taken in
     let v = c .as-index in (
       omega arith,
       omega arith,

@@ -19,21 +19,31 @@ Inv-loop parents next₀ edges₀ i₀ next edges i =
 abbrev μ-loop : tie.MeasureT-loop
 μ-loop parents next₀ edges₀ i₀ next edges i = length parents - i
 
+-- ---- the points of the program
+
+abbrev start : tie.After-as-index Inv-loop μ-loop → tie.Start Inv-loop μ-loop
+start c = c .before .before .before .before .before .before
+
+abbrev turn : tie.After-as-index Inv-loop μ-loop → tie.In-loop Inv-loop μ-loop
+turn c = c .before .before
+
+-- ---- what is asked there
+
 -- node i is one of 1 to 509
-turn : (c : tie.After-as-index Inv-loop μ-loop)
-    → (let i = c .before .before .before .loop .i in
-    (1 ≤ i) × (i < length (c .before .before .before .before .before .before .args .parents .now)) × (i < nodeRoom))
-turn c =
-    let l = c .before .before .before .loop in
-    let m = c .before .before .loop-test .taken in
-    (l .inv .0, m, omega (arith, c .before .before .before .before .before .before .pre .0 .0 .few, m))
+node : (c : tie.After-as-index Inv-loop μ-loop)
+    → (let i = turn c .before .loop .i in
+    (1 ≤ i) × (i < length (start c .args .parents .now)) × (i < nodeRoom))
+node c =
+    let l = turn c .before .loop in
+    let m = turn c .loop-test .taken in
+    (l .inv .0, m, omega (arith, start c .pre .0 .0 .few, m))
 
 -- the parent has a cell
 inside : (c : tie.After-as-index Inv-loop μ-loop) → c .as-index .result < nodeRoom
 inside c =
-    let l = c .before .before .before .loop in
-    let p = c .before .before .before .before .before .before in
-    let m = c .before .before .loop-test .taken in
+    let l = turn c .before .loop in
+    let p = start c in
+    let m = turn c .loop-test .taken in
     let v = c .as-index in
     omega (
       arith,
@@ -43,12 +53,12 @@ inside c =
 
 -- the list has room for the edge at the parent, ..
 up-room : (c : tie.After-as-index Inv-loop μ-loop)
-    → (let l = c .before .before .before .loop in
+    → (let l = turn c .before .loop in
     (word (l .next) (c .as-index .result) < length (l .edges)) × (word (l .next) (c .as-index .result) < codeRoom))
 up-room c =
-    let l = c .before .before .before .loop in
-    let p = c .before .before .before .before .before .before in
-    let m = c .before .before .loop-test .taken in
+    let l = turn c .before .loop in
+    let p = start c in
+    let m = turn c .loop-test .taken in
     let v = c .as-index in
     let u = up-fits (p .args .parents .now) _ (p .pre .0 .0) (p .pre .1) (l .i) (v .result) (l .inv .0) m
     (sym (v .ensures .0)) (l .next) (l .edges) (l .inv .2) in
@@ -56,13 +66,13 @@ up-room c =
 
 -- .. and then at node i
 down-room : (c : tie.After-as-index Inv-loop μ-loop)
-    → (let l = c .before .before .before .loop in
+    → (let l = turn c .before .loop in
     let next = set (l .next) (c .as-index .result) (word (l .next) (c .as-index .result) + 1) in
     (word next (l .i) < length (l .edges)) × (word next (l .i) < codeRoom))
 down-room c =
-    let l = c .before .before .before .loop in
-    let p = c .before .before .before .before .before .before in
-    let m = c .before .before .loop-test .taken in
+    let l = turn c .before .loop in
+    let p = start c in
+    let m = turn c .loop-test .taken in
     let v = c .as-index in
     let u = down-fits (p .args .parents .now) _ (p .pre .0 .0) (p .pre .1) (l .i) (v .result) (l .inv .0) m
     (sym (v .ensures .0)) (l .next) (l .edges) (l .inv .2) in
@@ -83,7 +93,7 @@ as-index-requires : tie.Need-as-index-requires Inv-loop μ-loop
 as-index-requires c κs = search needs
 
 sub-edges : tie.Need-sub-edges Inv-loop μ-loop
-sub-edges c = omega (arith, turn c)
+sub-edges c = omega (arith, node c)
 
 mul-edges : tie.Need-mul-edges Inv-loop μ-loop
 mul-edges c = omega (arith, inside c)
@@ -113,13 +123,13 @@ element-write-next : tie.Need-element-write-next Inv-loop μ-loop
 element-write-next c = omega (arith, inside (c .before .before))
 
 sub-edges-2 : tie.Need-sub-edges-2 Inv-loop μ-loop
-sub-edges-2 c = omega (arith, turn (c .before .before))
+sub-edges-2 c = omega (arith, node (c .before .before))
 
 mul-edges-3 : tie.Need-mul-edges-3 Inv-loop μ-loop
-mul-edges-3 c = omega (arith, turn (c .before .before))
+mul-edges-3 c = omega (arith, node (c .before .before))
 
 element-copy-out-edges-2 : tie.Need-element-copy-out-edges-2 Inv-loop μ-loop
-element-copy-out-edges-2 c = omega (arith, turn (c .before .before))
+element-copy-out-edges-2 c = omega (arith, node (c .before .before))
 
 mul-edges-4 : tie.Need-mul-edges-4 Inv-loop μ-loop
 mul-edges-4 c = omega (arith, down-room (c .before .before .before))
@@ -127,39 +137,39 @@ mul-edges-4 c = omega (arith, down-room (c .before .before .before))
 slice-write-edges-2 : tie.Need-slice-write-edges-2 Inv-loop μ-loop
 slice-write-edges-2 c =
     let w = c .before .before .before in
-    let l = w .before .before .before .loop in
+    let l = turn w .before .loop in
     omega (arith, length-set (l .edges) (word (l .next) (w .as-index .result)) (l .i - 1), down-room w)
 
 mul-next-3 : tie.Need-mul-next-3 Inv-loop μ-loop
-mul-next-3 c = omega (arith, turn (c .before .before .before))
+mul-next-3 c = omega (arith, node (c .before .before .before))
 
 element-copy-out-next-2 : tie.Need-element-copy-out-next-2 Inv-loop μ-loop
-element-copy-out-next-2 c = omega (arith, turn (c .before .before .before))
+element-copy-out-next-2 c = omega (arith, node (c .before .before .before))
 
 add-next-2 : tie.Need-add-next-2 Inv-loop μ-loop
 add-next-2 c = omega (arith, down-room (c .before .before .before .before))
 
 mul-next-4 : tie.Need-mul-next-4 Inv-loop μ-loop
-mul-next-4 c = omega (arith, turn (c .before .before .before .before))
+mul-next-4 c = omega (arith, node (c .before .before .before .before))
 
 element-write-next-2 : tie.Need-element-write-next-2 Inv-loop μ-loop
-element-write-next-2 c = omega (arith, turn (c .before .before .before .before))
+element-write-next-2 c = omega (arith, node (c .before .before .before .before))
 
 add-i : tie.Need-add-i Inv-loop μ-loop
-add-i c = omega (arith, turn (c .before .before .before .before))
+add-i c = omega (arith, node (c .before .before .before .before))
 
 loop-less : tie.Need-loop-less Inv-loop μ-loop
-loop-less c = omega (arith, turn (c .before .before .before .before))
+loop-less c = omega (arith, node (c .before .before .before .before))
 
 loop-again : tie.Need-loop-again Inv-loop μ-loop
 loop-again c =
     let w = (c .before .before .before .before) in
-    let l = w .before .before .before .loop in
-    let p = w .before .before .before .before .before .before in (
-      omega (arith, turn w),
-      omega (arith, turn w),
+    let l = turn w .before .loop in
+    let p = start w in (
+      omega (arith, node w),
+      omega (arith, node w),
       placed-edge (p .args .parents .now) _ (p .pre .0 .0) (p .pre .1) (l .i) (w .as-index .result) (l .inv .0)
-          (w .before .before .loop-test .taken) (sym (w .as-index .ensures .0)) (l .next) (l .edges) (l .inv .2),
+          (turn w .loop-test .taken) (sym (w .as-index .ensures .0)) (l .next) (l .edges) (l .inv .2),
     )
 
 same-length : tie.Need-same-length Inv-loop μ-loop

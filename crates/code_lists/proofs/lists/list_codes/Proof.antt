@@ -1,7 +1,6 @@
 -- The codes counted, the counts added up, and the edges placed; or nothing.
 -- Assumes nothing.
-use mathlib.Core.Path.{_≡_, sym, _∙_}
-use native.Mathlib.Omega.{arith}
+use mathlib.Core.Path.{sym, _∙_}
 use borrow.Author.Tests.{not-true, not-false}
 use Rattle.code_lists.specs.lemmas.Listed.{Fit, fit-says, start-cells, starts-stay, edge-cells, edges-stay}
 use borrow.Author.Needs.{needs}

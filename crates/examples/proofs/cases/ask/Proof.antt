@@ -1,4 +1,4 @@
--- The part of the words that is lent has its length.
+-- The parts of the words and of the cells that are lent have their lengths.
 -- Assumes nothing.
 use mathlib.Core.Path.{sym}
 use lib.Seq.{length-take-le}

@@ -20,15 +20,20 @@ ghost use Rattle.splits.specs.SplitAnswer.{splitAnswer};
 ghost use Rattle.claims.specs.ClaimAnswer.{claimAnswer};
 ghost use Rattle.quartets.specs.QuartetAnswer.{quartetAnswer};
 ghost use Rattle.listings.specs.Listing.{ofRefusal};
-ghost use Rattle.pair_file.specs.PairFile.{comparison};
+ghost use Rattle.pair_file.specs.PairFile.{cellsLent, comparison};
 ghost use Rattle.pair_file.specs.lemmas.PairFigures.{pairFigures, wordFigures};
+
+// The most bytes of a file, and the most words.
+const BYTES: usize = 1016;
+
+const WORDS: usize = 508;
 
 // The cells lent to each operation: enough for any two trees of one file, so that 9 never occurs.
 const CELLS: usize = 15625;
 
 // The claim sums, with work of their own.
 fn claims_of(first: &[u16], second: &[u16]) -> ClaimSums
-    ensures { λ r. ⌜ r ≡ claimAnswer (now (first .entry)) (now (second .entry)) 15625 ⌝ }
+    ensures { λ r. ⌜ r ≡ claimAnswer (now (first .entry)) (now (second .entry)) cellsLent ⌝ }
 {
     let mut work: [Cell; CELLS] = [0; CELLS];
     claim_sums(first, second, &mut work)
@@ -36,7 +41,7 @@ fn claims_of(first: &[u16], second: &[u16]) -> ClaimSums
 
 // The quartet table, with work of its own.
 fn quartets_of(first: &[u16], second: &[u16]) -> QuartetTable
-    ensures { λ r. ⌜ r ≡ quartetAnswer (now (first .entry)) (now (second .entry)) 15625 ⌝ }
+    ensures { λ r. ⌜ r ≡ quartetAnswer (now (first .entry)) (now (second .entry)) cellsLent ⌝ }
 {
     let mut work: [Cell; CELLS] = [0; CELLS];
     quartet_table(first, second, &mut work)
@@ -44,7 +49,7 @@ fn quartets_of(first: &[u16], second: &[u16]) -> QuartetTable
 
 // The split counts, with work of their own.
 fn splits_of(first: &[u16], second: &[u16]) -> SplitCounts
-    ensures { λ r. ⌜ r ≡ splitAnswer (now (first .entry)) (now (second .entry)) 15625 ⌝ }
+    ensures { λ r. ⌜ r ≡ splitAnswer (now (first .entry)) (now (second .entry)) cellsLent ⌝ }
 {
     let mut work: [Cell; CELLS] = [0; CELLS];
     split_counts(first, second, &mut work)
@@ -135,13 +140,13 @@ fn compare_words(words: &[u16]) -> Figures
 pub fn compare(bytes: &[u8]) -> Figures
     ensures { λ r. ⌜ r ≡ comparison (now (bytes .entry)) ⌝ }
 {
-    if 1016 < bytes.len() {
+    if BYTES < bytes.len() {
         return refused(14);
     }
     if bytes.len() % 2 != 0 {
         return refused(15);
     }
-    let mut words = [0u16; 508];
+    let mut words = [0u16; WORDS];
     let count = decode(bytes, &mut words);
     compare_words(&words[..count])
 }

@@ -5,8 +5,8 @@ use native.Mathlib.Omega.{arith}
 use lib.Seq.{length-take-le}
 use Rattle.pair_file.specs.lemmas.PairFigures.{parts-compared}
 use borrow.Author.Needs.{needs}
-use Rattle.pair_file.proofs.files.compare_words.Statement.{statement}
-use Rattle.pair_file.proofs.files.compare_words.Tie as tie
+use Rattle.pair_file.proofs.comparison.compare_words.Statement.{statement}
+use Rattle.pair_file.proofs.comparison.compare_words.Tie as tie
 
 first-length-requires : tie.Need-first-length-requires
 first-length-requires c κs = search needs

@@ -5,8 +5,8 @@ use native.Mathlib.Omega.{arith}
 use lib.Seq.{length-take-le}
 use Rattle.pair_file.specs.lemmas.PairFigures.{wordFigures, file-too-long, file-odd, file-compared}
 use borrow.Author.Needs.{needs}
-use Rattle.pair_file.proofs.files.compare.Statement.{statement}
-use Rattle.pair_file.proofs.files.compare.Tie as tie
+use Rattle.pair_file.proofs.comparison.compare.Statement.{statement}
+use Rattle.pair_file.proofs.comparison.compare.Tie as tie
 
 refused-requires : tie.Need-refused-requires
 refused-requires c κs = search needs

@@ -12,7 +12,7 @@ use Rattle.tree_check.specs.Table.{word}
 use Rattle.code_lists.specs.ListedCodes.{degreeAt, codesBefore}
 use Rattle.code_lists.specs.lemmas.CodesAt.{Parents, Starts, EdgeList}
 use Rattle.code_lists.specs.lemmas.CodesAt.{starts-inside, starts-suc, code-inside}
-use Rattle.claims.specs.lemmas.NodeSums.{edgeInto}
+use Rattle.claims.specs.lemmas.SumsByNode.{edgeInto}
 
 -- the edges of the codes into the nodes of a tree, and where each node's begin
 pub record CodeLists (ps starts edges : List ℕ) : Type 0 where

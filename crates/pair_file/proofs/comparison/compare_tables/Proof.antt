@@ -4,8 +4,8 @@ use mathlib.Core.Path.{sym, _∙_}
 use Rattle.pair_check.specs.lemmas.PairOutcomes.{work-says, work-passed}
 use Rattle.pair_file.specs.lemmas.PairFigures.{pair-refused, pair-accepted}
 use borrow.Author.Needs.{needs}
-use Rattle.pair_file.proofs.files.compare_tables.Statement.{statement}
-use Rattle.pair_file.proofs.files.compare_tables.Tie as tie
+use Rattle.pair_file.proofs.comparison.compare_tables.Statement.{statement}
+use Rattle.pair_file.proofs.comparison.compare_tables.Tie as tie
 
 check-work-requires : tie.Need-check-work-requires
 check-work-requires c κs = search needs
