@@ -26,8 +26,8 @@ abbrev told : tie.After-asked-refusal → tie.After-answer
 told c = c .before .before .before .before
 
 -- .. then the centre is looked up
-abbrev asked : tie.After-as-index2 → tie.After-asked-refusal
-asked c = c .before .before
+abbrev labels-tested : tie.After-as-index2 → tie.After-asked-refusal
+labels-tested c = c .before .before
 
 -- ---- what is known there
 
@@ -85,7 +85,7 @@ part-centre-node-start c = search needs
 
 part-centre-node-end : tie.Need-part-centre-node-end
 part-centre-node-end c =
-    let k = known (told (asked c)) in
+    let k = known (told (labels-tested c)) in
     omega (arith, k .0 .words, k .2)
 
 add-centre-node-2 : tie.Need-add-centre-node-2
@@ -96,12 +96,12 @@ mul-centre-node c = search needs
 
 sub-centre-node-2 : tie.Need-sub-centre-node-2
 sub-centre-node-2 c =
-    let k = known (told (asked (c .before))) in
+    let k = known (told (labels-tested (c .before))) in
     omega (arith, k .0 .words, k .2)
 
 part-centre-node-start-2 : tie.Need-part-centre-node-start-2
 part-centre-node-start-2 c =
-    let k = known (told (asked (c .before))) in
+    let k = known (told (labels-tested (c .before))) in
     omega (arith, k .0 .words, k .2)
 
 part-centre-node-end-2 : tie.Need-part-centre-node-end-2
@@ -110,14 +110,14 @@ part-centre-node-end-2 c = search needs
 centre-node-requires : tie.Need-centre-node-requires
 centre-node-requires c κs =
     let w = c .before .before in
-    let k = known (told (asked w)) in
+    let k = known (told (labels-tested w)) in
     to-parts (λ n ps ls. RootedArrays ps ls) _ _ _ (k .0 .words) (k .1) (w .as-index2 .ensures .0 ∙ k .2)
     (rooted-arrays _ (k .0))
 
 returns-3 : tie.Need-returns-3
 returns-3 c =
     let w = c .before .before .before in
-    let r = asked w in
+    let r = labels-tested w in
     let a = told r in
     let s = start a .args in
     let k = known a in
