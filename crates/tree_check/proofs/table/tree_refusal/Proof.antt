@@ -41,21 +41,22 @@ tips-tested c = c .before .before
 abbrev nodes-tested : tie.Else4 → tie.After-nodes-fit
 nodes-tested c = c .before .before
 
--- the table at the test of the tips
+-- the table, at the test of the tips and after that of the length
 abbrev table : tie.After-tips-fit → Table
 table c = start (long-enough c) .args .table .now
+
+abbrev tested : tie.Else4 → Table
+tested c = table (tips-tested (nodes-tested c))
 
 -- ---- what is known there
 
 -- what is known of n
-known-n : (c : tie.After-tips-fit)
-    → tipsFit (tips (table c)) ≡ c .tips-fit .result
+known-n : (c : tie.After-tips-fit) → tipsFit (tips (table c)) ≡ c .tips-fit .result
 unfolding tips
 known-n c = ap tipsFit (sym (read-n c .as-index .ensures .0)) ∙ sym (c .tips-fit .ensures)
 
 -- what is known of m
-known-m : (c : tie.After-nodes-fit)
-    → let t = table (tips-tested c) in
+known-m : (c : tie.After-nodes-fit) → let t = table (tips-tested c) in
     nodesFit (tips t) (nodes t) ≡ c .nodes-fit .result
 unfolding tips nodes
 known-m c =
@@ -64,9 +65,6 @@ known-m c =
     ∙ sym (c .nodes-fit .ensures)
 
 -- what is known where all tests of the sizes have passed
-abbrev tested : tie.Else4 → Table
-tested c = table (tips-tested (nodes-tested c))
-
 record Known (c : tie.Else4) : Type 0 where
   long : 2 ≤ length (tested c)
   tips-fit : tipsFit (tips (tested c)) ≡ true
