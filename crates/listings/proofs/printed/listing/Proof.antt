@@ -8,6 +8,18 @@ use borrow.Author.Needs.{needs}
 use Rattle.listings.proofs.printed.listing.Statement.{statement}
 use Rattle.listings.proofs.printed.listing.Tie as tie
 
+-- ---- the points of the program
+
+-- the listing is formed, ..
+abbrev start : tie.After-put-listing → tie.Start
+start c = c .before .before .before
+
+-- .. and copied
+abbrev formed : tie.After-copy → tie.After-put-listing
+formed c = c .before .before .before .before .before
+
+-- ---- the needs
+
 slice-aggregate-put-listing : tie.Need-slice-aggregate-put-listing
 slice-aggregate-put-listing c = search needs
 
@@ -33,9 +45,9 @@ same-length c = search needs
 returns : tie.Need-returns
 returns c =
     let q = c .before .before .copy in
-    let d = c .before .before .before .before .before .before .before in
+    let d = formed (c .before .before) in
     let p = d .put-listing in
-    let s = d .before .before .before in
+    let s = start d in
     let h = listing-fits (s .args .figures) (s .args .out .now) _ (p .result) (p .last .1 .0) (p .ensures .0)
     (omega arith) (omega arith) (q .result) (q .last .1 .1 .0) (q .ensures .0) (q .ensures .1) in
     (h, listing-counts (s .args .figures) (s .args .out .now) (q .result) (q .last .1 .1 .0) (h .0) (h .1))
@@ -43,7 +55,7 @@ returns c =
 returns-2 : tie.Need-returns-2
 returns-2 c =
     let p = c .before .before .put-listing in
-    let s = c .before .before .before .before .before in
+    let s = start (c .before .before) in
     let old = s .args .out .now in
     let h = listing-short (s .args .figures) old _ (p .result) (p .last .1 .0) (p .ensures .0)
     (omega arith) (omega arith) in

@@ -6,6 +6,22 @@ use borrow.Author.Needs.{needs}
 use Rattle.listings.proofs.printed.put_lines.Statement.{statement}
 use Rattle.listings.proofs.printed.put_lines.Tie as tie
 
+-- ---- the points of the program
+
+-- the first lines are put, ..
+abbrev start : tie.After-put-first-lines → tie.Start
+start c = c .before .before .before
+
+-- .. those of the quartets, ..
+abbrev first-put : tie.After-put-quartet-lines → tie.After-put-first-lines
+first-put c = c .before .before .before .before
+
+-- .. and that of the splits
+abbrev quartets-put : tie.After-put-split-line → tie.After-put-quartet-lines
+quartets-put c = c .before .before .before .before
+
+-- ---- the needs
+
 put-first-lines-requires : tie.Need-put-first-lines-requires
 put-first-lines-requires c κs = search needs
 
@@ -21,11 +37,11 @@ same-length c = search needs
 returns : tie.Need-returns
 returns c =
     let r = c .before .before .put-split-line in
-    let d = c .before .before .before .before .before .before in
+    let d = quartets-put (c .before .before) in
     let q = d .put-quartet-lines in
-    let e = d .before .before .before .before in
+    let e = first-put d in
     let p = e .put-first-lines in
-    let s = e .before .before .before in (
+    let s = start e in (
       lines-written (s .args .figures) (s .args .out .now) (p .result) (q .result) (r .result)
           (p .last .1 .0) (q .last .1 .1 .0) (r .last .1 .1 .0) (p .ensures .0) (q .ensures .0) (r .ensures .0),
       omega arith,

@@ -6,6 +6,18 @@ use borrow.Author.Needs.{needs}
 use Rattle.listings.proofs.printed.put_quartet_lines.Statement.{statement}
 use Rattle.listings.proofs.printed.put_quartet_lines.Tie as tie
 
+-- ---- the points of the program
+
+-- the line of the five cases is put, ..
+abbrev start : tie.After-put-line → tie.Start
+start c = c .before .before .before .before .before .before
+
+-- .. and that of the distance behind it
+abbrev cases-put : tie.After-put-line2 → tie.After-put-line
+cases-put c = c .before .before .before .before .before .before
+
+-- ---- the needs
+
 slice-aggregate-put-line : tie.Need-slice-aggregate-put-line
 slice-aggregate-put-line c = search needs
 
@@ -30,9 +42,9 @@ same-length c = search needs
 returns : tie.Need-returns
 returns c =
     let p = c .before .before .put-line2 in
-    let d = c .before .before .before .before .before .before .before .before in
+    let d = cases-put (c .before .before) in
     let m = d .put-line in
-    let s = d .before .before .before .before .before .before in (
+    let s = start d in (
       quartet-lines-written (s .args .figures) (s .args .at) (s .args .out .now) (m .result) (m .last .1 .1 .1 .0)
           (p .result) (p .last .1 .1 .1 .0) (m .ensures .0) (p .ensures .0),
       omega arith,

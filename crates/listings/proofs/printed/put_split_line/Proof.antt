@@ -6,6 +6,18 @@ use borrow.Author.Needs.{needs}
 use Rattle.listings.proofs.printed.put_split_line.Statement.{statement}
 use Rattle.listings.proofs.printed.put_split_line.Tie as tie
 
+-- ---- the points of the program
+
+-- the four numbers are read, ..
+abbrev start : tie.After-as-count4 → tie.Start
+start c = c .before .before .before .before .before .before
+
+-- .. and the line is put
+abbrev numbers-read : tie.After-put-line → tie.After-as-count4
+numbers-read c = c .before .before .before .before
+
+-- ---- the needs
+
 as-count-requires : tie.Need-as-count-requires
 as-count-requires c κs = search needs
 
@@ -33,8 +45,8 @@ same-length c = search needs
 returns : tie.Need-returns
 returns c =
     let p = c .before .before .put-line in
-    let w = c .before .before .before .before .before .before in
-    let s = w .before .before .before .before .before .before in (
+    let w = numbers-read (c .before .before) in
+    let s = start w in (
       split-line-written (s .args .figures) (s .args .at) (s .args .out .now) (p .result) (p .last .1 .1 .1 .0)
           _ _ _ _ (w .before .before .before .as-count .ensures .0) (w .before .before .as-count2 .ensures .0)
           (w .before .as-count3 .ensures .0) (w .as-count4 .ensures .0) (p .ensures .0),

@@ -9,6 +9,18 @@ use borrow.Author.Needs.{needs}
 use Rattle.listings.proofs.text.put_number.Statement.{statement}
 use Rattle.listings.proofs.text.put_number.Tie as tie
 
+-- ---- the points of the program
+
+-- the digits are formed, ..
+abbrev start : tie.After-decimal → tie.Start
+start c = c .before .before .before
+
+-- .. and copied
+abbrev formed : tie.After-copy → tie.After-decimal
+formed c = c .before .before .before
+
+-- ---- the needs
+
 decimal-requires : tie.Need-decimal-requires
 decimal-requires c κs = search needs
 
@@ -26,21 +38,22 @@ add-copy c = search needs
 
 copy-requires : tie.Need-copy-requires
 copy-requires c κs =
-    let s = c .before .before .before .before .before in
-    let d = c .before .before .decimal in
+    let e = c .before .before in
+    let d = e .decimal in
+    let s = start e in
     number-room (s .args .at) (s .args .out .now) (d .last .1 .0) (d .result) (s .pre)
     (fewest-most (s .args .n) (d .result) (omega arith) (d .ensures .1 .0)) (d .ensures .0 .0)
 
 same-length : tie.Need-same-length
 same-length c =
-    let s = c .before .before .before .before .before .before .before .before in
+    let s = start (formed (c .before .before)) in
     c .before .before .copy .kept .1 .1 .0 ∙ length-set (s .args .out .now) (s .args .at) 32
 
 returns : tie.Need-returns
 returns c =
-    let e = c .before .before .before .before .before in
+    let e = formed (c .before .before) in
     let d = e .decimal in
-    let s = e .before .before .before in
+    let s = start e in
     let p = c .before .before .copy in
     number-written (s .args .at) (s .args .out .now) (d .last .1 .0) (d .result) (s .pre)
     (fewest-most (s .args .n) (d .result) (omega arith) (d .ensures .1 .0)) (d .ensures .0 .0)

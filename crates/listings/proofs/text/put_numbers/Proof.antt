@@ -19,6 +19,17 @@ Inv-loop numbers at out₀ end₀ i₀ out end i =
 abbrev μ-loop : tie.MeasureT-loop
 μ-loop numbers at out₀ end₀ i₀ out end i = length numbers - i
 
+-- ---- the points of the program
+
+abbrev start : tie.At-loop Inv-loop μ-loop → tie.Start Inv-loop μ-loop
+start c = c .before .before .before
+
+-- after a number is put, the turn
+abbrev turn : tie.After-put-number Inv-loop μ-loop → tie.In-loop Inv-loop μ-loop
+turn c = c .before .before .before
+
+-- ---- the needs
+
 loop-holds : tie.Need-loop-holds Inv-loop μ-loop
 loop-holds c =
     let s = c .before .before in
@@ -41,8 +52,9 @@ loop-less c = search needs
 
 loop-again : tie.Need-loop-again Inv-loop μ-loop
 loop-again c =
-    let l = c .before .before .before .before .before .before .loop in
-    let s = c .before .before .before .before .before .before .before .before .before in
+    let t = turn (c .before .before) .before in
+    let l = t .loop in
+    let s = start t in
     let p = c .before .before .put-number in (
       omega arith,
       omega arith,
@@ -56,7 +68,7 @@ same-length c = search needs
 
 returns : tie.Need-returns Inv-loop μ-loop
 returns c =
-    let s = c .before .before .before .before in
+    let s = start (c .before) in
     let l = c .before .loop in (
       numbers-all (s .args .at) (s .args .out .now) (s .args .numbers .now) (l .i) (l .end) (l .out) (omega arith)
           (l .inv .3),

@@ -14,17 +14,37 @@ use borrow.Author.Needs.{needs}
 use Rattle.pair_check.proofs.pairs.check_pair.Statement.{statement}
 use Rattle.pair_check.proofs.pairs.check_pair.Tie as tie
 
+-- ---- the points of the program
+
+-- the first table is told a tree, ..
+abbrev start : tie.After-known-told → tie.Start
+start c = c .before .before .before .before .before .before
+
+-- .. then the second is checked, ..
+abbrev first-told : tie.After-check2 → tie.After-known-told
+first-told c = c .before .before
+
+-- .. and is told a tree ..
+abbrev second-checked : tie.After-known-told2 → tie.After-check2
+second-checked c = c .before .before .before
+
+-- .. or is refused
+abbrev second-turned-away : tie.After-refusal-of2 → tie.After-check2
+second-turned-away c = c .before .before .before
+
+-- ---- what is known there
+
 -- the first table is a tree table, with n and m as told
 first-tree : (c : tie.After-known-told)
-    → let t = c .before .before .before .before .before .before .args .first .now in
+    → let t = start c .args .first .now in
     IsTree t × (c .before .answer .given .0 .0 ≡ tips t) × (c .before .answer .given .0 .1 .0 ≡ nodes t)
 first-tree c = checked-accepted _ _ _ (sym (c .before .before .before .check .ensures .0) ∙ c .before .answer .given .1)
 
 -- .. and so is the second
 second-tree : (c : tie.After-known-told2)
-    → let t = c .before .before .before .before .before .before .before .before .before .before .before .args .second .now in
+    → let t = start (first-told (second-checked c)) .args .second .now in
     IsTree t × (c .before .other .given .0 .0 ≡ tips t) × (c .before .other .given .0 .1 .0 ≡ nodes t)
-second-tree c = checked-accepted _ _ _ (sym (c .before .before .before .check2 .ensures .0) ∙ c .before .other .given .1)
+second-tree c = checked-accepted _ _ _ (sym (second-checked c .check2 .ensures .0) ∙ c .before .other .given .1)
 
 check-requires : tie.Need-check-requires
 check-requires c κs = search needs
@@ -64,21 +84,21 @@ refusal-of-requires-2 c κs = search needs
 
 add-t14 : tie.Need-add-t14
 add-t14 c =
-    let h = refusal-passed _ _ _ _ (c .before .before .before .check2 .ensures .0) (c .before .enum-told2 .given .1)
+    let h = refusal-passed _ _ _ _ (second-turned-away c .check2 .ensures .0) (c .before .enum-told2 .given .1)
     (c .refusal-of2 .ensures) in
-    let s = c .before .before .before .before .before .before .before .before .before .before .before in
+    let s = start (first-told (second-turned-away c)) in
     omega (arith, h .0, tree-refusal-most (s .args .second .now))
 
 returns-2 : tie.Need-returns-2
 returns-2 c =
-    let h = refusal-passed _ _ _ _ (c .before .before .before .check2 .ensures .0) (c .before .enum-told2 .given .1)
+    let h = refusal-passed _ _ _ _ (second-turned-away c .check2 .ensures .0) (c .before .enum-told2 .given .1)
     (c .refusal-of2 .ensures) in
-    let t = first-tree (c .before .before .before .before .before) in
+    let t = first-tree (first-told (second-turned-away c)) in
     pair-turned-away _ _ _ (second-refused _ _ (t .0) _ (h .0) (h .1)) (λ z. omega arith)
 
 returns-3 : tie.Need-returns-3
 returns-3 c =
-    let t = first-tree (c .before .before .before .before .before .before) in
+    let t = first-tree (first-told (second-checked (c .before))) in
     let u = second-tree (c .before) in
     pair-turned-away _ _ _ (tips-differ _ _ (t .0) (u .0) (λ e. omega (arith, c .if1 .taken, t .1, u .1, e))) (λ z. omega arith)
 
@@ -91,11 +111,12 @@ sub-t16 c = let u = second-tree (c .before .before) in omega (arith, edges-some 
 returns-4 : tie.Need-returns-4
 returns-4 c =
     let o = c .before .before in
-    let t = first-tree (o .before .before .before .before .before) in
+    let s = second-checked o in
+    let t = first-tree (first-told s) in
     let u = second-tree o in
     pair-found _ _ _ _ _ (tables-accepted _ _ (t .0) (u .0) (omega (arith, c .before .if1 .left, t .1, u .1)))
     (t .1)
-    (ap (λ (x : ℕ). x - 1) (o .before .before .before .before .as-index .ensures .0 ∙ t .2))
+    (ap (λ (x : ℕ). x - 1) (s .before .as-index .ensures .0 ∙ t .2))
     (ap (λ (x : ℕ). x - 1) (c .as-index2 .ensures .0 ∙ u .2))
 
 pub check-pair-spec : {M : Type 1} → statement M

@@ -11,9 +11,17 @@ use borrow.Author.Needs.{needs}
 use Rattle.pair_check.proofs.pairs.check_work.Statement.{statement}
 use Rattle.pair_check.proofs.pairs.check_work.Tie as tie
 
+-- ---- the points of the program
+
+-- the tables are told a pair
+abbrev start : tie.After-known-told → tie.Start
+start c = c .before .before .before .before .before .before
+
+-- ---- what is known there
+
 -- the tables are a pair, with n, rows and columns as told
 tables : (c : tie.After-known-told)
-    → let s = c .before .before .before .before .before .before .args in
+    → let s = start c .args in
     let g = c .before .answer .given .0 in
     IsPair (s .first .now) (s .second .now) × (g .0 ≡ tips (s .first .now))
     × (g .1 .0 ≡ nodes (s .first .now) - 1) × (g .1 .1 .0 ≡ nodes (s .second .now) - 1)

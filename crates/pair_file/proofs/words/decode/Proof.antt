@@ -17,6 +17,17 @@ Inv-loop bytes words₀ count i₀ words i =
 abbrev μ-loop : tie.MeasureT-loop
 μ-loop bytes words₀ count i₀ words i = count - i
 
+-- ---- the points of the program
+
+abbrev start : tie.At-loop Inv-loop μ-loop → tie.Start Inv-loop μ-loop
+start c = c .before .before .before
+
+-- after a word is formed, the turn
+abbrev turn : tie.After-word-of Inv-loop μ-loop → tie.In-loop Inv-loop μ-loop
+turn c = c .before .before .before
+
+-- ---- the needs
+
 loop-holds : tie.Need-loop-holds Inv-loop μ-loop
 loop-holds c = (omega arith, refl, refl)
 
@@ -52,8 +63,8 @@ loop-less c = search needs
 
 loop-again : tie.Need-loop-again Inv-loop μ-loop
 loop-again c =
-    let l = c .before .before .before .before .loop in
-    let a = c .before .before .before .before .before .before .before .args in (
+    let l = turn c .before .loop in
+    let a = start (turn c .before) .args in (
       omega arith,
       simp length-set (l .inv .1),
       words-next (a .bytes .now) (l .words) (l .i) (c .word-of .result) (omega arith) (omega arith) (l .inv .2)
@@ -66,7 +77,7 @@ same-length c = search needs
 returns : tie.Need-returns Inv-loop μ-loop
 returns c =
     let l = c .before .loop in
-    let a = c .before .before .before .before .args in
+    let a = start (c .before) .args in
     (omega arith, words-all (a .bytes .now) (l .words) (l .i) (omega arith) (l .inv .2))
 
 pub decode-spec : {M : Type 1} → statement M

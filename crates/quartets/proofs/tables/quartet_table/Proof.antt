@@ -11,9 +11,21 @@ use borrow.Author.Needs.{needs}
 use Rattle.quartets.proofs.tables.quartet_table.Statement.{statement}
 use Rattle.quartets.proofs.tables.quartet_table.Tie as tie
 
+-- ---- the points of the program
+
+-- the pair is told accepted, ..
+abbrev start : tie.After-known-told → tie.Start
+start c = c .before .before .before .before .before .before .before
+
+-- .. and its claim sums are formed
+abbrev told : tie.After-claim-sums → tie.After-known-told
+told c = c .before .before
+
+-- ---- what is known there
+
 -- a pair with cells enough, with n as told
 pair : (c : tie.After-known-told)
-    → let s = c .before .before .before .before .before .before .before .args in
+    → let s = start c .args in
     PairWithCells (s .first .now) (s .second .now) (length (s .work .now))
     × (c .before .answer .given .0 .0 ≡ tips (s .first .now))
 pair c =
@@ -45,7 +57,7 @@ claim-sums-requires c κs = search needs
 form-table-requires : tie.Need-form-table-requires
 form-table-requires c κs =
     let x = c .before .before in
-    let p = pair (x .before .before) in
+    let p = pair (told x) in
     sums-fit _ _ _ (p .0) _ (x .claim-sums .ensures .0) _ (p .1)
 
 same-length : tie.Need-same-length
@@ -54,7 +66,7 @@ same-length c = search needs
 returns-2 : tie.Need-returns-2
 returns-2 c =
     let x = c .before .before .before in
-    let p = pair (x .before .before) in
+    let p = pair (told x) in
     let r = c .form-table .ensures ∙ table-counts _ _ _ (p .0) _ (x .claim-sums .ensures .0) _ (p .1) in
     (r, answer-has _ _ _ _ r, x .claim-sums .ensures .1)
 

@@ -22,38 +22,49 @@ Inv-loop work base width j₀ j =
 abbrev μ-loop : tie.MeasureT-loop
 μ-loop work base width j₀ j = width - j
 
+-- ---- the points of the program
+
+abbrev start : tie.In-loop Inv-loop μ-loop → tie.Start Inv-loop μ-loop
+start c = c .before .before .before
+
+-- after the test of a cell, the turn
+abbrev turn : tie.After-is-both Inv-loop μ-loop → tie.In-loop Inv-loop μ-loop
+turn c = c .before .before .before .before
+
+-- ---- the needs
+
 loop-holds : tie.Need-loop-holds Inv-loop μ-loop
 loop-holds c = (omega arith, λ k l. absurd (omega arith))
 
 add-is-both : tie.Need-add-is-both Inv-loop μ-loop
 add-is-both c =
-    let s = c .before .before .before in
+    let s = start c in
     omega (arith, s .pre .low, s .pre .narrow, c .loop-test .taken)
 
 mul-is-both : tie.Need-mul-is-both Inv-loop μ-loop
 mul-is-both c =
-    let s = c .before .before .before in
+    let s = start c in
     omega (arith, s .pre .low, s .pre .narrow, c .loop-test .taken)
 
 shared-slice-read-is-both : tie.Need-shared-slice-read-is-both Inv-loop μ-loop
 shared-slice-read-is-both c =
-    let s = c .before .before .before .before in
+    let s = start (c .before) in
     omega (arith, s .pre .inside, c .before .loop-test .taken)
 
 mul-is-both-2 : tie.Need-mul-is-both-2 Inv-loop μ-loop
-mul-is-both-2 c = omega (arith, c .before .before .before .before .pre .low)
+mul-is-both-2 c = omega (arith, start (c .before) .pre .low)
 
 shared-slice-read-is-both-2 : tie.Need-shared-slice-read-is-both-2 Inv-loop μ-loop
 shared-slice-read-is-both-2 c =
-    omega (arith, c .before .before .before .before .before .pre .inside, c .before .before .loop-test .taken)
+    omega (arith, start (c .before .before) .pre .inside, c .before .before .loop-test .taken)
 
 mul-is-both-3 : tie.Need-mul-is-both-3 Inv-loop μ-loop
 mul-is-both-3 c =
-    omega (arith, c .before .before .before .before .before .pre .narrow, c .before .before .loop-test .taken)
+    omega (arith, start (c .before .before) .pre .narrow, c .before .before .loop-test .taken)
 
 shared-slice-read-is-both-3 : tie.Need-shared-slice-read-is-both-3 Inv-loop μ-loop
 shared-slice-read-is-both-3 c =
-    omega (arith, c .before .before .before .before .before .before .pre .inside, c .before .before .before .loop-test .taken)
+    omega (arith, start (c .before .before .before) .pre .inside, c .before .before .before .loop-test .taken)
 
 is-both-requires : tie.Need-is-both-requires Inv-loop μ-loop
 is-both-requires c κs = search needs
@@ -61,7 +72,7 @@ is-both-requires c κs = search needs
 returns : tie.Need-returns Inv-loop μ-loop
 unfolding sharedRow
 returns c =
-    let l = c .before .before .before .before .before in
+    let l = turn (c .before) in
     sym (some-true _ _ (l .before .loop .j) (l .loop-test .taken) (sym (c .before .is-both .ensures) ∙ c .if1 .taken))
 
 add-j : tie.Need-add-j Inv-loop μ-loop
@@ -72,7 +83,7 @@ loop-less c = search needs
 
 loop-again : tie.Need-loop-again Inv-loop μ-loop
 loop-again c =
-    let l = c .before .before .before .before .before in (
+    let l = turn (c .before) in (
       omega (arith, l .loop-test .taken),
       below-more _ _ (l .before .loop .inv .1)
           (sym (c .before .is-both .ensures) ∙ c .if1 .left),

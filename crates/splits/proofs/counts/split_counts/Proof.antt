@@ -14,15 +14,30 @@ use borrow.Author.Needs.{needs}
 use Rattle.splits.proofs.counts.split_counts.Statement.{statement}
 use Rattle.splits.proofs.counts.split_counts.Tie as tie
 
+-- ---- the points of the program
+
+-- the pair is crossed, ..
+abbrev start : tie.After-cross-pair → tie.Start
+start c = c .before .before .before .before .before
+
+-- .. and is told accepted ..
+abbrev crossed : tie.After-known-told → tie.After-cross-pair
+crossed c = c .before .before .before .before .before
+
+-- .. or refused
+abbrev crossed-refused : tie.After-pair-refusal → tie.After-cross-pair
+crossed-refused c = c .before .before .before .before .before
+
+-- ---- what is known there
+
 -- a pair with cells enough, with n, rows and columns as told
 pair : (c : tie.After-known-told)
-    → let s = c .before .before .before .before .before .before .before .before .before .before .args in
+    → let s = start (crossed c) .args in
     let told = c .before .answer .given .0 in
     PairWithCells (s .first .now) (s .second .now) (length (s .work .now)) × (told .0 ≡ tips (s .first .now))
     × (told .1 .0 ≡ nodes (s .first .now) - 1) × (told .1 .1 .0 ≡ nodes (s .second .now) - 1)
 pair c =
-    let x = c .before .before .before .before .before in
-    work-says _ _ _ _ _ _ (sym (x .cross-pair .ensures .0) ∙ c .before .answer .given .1)
+    work-says _ _ _ _ _ _ (sym (crossed c .cross-pair .ensures .0) ∙ c .before .answer .given .1)
 
 cross-pair-requires : tie.Need-cross-pair-requires
 cross-pair-requires c κs = search needs
@@ -41,7 +56,7 @@ same-length c = search needs
 
 returns : tie.Need-returns
 returns c =
-    let x = c .before .before .before .before .before .cross-pair .ensures in
+    let x = crossed-refused c .cross-pair .ensures in
     let h = work-passed _ _ _ _ _ _ (x .0) (c .before .enum-told .given .1) (c .pair-refusal .ensures) in
     (split-refused _ _ _ _ (h .0) (h .1), x .2)
 
@@ -53,7 +68,7 @@ count-splits-requires c κs =
     let k = c .before .before in
     let p = pair k in
     let told = k .before .answer .given .0 in
-    let x = k .before .before .before .before .before .cross-pair .ensures in
+    let x = crossed k .cross-pair .ensures in
     subst (λ (cells : List ℕ). SplitsCountable cells (told .1 .0) (told .1 .1 .0) (c .as-count .result))
     (sym (crossings-are _ _ _ _ (p .0) (x .2)))
     (split-cells _ _ _ (p .0) _ _ _ (c .as-count .ensures .0 ∙ p .1) (p .2) (p .3))
@@ -66,7 +81,7 @@ returns-2 c =
     let k = c .before .before .before in
     let p = pair k in
     let told = k .before .answer .given .0 in
-    let x = k .before .before .before .before .before .cross-pair .ensures in (
+    let x = crossed k .cross-pair .ensures in (
       c .count-splits .ensures
           ∙ ap (λ (cells : List ℕ). counted cells (told .1 .0) (told .1 .1 .0) (c .before .as-count .result))
           (crossings-are _ _ _ _ (p .0) (x .2))

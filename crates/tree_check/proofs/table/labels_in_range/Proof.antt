@@ -20,12 +20,23 @@ Inv-loop labels n i₀ i = (i ≤ length labels) × ((k : ℕ) → k < i → lab
 abbrev μ-loop : tie.MeasureT-loop
 μ-loop labels n i₀ i = length labels - i
 
+-- ---- the points of the program
+
+abbrev start : tie.At-loop Inv-loop μ-loop → tie.Start Inv-loop μ-loop
+start c = c .before .before
+
+-- after the test of a label, the turn
+abbrev turn : tie.After-label-fits Inv-loop μ-loop → tie.In-loop Inv-loop μ-loop
+turn c = c .before .before .before
+
+-- ---- what is known there
+
 -- what the call tells of the word read
 told : (c : tie.After-label-fits Inv-loop μ-loop)
-    → let s = c .before .before .before .before .before .before .args in
-    labelFits (s .n) (word (s .labels .now) (c .before .before .before .before .loop .i)) ≡ c .label-fits .result
+    → let s = start (turn c .before) .args in
+    labelFits (s .n) (word (s .labels .now) (turn c .before .loop .i)) ≡ c .label-fits .result
 told c =
-    ap (labelFits (c .before .before .before .before .before .before .args .n)) (sym (c .before .as-index .ensures .0))
+    ap (labelFits (start (turn c .before) .args .n)) (sym (c .before .as-index .ensures .0))
     ∙ sym (c .label-fits .ensures)
 
 loop-holds : tie.Need-loop-holds Inv-loop μ-loop
@@ -45,8 +56,8 @@ label-fits-requires c κs = search needs
 
 returns : tie.Need-returns Inv-loop μ-loop
 returns c =
-    let l = c .before .before .before .before .before in
-    sym (every-false _ _ (l .loop .i) (c .before .before .before .before .loop-test .taken)
+    let l = turn (c .before) in
+    sym (every-false _ _ (l .before .loop .i) (l .loop-test .taken)
     (told (c .before) ∙ not-true _ (c .if1 .taken)))
 
 add-i : tie.Need-add-i Inv-loop μ-loop
@@ -57,7 +68,7 @@ loop-less c = search needs
 
 loop-again : tie.Need-loop-again Inv-loop μ-loop
 loop-again c =
-    let l = c .before .before .before .before .before .loop in
+    let l = turn (c .before) .before .loop in
     (omega arith, below-more _ _ (l .inv .1) (told (c .before) ∙ not-false _ (c .if1 .left)))
 
 returns-2 : tie.Need-returns-2 Inv-loop μ-loop

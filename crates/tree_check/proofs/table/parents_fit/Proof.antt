@@ -20,13 +20,24 @@ Inv-loop parents i₀ i = (i ≤ length parents) × ((k : ℕ) → k < i → par
 abbrev μ-loop : tie.MeasureT-loop
 μ-loop parents i₀ i = length parents - i
 
+-- ---- the points of the program
+
+abbrev start : tie.At-loop Inv-loop μ-loop → tie.Start Inv-loop μ-loop
+start c = c .before .before
+
+-- after the test of a parent word, the turn
+abbrev turn : tie.After-parent-fits Inv-loop μ-loop → tie.In-loop Inv-loop μ-loop
+turn c = c .before .before .before
+
+-- ---- what is known there
+
 -- what the call tells of the word read
 told : (c : tie.After-parent-fits Inv-loop μ-loop)
-    → let l = c .before .before .before .before .loop in
-    let ps = c .before .before .before .before .before .before .args .parents .now in
-    parentFits (l .i) (word ps (l .i)) ≡ c .parent-fits .result
+    → let l = turn c .before in
+    let i = l .loop .i in
+    parentFits i (word (start l .args .parents .now) i) ≡ c .parent-fits .result
 told c =
-    ap (parentFits (c .before .before .before .before .loop .i)) (sym (c .before .as-index .ensures .0))
+    ap (parentFits (turn c .before .loop .i)) (sym (c .before .as-index .ensures .0))
     ∙ sym (c .parent-fits .ensures)
 
 loop-holds : tie.Need-loop-holds Inv-loop μ-loop
@@ -46,8 +57,8 @@ parent-fits-requires c κs = search needs
 
 returns : tie.Need-returns Inv-loop μ-loop
 returns c =
-    let l = c .before .before .before .before .before in
-    sym (every-false _ _ (l .loop .i) (c .before .before .before .before .loop-test .taken)
+    let l = turn (c .before) in
+    sym (every-false _ _ (l .before .loop .i) (l .loop-test .taken)
     (told (c .before) ∙ not-true _ (c .if1 .taken)))
 
 add-i : tie.Need-add-i Inv-loop μ-loop
@@ -58,7 +69,7 @@ loop-less c = search needs
 
 loop-again : tie.Need-loop-again Inv-loop μ-loop
 loop-again c =
-    let l = c .before .before .before .before .before .loop in
+    let l = turn (c .before) .before .loop in
     (omega arith, below-more _ _ (l .inv .1) (told (c .before) ∙ not-false _ (c .if1 .left)))
 
 returns-2 : tie.Need-returns-2 Inv-loop μ-loop

@@ -20,14 +20,25 @@ Inv-loop labels kids i₀ i =
 abbrev μ-loop : tie.MeasureT-loop
 μ-loop labels kids i₀ i = length labels - i
 
+-- ---- the points of the program
+
+abbrev start : tie.At-loop Inv-loop μ-loop → tie.Start Inv-loop μ-loop
+start c = c .before .before .before
+
+-- after the test of a node, the turn
+abbrev turn : tie.After-is-misplaced Inv-loop μ-loop → tie.In-loop Inv-loop μ-loop
+turn c = c .before .before .before .before .before
+
+-- ---- what is known there
+
 -- what the call tells of the two words read
 told : (c : tie.After-is-misplaced Inv-loop μ-loop)
-    → let l = c .before .before .before .before .before .before in
-    let s = l .before .before .before .args in
+    → let l = turn c .before in
+    let s = start l .args in
     misplaced (l .loop .i) (word (s .labels .now) (l .loop .i)) (word (s .kids .now) (l .loop .i))
     ≡ c .is-misplaced .result
 told c =
-    ap₂ (misplaced (c .before .before .before .before .before .before .loop .i))
+    ap₂ (misplaced (turn c .before .loop .i))
     (sym (c .before .before .before .as-index .ensures .0))
     (sym (c .before .as-index2 .ensures .0))
     ∙ sym (c .is-misplaced .ensures)
@@ -58,8 +69,8 @@ is-misplaced-requires c κs = search needs
 
 returns : tie.Need-returns Inv-loop μ-loop
 returns c =
-    let l = c .before .before .before .before .before .before .before in
-    sym (some-true _ _ (l .loop .i) (c .before .before .before .before .before .before .loop-test .taken)
+    let l = turn (c .before) in
+    sym (some-true _ _ (l .before .loop .i) (l .loop-test .taken)
     (told (c .before) ∙ c .if1 .taken))
 
 add-i : tie.Need-add-i Inv-loop μ-loop
@@ -70,7 +81,7 @@ loop-less c = search needs
 
 loop-again : tie.Need-loop-again Inv-loop μ-loop
 loop-again c =
-    let l = c .before .before .before .before .before .before .before .loop in
+    let l = turn (c .before) .before .loop in
     (omega arith, below-more _ _ (l .inv .1) (told (c .before) ∙ c .if1 .left))
 
 returns-2 : tie.Need-returns-2 Inv-loop μ-loop

@@ -17,44 +17,73 @@ use borrow.Author.Needs.{needs}
 use Rattle.tree_check.proofs.table.tree_refusal.Statement.{statement}
 use Rattle.tree_check.proofs.table.tree_refusal.Tie as tie
 
+-- ---- the points of the program
+
+-- the table has its first two words, ..
+abbrev start : tie.Else1 → tie.Start
+start c = c .before .before
+
+-- .. the tips are tested, ..
+abbrev long-enough : tie.After-tips-fit → tie.Else1
+long-enough c = c .before .before .before .before .before
+
+abbrev read-n : tie.After-tips-fit → tie.After-as-index
+read-n c = c .before .before .before
+
+abbrev read-m : tie.After-tips-fit → tie.After-as-index2
+read-m c = c .before
+
+-- .. then the nodes, ..
+abbrev tips-tested : tie.After-nodes-fit → tie.After-tips-fit
+tips-tested c = c .before .before
+
+-- .. then the length
+abbrev nodes-tested : tie.Else4 → tie.After-nodes-fit
+nodes-tested c = c .before .before
+
+-- the table, at the test of the tips and after that of the length
+abbrev table : tie.After-tips-fit → Table
+table c = start (long-enough c) .args .table .now
+
+abbrev tested : tie.Else4 → Table
+tested c = table (tips-tested (nodes-tested c))
+
+-- ---- what is known there
+
 -- what is known of n
-known-n : (c : tie.After-tips-fit)
-    → tipsFit (tips (c .before .before .before .before .before .before .before .args .table .now))
-    ≡ c .tips-fit .result
+known-n : (c : tie.After-tips-fit) → tipsFit (tips (table c)) ≡ c .tips-fit .result
 unfolding tips
-known-n c = ap tipsFit (sym (c .before .before .before .as-index .ensures .0)) ∙ sym (c .tips-fit .ensures)
+known-n c = ap tipsFit (sym (read-n c .as-index .ensures .0)) ∙ sym (c .tips-fit .ensures)
 
 -- what is known of m
-known-m : (c : tie.After-nodes-fit)
-    → let t = c .before .before .before .before .before .before .before .before .before .args .table .now in
+known-m : (c : tie.After-nodes-fit) → let t = table (tips-tested c) in
     nodesFit (tips t) (nodes t) ≡ c .nodes-fit .result
 unfolding tips nodes
 known-m c =
-    ap₂ nodesFit (sym (c .before .before .before .before .before .as-index .ensures .0))
-    (sym (c .before .before .before .as-index2 .ensures .0))
+    ap₂ nodesFit (sym (read-n (tips-tested c) .as-index .ensures .0))
+    (sym (read-m (tips-tested c) .as-index2 .ensures .0))
     ∙ sym (c .nodes-fit .ensures)
 
-abbrev table : tie.Else4 → Table
-table c = c .before .before .before .before .before .before .before .before .before .before .before .args .table .now
-
+-- what is known where all tests of the sizes have passed
 record Known (c : tie.Else4) : Type 0 where
-  long : 2 ≤ length (table c)
-  tips-fit : tipsFit (tips (table c)) ≡ true
-  nodes-fit : nodesFit (tips (table c)) (nodes (table c)) ≡ true
-  n-is : c .before .before .before .before .before .before .before .as-index .result ≡ tips (table c)
-  m-is : c .before .before .before .before .before .as-index2 .result ≡ nodes (table c)
-  words : length (table c) ≡ 2 + 2 * nodes (table c)
+  long : 2 ≤ length (tested c)
+  tips-fit : tipsFit (tips (tested c)) ≡ true
+  nodes-fit : nodesFit (tips (tested c)) (nodes (tested c)) ≡ true
+  n-is : read-n (tips-tested (nodes-tested c)) .as-index .result ≡ tips (tested c)
+  m-is : read-m (tips-tested (nodes-tested c)) .as-index2 .result ≡ nodes (tested c)
+  words : length (tested c) ≡ 2 + 2 * nodes (tested c)
 
 known : (c : tie.Else4) → Known c
 unfolding tips nodes
 known c =
-    let b = c .before .before .before in
-    let m = b .before .before .as-index2 .ensures .0 in
+    let b = nodes-tested c in
+    let t = tips-tested b in
+    let m = read-m t .as-index2 .ensures .0 in
     record {
-      long = b .before .before .before .before .before .before .if1 .left;
-      tips-fit = known-n (b .before) ∙ not-false _ (b .if2 .left);
-      nodes-fit = known-m (c .before .before) ∙ not-false _ (c .before .if3 .left);
-      n-is = b .before .before .before .before .as-index .ensures .0;
+      long = long-enough t .if1 .left;
+      tips-fit = known-n t ∙ not-false _ (b .before .if2 .left);
+      nodes-fit = known-m b ∙ not-false _ (c .before .if3 .left);
+      n-is = read-n t .as-index .ensures .0;
       m-is = m;
       words = c .if4 .left ∙ ap (λ (k : ℕ). 2 + 2 * k) m;
     }
@@ -80,18 +109,18 @@ tips-fit-requires c κs = search needs
 returns-2 : tie.Need-returns-2
 returns-2 c =
     let b = c .before in
-    sym (tips-out _ (b .before .before .before .before .before .if1 .left) (known-n b ∙ not-true _ (c .if2 .taken)))
+    sym (tips-out _ (long-enough b .if1 .left) (known-n b ∙ not-true _ (c .if2 .taken)))
 
 nodes-fit-requires : tie.Need-nodes-fit-requires
 unfolding tips
 nodes-fit-requires c κs =
     let h = tips-iff _ .0 (subst T (sym (known-n (c .before) ∙ not-false _ (c .if2 .left))) tt) in
-    rw (c .before .before .before .before .as-index .ensures .0) h
+    rw (read-n (c .before) .as-index .ensures .0) h
 
 returns-3 : tie.Need-returns-3
 returns-3 c =
     let b = c .before .before in
-    sym (nodes-out _ (b .before .before .before .before .before .before .if1 .left)
+    sym (nodes-out _ (long-enough (b .before) .if1 .left)
     (known-n (b .before) ∙ not-false _ (b .if2 .left)) (known-m (c .before) ∙ not-true _ (c .if3 .taken)))
 
 mul-if4 : tie.Need-mul-if4
@@ -104,9 +133,9 @@ returns-4 : tie.Need-returns-4
 unfolding nodes
 returns-4 c =
     let b = c .before .before .before in
-    sym (length-wrong _ (b .before .before .before .before .before .before .if1 .left)
+    sym (length-wrong _ (long-enough (b .before) .if1 .left)
     (known-n (b .before) ∙ not-false _ (b .if2 .left)) (known-m (c .before .before) ∙ not-false _ (c .before .if3 .left))
-    (λ e. c .if4 .taken (e ∙ ap (λ (k : ℕ). 2 + 2 * k) (sym (b .before .before .as-index2 .ensures .0)))))
+    (λ e. c .if4 .taken (e ∙ ap (λ (k : ℕ). 2 + 2 * k) (sym (read-m (b .before) .as-index2 .ensures .0)))))
 
 add-arrays-refusal : tie.Need-add-arrays-refusal
 add-arrays-refusal c = search needs

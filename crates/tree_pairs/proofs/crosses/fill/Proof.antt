@@ -9,18 +9,34 @@ use borrow.Author.Needs.{needs}
 use Rattle.tree_pairs.proofs.crosses.fill.Statement.{statement}
 use Rattle.tree_pairs.proofs.crosses.fill.Tie as tie
 
+-- ---- the points of the program
+
+-- the three numbers are read, ..
+abbrev start : tie.After-as-index3 → tie.Start
+start c = c .before .before .before .before .before .before .before .before .before
+
+abbrev tips-read : tie.After-as-index3 → tie.After-as-index
+tips-read c = c .before .before .before .before
+
+abbrev first-nodes-read : tie.After-as-index3 → tie.After-as-index2
+first-nodes-read c = c .before .before
+
+-- .. and the parts are lent on
+abbrev numbers-read : tie.After-fill-arrays → tie.After-as-index3
+numbers-read c = c .before .before .before .before .before .before
+
+-- ---- what is known there
+
 -- as many words as their numbers of nodes tell
 record Lengths (c : tie.After-as-index3) : Type 0 where
-  first : length (c .before .before .before .before .before .before .before .before .before .args .first .now)
-      ≡ 2 + 2 * c .before .before .as-index2 .result
-  second : length (c .before .before .before .before .before .before .before .before .before .args .second .now)
-      ≡ 2 + 2 * c .as-index3 .result
+  first : length (start c .args .first .now) ≡ 2 + 2 * first-nodes-read c .as-index2 .result
+  second : length (start c .args .second .now) ≡ 2 + 2 * c .as-index3 .result
 
 lengths : (c : tie.After-as-index3) → Lengths c
 lengths c =
-    let s = c .before .before .before .before .before .before .before .before .before in
-    let l = lent-lengths _ _ (s .args .work .now) (s .pre) _ _ _ (c .before .before .before .before .as-index .ensures .0)
-    (c .before .before .as-index2 .ensures .0) (c .as-index3 .ensures .0) in
+    let s = start c in
+    let l = lent-lengths _ _ (s .args .work .now) (s .pre) _ _ _ (tips-read c .as-index .ensures .0)
+    (first-nodes-read c .as-index2 .ensures .0) (c .as-index3 .ensures .0) in
     record { first = l .0; second = l .1 }
 
 shared-slice-read-as-index : tie.Need-shared-slice-read-as-index
@@ -98,9 +114,9 @@ part-fill-arrays-end-4 c = search needs
 fill-arrays-requires : tie.Need-fill-arrays-requires
 fill-arrays-requires c κs =
     let w = c .before .before .before .before .before in
-    let s = w .before .before .before .before .before .before .before .before .before in
-    lent-arrays _ _ _ (s .pre) _ _ _ (w .before .before .before .before .as-index .ensures .0)
-    (w .before .before .as-index2 .ensures .0) (w .as-index3 .ensures .0)
+    let s = start w in
+    lent-arrays _ _ _ (s .pre) _ _ _ (tips-read w .as-index .ensures .0)
+    (first-nodes-read w .as-index2 .ensures .0) (w .as-index3 .ensures .0)
 
 same-length : tie.Need-same-length
 same-length c = search needs
@@ -108,10 +124,10 @@ same-length c = search needs
 returns : tie.Need-returns
 returns c =
     let f = c .before .before in
-    let w = f .before .before .before .before .before .before in
-    let s = w .before .before .before .before .before .before .before .before .before in
-    lent-crossed _ _ _ (s .pre) _ _ _ (w .before .before .before .before .as-index .ensures .0)
-    (w .before .before .as-index2 .ensures .0) (w .as-index3 .ensures .0) _ (f .fill-arrays .ensures)
+    let w = numbers-read f in
+    let s = start w in
+    lent-crossed _ _ _ (s .pre) _ _ _ (tips-read w .as-index .ensures .0)
+    (first-nodes-read w .as-index2 .ensures .0) (w .as-index3 .ensures .0) _ (f .fill-arrays .ensures)
 
 pub fill-spec : {M : Type 1} → statement M
 fill-spec =

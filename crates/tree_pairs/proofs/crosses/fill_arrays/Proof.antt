@@ -7,11 +7,34 @@ use borrow.Author.Needs.{needs}
 use Rattle.tree_pairs.proofs.crosses.fill_arrays.Statement.{statement}
 use Rattle.tree_pairs.proofs.crosses.fill_arrays.Tie as tie
 
+-- ---- the points of the program
+
+abbrev start : tie.After-slice-known → tie.Start
+start c = c .before .before .before .before .before
+
+-- the cells are cleared, ..
+abbrev lent : tie.After-clear → tie.After-slice-known
+lent c = c .before .before
+
+-- .. the nodes of the labels are found, ..
+abbrev cleared : tie.After-nodes-of → tie.After-clear
+cleared c = c .before .before .before
+
+-- .. the rows of the tips are filled, ..
+abbrev nodes-found : tie.After-tip-rows → tie.After-nodes-of
+nodes-found c = c .before .before .before
+
+-- .. and the rows are added up
+abbrev tips-filled : tie.After-add-rows → tie.After-tip-rows
+tips-filled c = c .before .before .before .before
+
+-- ---- the needs
+
 sub-width : tie.Need-sub-width
-sub-width c = omega (arith, few-nodes _ _ _ (c .before .before .before .before .before .pre .second))
+sub-width c = omega (arith, few-nodes _ _ _ (start c .pre .second))
 
 sub-clear : tie.Need-sub-clear
-sub-clear c = omega (arith, few-nodes _ _ _ (c .before .before .before .before .before .before .pre .first))
+sub-clear c = omega (arith, few-nodes _ _ _ (start (c .before) .pre .first))
 
 mul-clear : tie.Need-mul-clear
 mul-clear c = search needs
@@ -21,21 +44,22 @@ clear-requires c κs = search needs
 
 nodes-of-requires : tie.Need-nodes-of-requires
 nodes-of-requires c κs =
-    let s = c .before .before .before .before .before .before .before .before .before in
+    let s = start (lent (c .before .before)) in
     omega (arith, few-nodes _ _ _ (s .pre .second), s .pre .second .same)
 
 tip-rows-requires : tie.Need-tip-rows-requires
 tip-rows-requires c κs =
-    let d = c .before .before .before .before .before in
-    let s = d .before .before .before .before .before .before .before in
-    tip-room _ _ _ _ _ _ (s .pre) _ _ (d .clear .ensures) (c .before .before .nodes-of .ensures)
+    let f = c .before .before in
+    let d = cleared f in
+    let s = start (lent d) in
+    tip-room _ _ _ _ _ _ (s .pre) _ _ (d .clear .ensures) (f .nodes-of .ensures)
 
 add-rows-requires : tie.Need-add-rows-requires
 add-rows-requires c κs =
     let r = c .before .before .before in
-    let f = r .before .before .before in
-    let d = f .before .before .before in
-    let s = d .before .before .before .before .before .before .before in
+    let f = nodes-found r in
+    let d = cleared f in
+    let s = start (lent d) in
     rows-room _ _ _ _ _ _ (s .pre) _ _ (d .clear .ensures) (f .nodes-of .ensures) _ (r .tip-rows .ensures)
 
 same-length : tie.Need-same-length
@@ -44,10 +68,10 @@ same-length c = search needs
 returns : tie.Need-returns
 returns c =
     let a = c .before .before in
-    let r = a .before .before .before .before in
-    let f = r .before .before .before in
-    let d = f .before .before .before in
-    let s = d .before .before .before .before .before .before .before in
+    let r = tips-filled a in
+    let f = nodes-found r in
+    let d = cleared f in
+    let s = start (lent d) in
     filled _ _ _ _ _ _ (s .pre) _ _ (d .clear .ensures) (f .nodes-of .ensures) _ (r .tip-rows .ensures)
     _ (a .add-rows .ensures)
 

@@ -14,26 +14,38 @@ Inv-loop parents work₀ base j₀ work j = RowAdding parents work₀ base j wor
 abbrev μ-loop : tie.MeasureT-loop
 μ-loop parents work₀ base j₀ work j = j
 
+-- ---- the points of the program
+
+abbrev start : tie.At-loop Inv-loop μ-loop → tie.Start Inv-loop μ-loop
+start c = c .before .before .before
+
+-- after the parent is read, the turn, ..
+abbrev turn : tie.After-as-index Inv-loop μ-loop → tie.In-loop Inv-loop μ-loop
+turn c = c .before .before
+
+-- .. and at its end, the parent read
+abbrev parent-read : tie.After-slice-known3 Inv-loop μ-loop → tie.After-as-index Inv-loop μ-loop
+parent-read c = c .before .before
+
+-- ---- what is known there
+
 -- the two cells are inside
 inside : (c : tie.After-as-index Inv-loop μ-loop)
     → (1 ≤ c .as-index .result)
-    × (c .as-index .result < c .before .before .before .loop .j - 1)
-    × (c .before .before .before .before .before .before .args .base
-    + (c .before .before .before .loop .j - 1 - 1)
-    < length (c .before .before .before .loop .work))
+    × (c .as-index .result < turn c .before .loop .j - 1)
+    × (start (turn c .before) .args .base + (turn c .before .loop .j - 1 - 1) < length (turn c .before .loop .work))
 inside c =
-    let l = c .before .before .before in
-    let s = l .before .before .before in
-    row-inside _ _ _ _ (l .loop .j) (s .pre) (l .loop .inv) (c .before .before .loop-test .taken)
+    let l = turn c .before in
+    let s = start l in
+    row-inside _ _ _ _ (l .loop .j) (s .pre) (l .loop .inv) (turn c .loop-test .taken)
     (c .as-index .result) (c .as-index .ensures .0)
 
 -- and their places are small numbers
 low : (c : tie.After-as-index Inv-loop μ-loop)
-    → c .before .before .before .before .before .before .args .base
-    + c .before .before .before .loop .j ≤ 1049088
+    → start (turn c .before) .args .base + turn c .before .loop .j ≤ 1049088
 low c =
-    let l = c .before .before .before in
-    let s = l .before .before .before in
+    let l = turn c .before in
+    let s = start l in
     omega (arith, l .loop .inv .to, s .pre .few, s .pre .low)
 
 loop-holds : tie.Need-loop-holds Inv-loop μ-loop
@@ -73,39 +85,39 @@ mul-work-2 : tie.Need-mul-work-2 Inv-loop μ-loop
 mul-work-2 c = omega (arith, inside (c .before), low (c .before))
 
 slice-read-work-2 : tie.Need-slice-read-work-2 Inv-loop μ-loop
-slice-read-work-2 c = omega (arith, inside (c .before .before))
+slice-read-work-2 c = omega (arith, inside (parent-read c))
 
 add-work-3 : tie.Need-add-work-3 Inv-loop μ-loop
 add-work-3 c =
-    let w = c .before .before in
-    let l = w .before .before .before in
+    let w = parent-read c in
+    let l = turn w .before in
     omega (
       arith,
-      row-fits _ _ _ _ (l .loop .j) (l .before .before .before .pre) (l .loop .inv)
-          (w .before .before .loop-test .taken) (w .as-index .result) (w .as-index .ensures .0),
+      row-fits _ _ _ _ (l .loop .j) (start l .pre) (l .loop .inv)
+          (turn w .loop-test .taken) (w .as-index .result) (w .as-index .ensures .0),
     )
 
 sub-work-3 : tie.Need-sub-work-3 Inv-loop μ-loop
-sub-work-3 c = omega (arith, inside (c .before .before))
+sub-work-3 c = omega (arith, inside (parent-read c))
 
 add-work-4 : tie.Need-add-work-4 Inv-loop μ-loop
-add-work-4 c = omega (arith, inside (c .before .before), low (c .before .before))
+add-work-4 c = omega (arith, inside (parent-read c), low (parent-read c))
 
 mul-work-3 : tie.Need-mul-work-3 Inv-loop μ-loop
-mul-work-3 c = omega (arith, inside (c .before .before), low (c .before .before))
+mul-work-3 c = omega (arith, inside (parent-read c), low (parent-read c))
 
 slice-write-work : tie.Need-slice-write-work Inv-loop μ-loop
-slice-write-work c = omega (arith, inside (c .before .before))
+slice-write-work c = omega (arith, inside (parent-read c))
 
 loop-less : tie.Need-loop-less Inv-loop μ-loop
 loop-less c = search needs
 
 loop-again : tie.Need-loop-again Inv-loop μ-loop
 loop-again c =
-    let w = c .before .before in
-    let l = w .before .before .before in
-    row-next _ _ _ _ (l .loop .j) (l .before .before .before .pre) (l .loop .inv)
-    (w .before .before .loop-test .taken) (w .as-index .result) (w .as-index .ensures .0)
+    let w = parent-read c in
+    let l = turn w .before in
+    row-next _ _ _ _ (l .loop .j) (start l .pre) (l .loop .inv)
+    (turn w .loop-test .taken) (w .as-index .result) (w .as-index .ensures .0)
 
 same-length : tie.Need-same-length Inv-loop μ-loop
 same-length c = search needs
@@ -113,7 +125,7 @@ same-length c = search needs
 returns : tie.Need-returns Inv-loop μ-loop
 returns c =
     let l = c .before in
-    row-all _ _ _ _ (l .loop .j) (l .before .before .before .pre) (l .loop .inv) (c .loop-test .left)
+    row-all _ _ _ _ (l .loop .j) (start l .pre) (l .loop .inv) (c .loop-test .left)
 
 pub add-up-row-spec : {M : Type 1} → statement M
 add-up-row-spec =

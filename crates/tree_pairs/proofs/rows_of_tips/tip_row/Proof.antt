@@ -5,6 +5,14 @@ use borrow.Author.Needs.{needs}
 use Rattle.tree_pairs.proofs.rows_of_tips.tip_row.Statement.{statement}
 use Rattle.tree_pairs.proofs.rows_of_tips.tip_row.Tie as tie
 
+-- ---- the points of the program
+
+-- the mark is set, and the row added up
+abbrev start : tie.After-add-up-row → tie.Start
+start c = c .before .before .before .before
+
+-- ---- the needs
+
 sub-work : tie.Need-sub-work
 sub-work c = search needs
 
@@ -22,12 +30,12 @@ add-up-row-requires c κs = mark-fits _ _ _ _ (c .before .before .before .pre)
 
 same-length : tie.Need-same-length
 same-length c =
-    let s = c .before .before .before .before .before .before in
+    let s = start (c .before .before) in
     mark-done _ _ _ _ (s .pre) _ (c .before .before .add-up-row .ensures) .long
 
 returns : tie.Need-returns
 returns c =
-    let s = c .before .before .before .before .before .before in
+    let s = start (c .before .before) in
     mark-done _ _ _ _ (s .pre) _ (c .before .before .add-up-row .ensures)
 
 pub tip-row-spec : {M : Type 1} → statement M

@@ -15,9 +15,25 @@ use borrow.Author.Needs.{needs}
 use Rattle.trees.proofs.centres.centre.Statement.{statement}
 use Rattle.trees.proofs.centres.centre.Tie as tie
 
+-- ---- the points of the program
+
+-- the table is told a tree, ..
+abbrev start : tie.After-answer → tie.Start
+start c = c .before .before .before .before
+
+-- .. then the labels are tested, ..
+abbrev told : tie.After-asked-refusal → tie.After-answer
+told c = c .before .before .before .before
+
+-- .. then the centre is looked up
+abbrev labels-tested : tie.After-as-index2 → tie.After-asked-refusal
+labels-tested c = c .before .before
+
+-- ---- what is known there
+
 -- what is known of the table, n and m
 known : (c : tie.After-answer)
-    → let t = c .before .before .before .before .args .table .now in
+    → let t = start c .args .table .now in
     IsTree t × (c .answer .given .0 .0 ≡ tips t) × (c .answer .given .0 .1 .0 ≡ nodes t)
 known c = checked-accepted _ _ _ (sym (c .before .before .check .ensures .0) ∙ c .answer .given .1)
 
@@ -51,7 +67,7 @@ asked-refusal-requires c κs = search needs
 
 returns-2 : tie.Need-returns-2
 returns-2 c =
-    let k = known (c .before .before .before .before .before) in
+    let k = known (told (c .before)) in
     centre-asked-refused _ _ _ _ (k .0) _ (c .before .before .as-index .ensures .0 ∙ k .1) _
     (c .before .asked-refusal .ensures) (c .if1 .taken)
 
@@ -69,7 +85,7 @@ part-centre-node-start c = search needs
 
 part-centre-node-end : tie.Need-part-centre-node-end
 part-centre-node-end c =
-    let k = known (c .before .before .before .before .before .before) in
+    let k = known (told (labels-tested c)) in
     omega (arith, k .0 .words, k .2)
 
 add-centre-node-2 : tie.Need-add-centre-node-2
@@ -80,12 +96,12 @@ mul-centre-node c = search needs
 
 sub-centre-node-2 : tie.Need-sub-centre-node-2
 sub-centre-node-2 c =
-    let k = known (c .before .before .before .before .before .before .before) in
+    let k = known (told (labels-tested (c .before))) in
     omega (arith, k .0 .words, k .2)
 
 part-centre-node-start-2 : tie.Need-part-centre-node-start-2
 part-centre-node-start-2 c =
-    let k = known (c .before .before .before .before .before .before .before) in
+    let k = known (told (labels-tested (c .before))) in
     omega (arith, k .0 .words, k .2)
 
 part-centre-node-end-2 : tie.Need-part-centre-node-end-2
@@ -94,19 +110,19 @@ part-centre-node-end-2 c = search needs
 centre-node-requires : tie.Need-centre-node-requires
 centre-node-requires c κs =
     let w = c .before .before in
-    let k = known (w .before .before .before .before .before .before) in
+    let k = known (told (labels-tested w)) in
     to-parts (λ n ps ls. RootedArrays ps ls) _ _ _ (k .0 .words) (k .1) (w .as-index2 .ensures .0 ∙ k .2)
     (rooted-arrays _ (k .0))
 
 returns-3 : tie.Need-returns-3
 returns-3 c =
     let w = c .before .before .before in
-    let i = w .before in
-    let a = i .before .before .before .before .before in
-    let s = a .before .before .before .before .args in
+    let r = labels-tested w in
+    let a = told r in
+    let s = start a .args in
     let k = known a in
-    centre-accepted _ _ _ _ (k .0) _ (i .before .before .as-index .ensures .0 ∙ k .1) _ _
-    (i .before .asked-refusal .ensures) (i .if1 .left)
+    centre-accepted _ _ _ _ (k .0) _ (r .before .as-index .ensures .0 ∙ k .1) _ _
+    (r .asked-refusal .ensures) (w .before .if1 .left)
     (of-parts (λ n ps ls. c .centre-node .result ≡ centreOver ps ls (s .a) (s .b) (s .c))
     _ _ _ (k .0 .words) (k .1) (w .as-index2 .ensures .0 ∙ k .2) (c .centre-node .ensures))
 

@@ -16,37 +16,61 @@ Inv-loop parents a b c x₀ y₀ z₀ x y z =
 abbrev μ-loop : tie.MeasureT-loop
 μ-loop parents a b c x₀ y₀ z₀ x y z = x + y + z
 
+-- ---- the points of the program
+
+abbrev start : tie.At-loop Inv-loop μ-loop → tie.Start Inv-loop μ-loop
+start c = c .before .before
+
+-- where no two of the three have met, the turn, ..
+abbrev turn : tie.Else3 Inv-loop μ-loop → tie.At-loop Inv-loop μ-loop
+turn c = c .before .before .before
+
+-- .. and so from the end of each arm
+abbrev x-turn : tie.After-as-index Inv-loop μ-loop → tie.At-loop Inv-loop μ-loop
+x-turn c = turn (c .before .before .before .before)
+
+abbrev z-turn-past-x : tie.After-as-index2 Inv-loop μ-loop → tie.At-loop Inv-loop μ-loop
+z-turn-past-x c = turn (c .before .before .before .before)
+
+abbrev y-turn : tie.After-as-index3 Inv-loop μ-loop → tie.At-loop Inv-loop μ-loop
+y-turn c = turn (c .before .before .before .before)
+
+abbrev z-turn-past-y : tie.After-as-index4 Inv-loop μ-loop → tie.At-loop Inv-loop μ-loop
+z-turn-past-y c = turn (c .before .before .before .before)
+
+-- ---- what is known there
+
 -- each arm replaces the largest of the three by its parent
 x-climbs : (c : tie.After-as-index Inv-loop μ-loop)
-    → let l = c .before .before .before .before .before .before .before in
-    Climbed (l .before .before .args .parents .now) (c .as-index .result) (l .loop .y) (l .loop .z)
+    → let l = x-turn c in
+    Climbed (start l .args .parents .now) (c .as-index .result) (l .loop .y) (l .loop .z)
     (l .loop .x) (l .loop .y) (l .loop .z)
 x-climbs c =
-    let l = c .before .before .before .before .before .before .before .loop in
+    let l = x-turn c .loop in
     first-climbs _ _ _ _ (l .inv .0) _ (c .as-index .ensures .0) (omega arith) (omega arith)
 
 z-climbs-past-x : (c : tie.After-as-index2 Inv-loop μ-loop)
-    → let l = c .before .before .before .before .before .before .before in
-    Climbed (l .before .before .args .parents .now) (l .loop .x) (l .loop .y) (c .as-index2 .result)
+    → let l = z-turn-past-x c in
+    Climbed (start l .args .parents .now) (l .loop .x) (l .loop .y) (c .as-index2 .result)
     (l .loop .x) (l .loop .y) (l .loop .z)
 z-climbs-past-x c =
-    let l = c .before .before .before .before .before .before .before .loop in
+    let l = z-turn-past-x c .loop in
     third-climbs _ _ _ _ (l .inv .0) _ (c .as-index2 .ensures .0) (omega arith) (omega arith)
 
 y-climbs : (c : tie.After-as-index3 Inv-loop μ-loop)
-    → let l = c .before .before .before .before .before .before .before in
-    Climbed (l .before .before .args .parents .now) (l .loop .x) (c .as-index3 .result) (l .loop .z)
+    → let l = y-turn c in
+    Climbed (start l .args .parents .now) (l .loop .x) (c .as-index3 .result) (l .loop .z)
     (l .loop .x) (l .loop .y) (l .loop .z)
 y-climbs c =
-    let l = c .before .before .before .before .before .before .before .loop in
+    let l = y-turn c .loop in
     second-climbs _ _ _ _ (l .inv .0) _ (c .as-index3 .ensures .0) (omega arith) (omega arith)
 
 z-climbs-past-y : (c : tie.After-as-index4 Inv-loop μ-loop)
-    → let l = c .before .before .before .before .before .before .before in
-    Climbed (l .before .before .args .parents .now) (l .loop .x) (l .loop .y) (c .as-index4 .result)
+    → let l = z-turn-past-y c in
+    Climbed (start l .args .parents .now) (l .loop .x) (l .loop .y) (c .as-index4 .result)
     (l .loop .x) (l .loop .y) (l .loop .z)
 z-climbs-past-y c =
-    let l = c .before .before .before .before .before .before .before .loop in
+    let l = z-turn-past-y c .loop in
     third-climbs _ _ _ _ (l .inv .0) _ (c .as-index4 .ensures .0) (omega arith) (omega arith)
 
 loop-holds : tie.Need-loop-holds Inv-loop μ-loop
@@ -67,7 +91,7 @@ loop-less c = x-climbs c .less
 loop-again : tie.Need-loop-again Inv-loop μ-loop
 loop-again c =
     let s = x-climbs c in
-    (s .three, s .same ∙ c .before .before .before .before .before .before .before .loop .inv .1)
+    (s .three, s .same ∙ x-turn c .loop .inv .1)
 
 mul-as-index-2 : tie.Need-mul-as-index-2 Inv-loop μ-loop
 mul-as-index-2 c = search needs
@@ -84,7 +108,7 @@ loop-less-2 c = z-climbs-past-x c .less
 loop-again-2 : tie.Need-loop-again-2 Inv-loop μ-loop
 loop-again-2 c =
     let s = z-climbs-past-x c in
-    (s .three, s .same ∙ c .before .before .before .before .before .before .before .loop .inv .1)
+    (s .three, s .same ∙ z-turn-past-x c .loop .inv .1)
 
 mul-as-index-3 : tie.Need-mul-as-index-3 Inv-loop μ-loop
 mul-as-index-3 c = search needs
@@ -101,7 +125,7 @@ loop-less-3 c = y-climbs c .less
 loop-again-3 : tie.Need-loop-again-3 Inv-loop μ-loop
 loop-again-3 c =
     let s = y-climbs c in
-    (s .three, s .same ∙ c .before .before .before .before .before .before .before .loop .inv .1)
+    (s .three, s .same ∙ y-turn c .loop .inv .1)
 
 mul-as-index-4 : tie.Need-mul-as-index-4 Inv-loop μ-loop
 mul-as-index-4 c = search needs
@@ -118,7 +142,7 @@ loop-less-4 c = z-climbs-past-y c .less
 loop-again-4 : tie.Need-loop-again-4 Inv-loop μ-loop
 loop-again-4 c =
     let s = z-climbs-past-y c in
-    (s .three, s .same ∙ c .before .before .before .before .before .before .before .loop .inv .1)
+    (s .three, s .same ∙ z-turn-past-y c .loop .inv .1)
 
 returns : tie.Need-returns Inv-loop μ-loop
 returns c =

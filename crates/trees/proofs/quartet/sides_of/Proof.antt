@@ -8,14 +8,21 @@ use borrow.Author.Needs.{needs}
 use Rattle.trees.proofs.quartet.sides_of.Statement.{statement}
 use Rattle.trees.proofs.quartet.sides_of.Tie as tie
 
+-- ---- the points of the program
+
+abbrev start : tie.After-node-of4 → tie.Start
+start c = c .before .before .before .before .before .before
+
+-- ---- what is known there
+
 -- the nodes of the four labels
 nodes : (c : tie.After-node-of4)
-    → let s = c .before .before .before .before .before .before .args in
+    → let s = start c .args in
     FourNodes (s .parents .now) (s .labels .now) (s .a) (s .b) (s .c) (s .d)
     (c .before .before .before .node-of .result) (c .before .before .node-of2 .result)
     (c .before .node-of3 .result) (c .node-of4 .result)
 nodes c = record {
-  lists = c .before .before .before .before .before .before .pre;
+  lists = start c .pre;
   xa = c .before .before .before .node-of .ensures;
   yb = c .before .before .node-of2 .ensures;
   zc = c .before .node-of3 .ensures;

@@ -18,27 +18,46 @@ use borrow.Author.Needs.{needs}
 use Rattle.trees.proofs.quartet.topology_of.Statement.{statement}
 use Rattle.trees.proofs.quartet.topology_of.Tie as tie
 
+-- ---- the points of the program
+
+-- the table is told a tree, ..
+abbrev start : tie.After-answer → tie.Start
+start c = c .before .before .before .before
+
+-- .. then the labels are tested, ..
+abbrev told : tie.After-asked-refusal → tie.After-answer
+told c = c .before .before .before .before
+
+-- .. then the sides are looked up, ..
+abbrev labels-tested : tie.After-as-index2 → tie.After-asked-refusal
+labels-tested c = c .before .before
+
+-- .. and the pairing is told
+abbrev ready : tie.After-sides → tie.After-as-index2
+ready c = c .before .before .before .before
+
+-- ---- what is known there
+
 -- what is known of the table
 tree : (c : tie.After-answer)
-    → let t = c .before .before .before .before .args .table .now in
+    → let t = start c .args .table .now in
     IsTree t × (c .answer .given .0 .0 ≡ tips t) × (c .answer .given .0 .1 .0 ≡ nodes t)
 tree c = checked-accepted _ _ _ (sym (c .before .before .check .ensures .0) ∙ c .answer .given .1)
 
 -- what is known of the labels
 asked : (c : tie.After-asked-refusal)
-    → let s = c .before .before .before .before .before .before .before .before .args in
+    → let s = start (told c) .args in
     refusal (askedOrder (tips (s .table .now)) (s .a ∷ s .b ∷ s .c ∷ s .d ∷ [])) ≡ c .asked-refusal .result
 asked c =
-    let e = c .before .as-index .ensures .0 ∙ tree (c .before .before .before .before) .1 in
+    let e = c .before .as-index .ensures .0 ∙ tree (told c) .1 in
     sym (rw e at (c .asked-refusal .ensures))
 
 -- the same, with m as an as-index
 table : (c : tie.After-as-index2)
-    → let b = c .before .before .before .before .before .before in
-    let t = b .before .before .before .before .args .table .now in
+    → let t = start (told (labels-tested c)) .args .table .now in
     IsTree t × (c .as-index2 .result ≡ nodes t)
 table c =
-    let g = tree (c .before .before .before .before .before .before) in
+    let g = tree (told (labels-tested c)) in
     (g .0, c .as-index2 .ensures .0 ∙ g .2)
 
 check-requires : tie.Need-check-requires
@@ -71,7 +90,7 @@ asked-refusal-requires c κs = search needs
 
 returns-2 : tie.Need-returns-2
 returns-2 c =
-    let g = tree (c .before .before .before .before .before) in
+    let g = tree (told (c .before)) in
     topology-told _ _ _ _ _ _ (sym (topology-asked-refused _ _ _ _ _ (g .0) _ (asked (c .before)) (c .if1 .taken)))
 
 as-index-requires-2 : tie.Need-as-index-requires-2
@@ -117,7 +136,7 @@ sides-of-requires c κs =
 
 shown-pairing-requires : tie.Need-shown-pairing-requires
 shown-pairing-requires c κs =
-    let k = table (c .before .before .before .before) in
+    let k = table (ready c) in
     omega (arith, k .0 .tips-range, k .0 .nodes-range)
 
 named-pairing-requires : tie.Need-named-pairing-requires
@@ -125,15 +144,15 @@ named-pairing-requires c κs = search needs
 
 returns-3 : tie.Need-returns-3
 returns-3 c =
-    let b = c .before .before .before .before .before .before in
-    let s = b .before .before .before .before .before .before .before .before .before .before .args in
+    let b = ready (c .before .before) in
+    let s = start (told (labels-tested b)) .args in
     let h = c .before .before .before .sides-of in
     let k = table b in
     topology-told _ _ _ _ _ _ (rw (c .named-pairing .ensures)
     (sym (topology-found _ _ _ _ _ (k .0) _
     (of-parts (λ n ps ls. SidesAre ps ls (s .a) (s .b) (s .c) (s .d) (h .result))
     _ _ _ (k .0 .words) refl (k .1) (h .ensures))
-    (asked (b .before .before) ∙ b .before .if1 .left) _
+    (asked (labels-tested b) ∙ b .before .if1 .left) _
     (rw (k .1) at (c .before .shown-pairing .ensures)))))
 
 pub topology-of-spec : {M : Type 1} → statement M

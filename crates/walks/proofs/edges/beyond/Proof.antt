@@ -9,6 +9,18 @@ use borrow.Author.Needs.{needs}
 use Rattle.walks.proofs.edges.beyond.Statement.{statement}
 use Rattle.walks.proofs.edges.beyond.Tie as tie
 
+-- ---- the points of the program
+
+-- the place is told, ..
+abbrev start : tie.After-part-beyond → tie.Start
+start c = c .before .before .before
+
+-- .. and its two numbers are read
+abbrev told : tie.After-as-index2 → tie.After-part-beyond
+told c = c .before .before
+
+-- ---- the needs
+
 part-beyond-requires : tie.Need-part-beyond-requires
 part-beyond-requires c κs = search needs
 
@@ -32,8 +44,8 @@ part-result-start c = search needs
 
 part-result-end : tie.Need-part-result-end
 part-result-end c =
-    let p = c .before .before in
-    let s = p .before .before .before in
+    let p = told c in
+    let s = start p in
     omega (
       arith,
       c .as-index2 .ensures .0,
@@ -43,8 +55,8 @@ part-result-end c =
 
 returns : tie.Need-returns
 returns c =
-    let p = c .before .before .before .part-beyond in
-    let s = c .before .before .before .before .before .before in
+    let p = told (c .before) .part-beyond in
+    let s = start (told (c .before)) in
     let from = c .before .before .as-index .ensures .0 in
     let start = from ∙ ap (λ (x : PartBeyond). x .start) (p .ensures) in (
       part-cut _ _ _ _ (p .ensures) _ _ from

@@ -21,35 +21,56 @@ use borrow.Author.Needs.{needs}
 use Rattle.walks.proofs.edges.part_beyond.Statement.{statement}
 use Rattle.walks.proofs.edges.part_beyond.Tie as tie
 
+-- ---- the points of the program
+
+-- the table is told a tree, ..
+abbrev start : tie.After-known-told → tie.Start
+start c = c .before .before .before .before .before
+
+-- .. then the edge is tested, ..
+abbrev table-told : tie.After-no-edge → tie.After-known-told
+table-told c = c .before
+
+-- .. then the cells
+abbrev edge-tested : tie.After-as-index → tie.After-no-edge
+edge-tested c = c .before .before
+
+-- .. and the part is looked up
+abbrev cells-tested : tie.After-as-index2 → tie.After-as-index
+cells-tested c = c .before .before
+
+-- ---- what is known there
+
 -- the table is a tree table with n and m as told
 accepted : (c : tie.After-known-told)
-    → let t = c .before .before .before .before .before .args .table .now in
+    → let t = start c .args .table .now in
     IsTree t × (c .before .answer .given .0 .0 ≡ tips t) × (c .before .answer .given .0 .1 .0 ≡ nodes t)
 accepted c = checked-accepted _ _ _ (sym (c .before .before .before .check .ensures .0) ∙ c .before .answer .given .1)
 
 -- what the test of the edge tells
 told : (c : tie.After-no-edge)
-    → let s = c .before .before .before .before .before .before .args in
+    → let s = start (table-told c) .args in
     (eqb (s .edge) 0 || leb (nodes (s .table .now)) (s .edge)) ≡ c .no-edge .result
 told c =
-    let s = c .before .before .before .before .before .before .args in
-    ap (λ (m : ℕ). eqb (s .edge) 0 || leb m (s .edge)) (sym (accepted (c .before) .2)) ∙ sym (c .no-edge .ensures)
+    let s = start (table-told c) .args in
+    ap (λ (m : ℕ). eqb (s .edge) 0 || leb m (s .edge)) (sym (accepted (table-told c) .2)) ∙ sym (c .no-edge .ensures)
 
 -- an accepted call: a tree table with n and m as indices, and the number 0
 ready : (c : tie.After-as-index2)
-    → let s = c .before .before .before .before .before .before .before .before .before .before .args in
+    → let s = start (table-told (edge-tested (cells-tested c))) .args in
     IsTree (s .table .now)
-    × (c .before .before .as-index .result ≡ tips (s .table .now))
+    × (cells-tested c .as-index .result ≡ tips (s .table .now))
     × (c .as-index2 .result ≡ nodes (s .table .now))
     × (refusal (edgeOrder (s .table .now) (s .edge) (s .cells)) ≡ 0)
 ready c =
-    let e = c .before .before .before .before in
-    let a = accepted (e .before) in
-    let n = c .before .before .as-index .ensures .0 ∙ a .1 in (
+    let i = cells-tested c in
+    let e = edge-tested i in
+    let a = accepted (table-told e) in
+    let n = i .as-index .ensures .0 ∙ a .1 in (
       a .0,
       n,
       c .as-index2 .ensures .0 ∙ a .2,
-      edge-accepted _ _ _ (a .0) (told e ∙ c .before .before .before .if1 .left) (omega (arith, c .before .if2 .left, n)),
+      edge-accepted _ _ _ (a .0) (told e ∙ i .before .if1 .left) (omega (arith, c .before .if2 .left, n)),
     )
 
 check-requires : tie.Need-check-requires
@@ -75,7 +96,7 @@ no-edge-requires c κs = search needs
 
 returns-2 : tie.Need-returns-2
 returns-2 c =
-    place-refused _ _ _ _ (edge-missing _ _ _ (accepted (c .before .before) .0) (told (c .before) ∙ c .if1 .taken))
+    place-refused _ _ _ _ (edge-missing _ _ _ (accepted (table-told (c .before)) .0) (told (c .before) ∙ c .if1 .taken))
     (λ z. omega arith)
 
 as-index-requires : tie.Need-as-index-requires
@@ -83,9 +104,9 @@ as-index-requires c κs = search needs
 
 returns-3 : tie.Need-returns-3
 returns-3 c =
-    let b = c .before .before in
-    let a = accepted (b .before .before) in
-    place-refused _ _ _ _ (edge-walk-short _ _ _ (a .0) (told (b .before) ∙ b .if1 .left)
+    let e = edge-tested (c .before) in
+    let a = accepted (table-told e) in
+    place-refused _ _ _ _ (edge-walk-short _ _ _ (a .0) (told e ∙ c .before .before .if1 .left)
     (omega (arith, c .if2 .taken, c .before .as-index .ensures .0, a .1))) (λ z. omega arith)
 
 as-index-requires-2 : tie.Need-as-index-requires-2

@@ -9,12 +9,22 @@ use borrow.Author.Needs.{needs}
 use Rattle.walks.proofs.edges.part_of.Statement.{statement}
 use Rattle.walks.proofs.edges.part_of.Tie as tie
 
-bounds : (c : tie.After-ends) → let s = c .before .before .before .before .before in
-    (word (c .before .before .sizes .result) (s .args .i) ≤ word (c .ends .result) (s .args .i))
+-- ---- the points of the program
+
+abbrev start : tie.After-ends → tie.Start
+start c = c .before .before .before .before .before
+
+abbrev sized : tie.After-ends → tie.After-sizes
+sized c = c .before .before
+
+-- ---- what is known there
+
+bounds : (c : tie.After-ends) → let s = start c in
+    (word (sized c .sizes .result) (s .args .i) ≤ word (c .ends .result) (s .args .i))
     × (word (c .ends .result) (s .args .i) ≤ s .args .n)
 bounds c =
-    let s = c .before .before .before .before .before in
-    part-bounds _ _ _ (s .pre .0) _ _ (c .before .before .sizes .ensures) (c .ends .ensures) (s .args .i) (s .pre .1)
+    let s = start c in
+    part-bounds _ _ _ (s .pre .0) _ _ (sized c .sizes .ensures) (c .ends .ensures) (s .args .i) (s .pre .1)
 
 sizes-requires : tie.Need-sizes-requires
 sizes-requires c κs = search needs
@@ -24,22 +34,22 @@ ends-requires c κs = search needs
 
 mul-count : tie.Need-mul-count
 mul-count c =
-    let s = c .before .before .before .before .before in
+    let s = start c in
     omega (arith, few-nodes _ _ _ (s .pre .0), s .pre .1)
 
 array-read-count : tie.Need-array-read-count
 array-read-count c =
-    let s = c .before .before .before .before .before in
+    let s = start c in
     omega (arith, few-nodes _ _ _ (s .pre .0), s .pre .1)
 
 mul-from : tie.Need-mul-from
 mul-from c =
-    let s = c .before .before .before .before .before in
+    let s = start c in
     omega (arith, few-nodes _ _ _ (s .pre .0), s .pre .1)
 
 array-read-from : tie.Need-array-read-from
 array-read-from c =
-    let s = c .before .before .before .before .before in
+    let s = start c in
     omega (arith, few-nodes _ _ _ (s .pre .0), s .pre .1)
 
 sub-from : tie.Need-sub-from
@@ -47,19 +57,19 @@ sub-from c = bounds c .0
 
 narrow-requires : tie.Need-narrow-requires
 narrow-requires c κs =
-    let s = c .before .before .before .before .before in
+    let s = start c in
     omega (arith, bounds c, few-tips _ _ _ (s .pre .0))
 
 narrow-requires-2 : tie.Need-narrow-requires-2
 narrow-requires-2 c κs =
-    let s = c .before .before .before .before .before .before in
+    let s = start (c .before) in
     omega (arith, bounds (c .before), few-tips _ _ _ (s .pre .0))
 
 returns : tie.Need-returns
 returns c =
     let b = c .before .before in
-    let s = b .before .before .before .before .before in
-    place-between _ _ _ (s .pre .0) _ _ (b .before .before .sizes .ensures) (b .ends .ensures) (s .args .i) (s .pre .1)
+    let s = start b in
+    place-between _ _ _ (s .pre .0) _ _ (sized b .sizes .ensures) (b .ends .ensures) (s .args .i) (s .pre .1)
     _ _ (c .narrow2 .ensures) (omega (arith, c .before .narrow .ensures, c .narrow2 .ensures))
 
 pub part-of-spec : {M : Type 1} → statement M

@@ -23,11 +23,26 @@ Inv-loop parents labels n size reach₀ c₀ reach c =
 abbrev μ-loop : tie.MeasureT-loop
 μ-loop parents labels n size reach₀ c₀ reach c = length parents - c
 
+-- ---- the points of the program
+
+abbrev start : tie.At-loop Inv-loop μ-loop → tie.Start Inv-loop μ-loop
+start c = c .before .before .before
+
+-- after the parent is read, the turn
+abbrev turn : tie.After-as-index Inv-loop μ-loop → tie.In-loop Inv-loop μ-loop
+turn c = c .before .before
+
+-- after the label is tested, the parent read
+abbrev parent-read : tie.After-own-label Inv-loop μ-loop → tie.After-as-index Inv-loop μ-loop
+parent-read c = c .before .before .before
+
+-- ---- what is known there
+
 -- the parent read has a smaller number
-low : (d : tie.After-as-index Inv-loop μ-loop) → d .as-index .result < d .before .before .before .loop .c
+low : (d : tie.After-as-index Inv-loop μ-loop) → d .as-index .result < turn d .before .loop .c
 low d =
-    let l = d .before .before .before in
-    let s = l .before .before .before in
+    let l = turn d .before in
+    let s = start l in
     omega (
       arith,
       d .as-index .ensures .0,
@@ -35,20 +50,20 @@ low d =
     )
 
 few : (d : tie.In-loop Inv-loop μ-loop) → d .before .loop .c < 510
-few d = omega (arith, d .loop-test .taken, few-nodes _ _ _ (d .before .before .before .before .pre .0))
+few d = omega (arith, d .loop-test .taken, few-nodes _ _ _ (start (d .before) .pre .0))
 
 -- the two positions fit
 fits : (d : tie.After-own-label Inv-loop μ-loop)
-    → let l = d .before .before .before .before .before .before in
-    let p = d .before .before .before .as-index .result in
+    → let l = turn (parent-read d) .before in
+    let p = parent-read d .as-index .result in
     (p < l .loop .c) × (word (l .loop .reach) p + d .own-label .result ≤ tipsMost)
-    × (word (l .loop .reach) p + word (l .before .before .before .args .size .now) (l .loop .c) ≤ tipsMost)
+    × (word (l .loop .reach) p + word (start l .args .size .now) (l .loop .c) ≤ tipsMost)
 fits d =
-    let l = d .before .before .before .before .before .before in
-    let s = l .before .before .before in
-    let w = d .before .before .before in
+    let w = parent-read d in
+    let l = turn w .before in
+    let s = start l in
     reached-fits _ _ _ (s .pre .0) _ _ (s .pre .1) (l .loop .c) (w .as-index .result) (d .own-label .result)
-    (l .loop .inv .0) (w .before .before .loop-test .taken) (w .as-index .ensures .0)
+    (l .loop .inv .0) (turn w .loop-test .taken) (w .as-index .ensures .0)
     (d .own-label .ensures ∙ ap (λ (x : ℕ). bit (ltb x (s .args .n))) (d .before .as-index2 .ensures .0)) (l .loop .inv .2)
 
 array-write-reach : tie.Need-array-write-reach Inv-loop μ-loop
@@ -69,17 +84,17 @@ as-index-requires : tie.Need-as-index-requires Inv-loop μ-loop
 as-index-requires c κs = search needs
 
 mul-at : tie.Need-mul-at Inv-loop μ-loop
-mul-at c = omega (arith, low c, few (c .before .before))
+mul-at c = omega (arith, low c, few (turn c))
 
 array-read-at : tie.Need-array-read-at Inv-loop μ-loop
-array-read-at c = omega (arith, low c, few (c .before .before))
+array-read-at c = omega (arith, low c, few (turn c))
 
 mul-as-index-2 : tie.Need-mul-as-index-2 Inv-loop μ-loop
-mul-as-index-2 c = omega (arith, few (c .before .before))
+mul-as-index-2 c = omega (arith, few (turn c))
 
 shared-slice-read-as-index-2 : tie.Need-shared-slice-read-as-index-2 Inv-loop μ-loop
 shared-slice-read-as-index-2 c =
-    omega (arith, c .before .before .before .before .before .before .before .pre .0 .same)
+    omega (arith, start (turn (c .before) .before) .pre .0 .same)
 
 as-index-requires-2 : tie.Need-as-index-requires-2 Inv-loop μ-loop
 as-index-requires-2 c κs = search needs
@@ -91,26 +106,26 @@ add-reach : tie.Need-add-reach Inv-loop μ-loop
 add-reach c = omega (arith, fits c)
 
 mul-reach : tie.Need-mul-reach Inv-loop μ-loop
-mul-reach c = omega (arith, few (c .before .before .before .before .before))
+mul-reach c = omega (arith, few (turn (parent-read c)))
 
 array-write-reach-2 : tie.Need-array-write-reach-2 Inv-loop μ-loop
-array-write-reach-2 c = omega (arith, few (c .before .before .before .before .before))
+array-write-reach-2 c = omega (arith, few (turn (parent-read c)))
 
 mul-reach-2 : tie.Need-mul-reach-2 Inv-loop μ-loop
-mul-reach-2 c = omega (arith, few (c .before .before .before .before .before))
+mul-reach-2 c = omega (arith, few (turn (parent-read c)))
 
 element-copy-out-reach : tie.Need-element-copy-out-reach Inv-loop μ-loop
-element-copy-out-reach c = omega (arith, few (c .before .before .before .before .before))
+element-copy-out-reach c = omega (arith, few (turn (parent-read c)))
 
 add-reach-2 : tie.Need-add-reach-2 Inv-loop μ-loop
 add-reach-2 c = omega (arith, fits (c .before))
 
 mul-reach-3 : tie.Need-mul-reach-3 Inv-loop μ-loop
-mul-reach-3 c = omega (arith, fits (c .before), few (c .before .before .before .before .before .before))
+mul-reach-3 c = omega (arith, fits (c .before), few (turn (parent-read (c .before))))
 
 array-write-reach-3 : tie.Need-array-write-reach-3 Inv-loop μ-loop
 array-write-reach-3 c =
-    omega (arith, fits (c .before), few (c .before .before .before .before .before .before))
+    omega (arith, fits (c .before), few (turn (parent-read (c .before))))
 
 add-c : tie.Need-add-c Inv-loop μ-loop
 add-c c = search needs
@@ -121,20 +136,20 @@ loop-less c = search needs
 loop-again : tie.Need-loop-again Inv-loop μ-loop
 loop-again c =
     let d = c .before in
-    let l = d .before .before .before .before .before .before in
-    let s = l .before .before .before in
-    let w = d .before .before .before in (
+    let w = parent-read d in
+    let l = turn w .before in
+    let s = start l in (
       omega arith,
       omega arith,
       reached-next _ _ _ (s .pre .0) _ _ (s .pre .1) (l .loop .c) (w .as-index .result) (d .own-label .result)
-          (l .loop .inv .0) (w .before .before .loop-test .taken) (w .as-index .ensures .0)
+          (l .loop .inv .0) (turn w .loop-test .taken) (w .as-index .ensures .0)
           (d .own-label .ensures ∙ ap (λ (x : ℕ). bit (ltb x (s .args .n))) (d .before .as-index2 .ensures .0)) (l .loop .inv .2),
     )
 
 returns : tie.Need-returns Inv-loop μ-loop
 returns c =
     let l = c .before in
-    let s = l .before .before .before in
+    let s = start l in
     reached-all _ _ _ (s .pre .0) (l .loop .c) _ (c .loop-test .left) (l .loop .inv .1) (l .loop .inv .2)
 
 pub ends-spec : {M : Type 1} → statement M

@@ -17,6 +17,17 @@ Inv-loop labels n cells₀ v₀ cells v = (v ≤ length labels) × TipsMarked n 
 abbrev μ-loop : tie.MeasureT-loop
 μ-loop labels n cells₀ v₀ cells v = length labels - v
 
+-- ---- the points of the program
+
+abbrev start : tie.At-loop Inv-loop μ-loop → tie.Start Inv-loop μ-loop
+start c = c .before .before
+
+-- after a label is tested, the turn
+abbrev turn : tie.After-own-label Inv-loop μ-loop → tie.In-loop Inv-loop μ-loop
+turn c = c .before .before .before
+
+-- ---- the needs
+
 loop-holds : tie.Need-loop-holds Inv-loop μ-loop
 loop-holds c = (omega arith, marked-none _ _)
 
@@ -37,7 +48,7 @@ mul-cells c = search needs
 
 array-write-cells : tie.Need-array-write-cells Inv-loop μ-loop
 array-write-cells c =
-    let l = c .before .before .before .before .loop in
+    let l = turn c .before .loop in
     omega (arith, l .inv .1 .long)
 
 add-v : tie.Need-add-v Inv-loop μ-loop
@@ -48,8 +59,8 @@ loop-less c = search needs
 
 loop-again : tie.Need-loop-again Inv-loop μ-loop
 loop-again c =
-    let l = c .before .before .before .before .loop in
-    let s = c .before .before .before .before .before .before in (
+    let l = turn c .before .loop in
+    let s = start (turn c .before) in (
       omega arith,
       marked-next _ _ (l .v) _ (c .own-label .result) (omega arith)
           (c .own-label .ensures ∙ ap (λ (x : ℕ). bit (ltb x (s .args .n))) (c .before .as-index .ensures .0)) (l .inv .1),
@@ -58,7 +69,7 @@ loop-again c =
 returns : tie.Need-returns Inv-loop μ-loop
 returns c =
     let l = c .before .loop in
-    let e : l .v ≡ length (c .before .before .before .args .labels .now) = omega arith in
+    let e : l .v ≡ length (start (c .before) .args .labels .now) = omega arith in
     rw e at (l .inv .1)
 
 pub mark-tips-spec : {M : Type 1} → statement M

@@ -18,20 +18,37 @@ use borrow.Author.Needs.{needs}
 use Rattle.walks.proofs.walks.walk.Statement.{statement}
 use Rattle.walks.proofs.walks.walk.Tie as tie
 
+-- ---- the points of the program
+
+-- the table is told a tree, ..
+abbrev start : tie.After-known-told → tie.Start
+start c = c .before .before .before .before .before .before
+
+-- .. then the cells are tested, ..
+abbrev told : tie.After-room-refusal → tie.After-known-told
+told c = c .before .before
+
+-- .. then the walk is written
+abbrev room-tested : tie.After-as-index2 → tie.After-room-refusal
+room-tested c = c .before .before
+
+abbrev ready : tie.After-write-walk → tie.After-as-index2
+ready c = c .before .before .before .before
+
+-- ---- what is known there
+
 -- the table is a tree table, n and m are its own, and the number tells whether the cells are enough
 record Known (c : tie.After-room-refusal) : Type 0 where
-  tree : IsTree (c .before .before .before .before .before .before .before .before .args .table .now)
-  n-is : c .before .as-index .result ≡ tips (c .before .before .before .before .before .before .before .before .args .table .now)
-  m-is : c .before .before .before .answer .given .0 .1 .0
-      ≡ nodes (c .before .before .before .before .before .before .before .before .args .table .now)
+  tree : IsTree (start (told c) .args .table .now)
+  n-is : c .before .as-index .result ≡ tips (start (told c) .args .table .now)
+  m-is : told c .before .answer .given .0 .1 .0 ≡ nodes (start (told c) .args .table .now)
   number-is : c .room-refusal .result
-      ≡ refusal (roomOrder (length (c .before .before .before .before .before .before .before .before .args .cells .now))
-      (tips (c .before .before .before .before .before .before .before .before .args .table .now)))
+      ≡ refusal (roomOrder (length (start (told c) .args .cells .now)) (tips (start (told c) .args .table .now)))
 
 known : (c : tie.After-room-refusal) → Known c
 known c =
-    let k = c .before .before in
-    let s = k .before .before .before .before .before .before in
+    let k = told c in
+    let s = start k in
     let a = checked-accepted _ _ _ (sym (k .before .before .before .check .ensures .0) ∙ k .before .answer .given .1) in
     let n = c .before .as-index .ensures .0 ∙ a .1 in
     record {
@@ -43,7 +60,7 @@ known c =
 
 -- where it is 0, they are
 room : (c : tie.After-room-refusal) → c .room-refusal .result ≡ 0
-    → let s = c .before .before .before .before .before .before .before .before in
+    → let s = start (told c) in
     tips (s .args .table .now) ≤ length (s .args .cells .now)
 room c z = room-check _ _ .0 (sym (known c .number-is) ∙ z)
 
@@ -84,7 +101,7 @@ part-write-walk-start : tie.Need-part-write-walk-start
 part-write-walk-start c = search needs
 
 part-write-walk-end : tie.Need-part-write-walk-end
-part-write-walk-end c = let k = known (c .before .before) in omega (arith, c .as-index2 .ensures .0, k .m-is, k .tree .words)
+part-write-walk-end c = let k = known (room-tested c) in omega (arith, c .as-index2 .ensures .0, k .m-is, k .tree .words)
 
 add-write-walk-2 : tie.Need-add-write-walk-2
 add-write-walk-2 c = search needs
@@ -94,11 +111,11 @@ mul-write-walk c = search needs
 
 sub-write-walk-2 : tie.Need-sub-write-walk-2
 sub-write-walk-2 c =
-    let k = known (c .before .before .before) in omega (arith, c .before .as-index2 .ensures .0, k .m-is, k .tree .words)
+    let k = known (room-tested (c .before)) in omega (arith, c .before .as-index2 .ensures .0, k .m-is, k .tree .words)
 
 part-write-walk-start-2 : tie.Need-part-write-walk-start-2
 part-write-walk-start-2 c =
-    let k = known (c .before .before .before) in omega (arith, c .before .as-index2 .ensures .0, k .m-is, k .tree .words)
+    let k = known (room-tested (c .before)) in omega (arith, c .before .as-index2 .ensures .0, k .m-is, k .tree .words)
 
 part-write-walk-end-2 : tie.Need-part-write-walk-end-2
 part-write-walk-end-2 c = search needs
@@ -106,7 +123,7 @@ part-write-walk-end-2 c = search needs
 write-walk-requires : tie.Need-write-walk-requires
 write-walk-requires c κs =
     let m = c .before .before .before in
-    let r = m .before .before in
+    let r = room-tested m in
     let k = known r in (
       to-parts TreeArrays _ _ _ (k .tree .words) (k .n-is) (m .as-index2 .ensures .0 ∙ k .m-is) (tree-arrays _ (k .tree)),
       omega (arith, k .n-is, room r (m .before .if1 .taken)),
@@ -117,10 +134,10 @@ same-length c = search needs
 
 returns-2 : tie.Need-returns-2
 returns-2 c =
-    let m = c .before .before .before .before .before .before in
-    let r = m .before .before in
+    let m = ready (c .before .before) in
+    let r = room-tested m in
     let k = known r in
-    let cells = r .before .before .before .before .before .before .before .before .args .cells .now in
+    let cells = start (told r) .args .cells .now in
     let w = walk-accepted _ cells (k .tree) (room r (m .before .if1 .taken)) in (
       m .before .if1 .taken ∙ w .0,
       of-parts (λ n ps ls. c .before .before .write-walk .last .1 .1 .1 .0 ≡ walked (tableOf n ps ls) cells)

@@ -21,20 +21,37 @@ Inv-loop parents labels n cells₀ size end v₀ cells v =
 abbrev μ-loop : tie.MeasureT-loop
 μ-loop parents labels n cells₀ size end v₀ cells v = length labels - v
 
+-- ---- the points of the program
+
+abbrev start : tie.At-loop Inv-loop μ-loop → tie.Start Inv-loop μ-loop
+start c = c .before .before .before .before .before .before .before
+
+-- the two arrays that the turns read
+abbrev sized : tie.At-loop Inv-loop μ-loop → tie.After-sizes Inv-loop μ-loop
+sized c = c .before .before .before
+
+abbrev placed : tie.At-loop Inv-loop μ-loop → tie.After-ends Inv-loop μ-loop
+placed c = c .before
+
+-- after a label is read, the turn
+abbrev turn : tie.After-as-index Inv-loop μ-loop → tie.In-loop Inv-loop μ-loop
+turn c = c .before .before
+
+-- ---- what is known there
+
 few : (c : tie.In-loop Inv-loop μ-loop) → c .before .loop .v < 510
 few c =
-    let s = c .before .before .before .before .before .before .before .before in
+    let s = start (c .before) in
     omega (arith, c .loop-test .taken, few-nodes _ _ _ (s .pre .0), s .pre .0 .same)
 
 -- a tip's place
-inside : (c : tie.Then1 Inv-loop μ-loop) → let l = c .before .before .before .before in
-    word (l .before .ends .result) (l .loop .v) - word (l .before .before .before .sizes .result) (l .loop .v)
-    < l .before .before .before .before .before .before .before .args .n
+inside : (c : tie.Then1 Inv-loop μ-loop) → let l = turn (c .before) .before in
+    word (placed l .ends .result) (l .loop .v) - word (sized l .sizes .result) (l .loop .v) < start l .args .n
 inside c =
-    let l = c .before .before .before .before in
-    let s = l .before .before .before .before .before .before .before in
-    write-inside _ _ _ (s .pre .0) _ _ (l .before .before .before .sizes .ensures) (l .before .ends .ensures) _ _
-    (s .pre .1) (l .loop .v) (c .before .before .before .loop-test .taken) (l .loop .inv .2)
+    let l = turn (c .before) .before in
+    let s = start l in
+    write-inside _ _ _ (s .pre .0) _ _ (sized l .sizes .ensures) (placed l .ends .ensures) _ _
+    (s .pre .1) (l .loop .v) (turn (c .before) .loop-test .taken) (l .loop .inv .2)
     (omega (arith, c .if1 .taken, c .before .as-index .ensures .0))
 
 sizes-requires : tie.Need-sizes-requires Inv-loop μ-loop
@@ -56,33 +73,33 @@ as-index-requires : tie.Need-as-index-requires Inv-loop μ-loop
 as-index-requires c κs = search needs
 
 mul-cells : tie.Need-mul-cells Inv-loop μ-loop
-mul-cells c = omega (arith, few (c .before .before .before))
+mul-cells c = omega (arith, few (turn (c .before)))
 
 array-read-cells : tie.Need-array-read-cells Inv-loop μ-loop
-array-read-cells c = omega (arith, few (c .before .before .before))
+array-read-cells c = omega (arith, few (turn (c .before)))
 
 mul-cells-2 : tie.Need-mul-cells-2 Inv-loop μ-loop
-mul-cells-2 c = omega (arith, few (c .before .before .before))
+mul-cells-2 c = omega (arith, few (turn (c .before)))
 
 array-read-cells-2 : tie.Need-array-read-cells-2 Inv-loop μ-loop
-array-read-cells-2 c = omega (arith, few (c .before .before .before))
+array-read-cells-2 c = omega (arith, few (turn (c .before)))
 
 sub-cells : tie.Need-sub-cells Inv-loop μ-loop
 sub-cells c =
-    let l = c .before .before .before .before in
-    let s = l .before .before .before .before .before .before .before in
-    size-le-end _ _ _ (s .pre .0) _ _ (l .before .before .before .sizes .ensures) (l .before .ends .ensures) _ _
-    (s .pre .1) (l .loop .v) (c .before .before .before .loop-test .taken) (l .loop .inv .2)
+    let l = turn (c .before) .before in
+    let s = start l in
+    size-le-end _ _ _ (s .pre .0) _ _ (sized l .sizes .ensures) (placed l .ends .ensures) _ _
+    (s .pre .1) (l .loop .v) (turn (c .before) .loop-test .taken) (l .loop .inv .2)
 
 mul-cells-3 : tie.Need-mul-cells-3 Inv-loop μ-loop
 mul-cells-3 c =
-    let s = c .before .before .before .before .before .before .before .before .before .before .before in
+    let s = start (turn (c .before) .before) in
     omega (arith, inside c, few-tips _ _ _ (s .pre .0))
 
 slice-write-cells : tie.Need-slice-write-cells Inv-loop μ-loop
 slice-write-cells c =
-    let l = c .before .before .before .before in
-    let s = l .before .before .before .before .before .before .before in
+    let l = turn (c .before) .before in
+    let s = start l in
     omega (arith, inside c, s .pre .1, l .loop .inv .1)
 
 add-v : tie.Need-add-v Inv-loop μ-loop
@@ -93,12 +110,12 @@ loop-less c = search needs
 
 loop-again : tie.Need-loop-again Inv-loop μ-loop
 loop-again c =
-    let l = c .before .before .before .before in
-    let s = l .before .before .before .before .before .before .before in
-    let z = l .before .before .before .sizes .ensures in
-    let e = l .before .ends .ensures in
+    let l = turn (c .before) .before in
+    let s = start l in
+    let z = sized l .sizes .ensures in
+    let e = placed l .ends .ensures in
     let w = c .before .as-index in
-    let t = c .before .before .before .loop-test .taken in
+    let t = turn (c .before) .loop-test .taken in
     ⊎-elim
     (λ h. rw (h .1) (
       omega arith,
@@ -120,7 +137,7 @@ same-length c = c .before .loop .inv .1
 returns : tie.Need-returns Inv-loop μ-loop
 returns c =
     let l = c .before in
-    let s = l .before .before .before .before .before .before .before in
+    let s = start l in
     write-all _ _ _ (s .pre .0) _ _ (l .loop .v) (c .loop-test .left) (s .pre .1) (l .loop .inv .2)
 
 pub write-walk-spec : {M : Type 1} → statement M
