@@ -67,7 +67,12 @@ pub(crate) fn sizes(parents: &[u16], labels: &[u16], n: usize) -> [usize; NODES]
 }
 
 // Where each node's labels end in the walk: a node begins where its parent has got to, and its parent goes on after it.
-pub(crate) fn ends(parents: &[u16], labels: &[u16], n: usize, size: &[usize; NODES]) -> [usize; NODES]
+pub(crate) fn ends(
+    parents: &[u16],
+    labels: &[u16],
+    n: usize,
+    size: &[usize; NODES],
+) -> [usize; NODES]
     requires { ⌜ TreeArrays n (now parents) (now labels) × Sizes (tableOf n (now parents) (now labels)) (now size) ⌝ }
     ensures { λ r. ⌜ Ends (tableOf n (now (parents .entry)) (now (labels .entry))) r ⌝ }
 {
