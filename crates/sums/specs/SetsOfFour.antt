@@ -1,4 +1,4 @@
--- Sums over all tuples of numbers below n, and over the sets of two, three and four of them.
+-- Sums over the sets of two, three and four numbers below n.
 -- Assumes nothing.
 use Prim.Native.Nat.{ℕ}
 use Rattle.sums.specs.Sum.{sum}

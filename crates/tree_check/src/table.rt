@@ -1,4 +1,4 @@
-// The tree check: whether a table keeps the rules of 'A tree table', or the number of the first one broken.
+// The tree check: whether a table keeps the rules of a tree table, or the number of the first one broken.
 use super::tallies::tally;
 use table_words::INNER;
 use table_words::TIPS;
