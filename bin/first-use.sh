@@ -66,23 +66,28 @@ take_over() {
     [ "$(holders)" = "$$" ]
 }
 
-# Waits until no other first use is at work. rt inherits the lock: where its caller was killed, the next waits for its end.
-take_lock() {
-    local waiting="another first use is at work, and this one waits for it"
-    { mkdir -p "$root/target" && exec 9>"$lock"; } 2>/dev/null || trouble "cannot write in $root/target"
-    lock_folder=
-    if command -v flock >/dev/null; then
-        flock -n 9 2>/dev/null && return
-        say "$waiting"
-        flock 9 2>/dev/null && return
-    fi
+# Waits for the folder, where there is no flock.
+take_folder() {
+    local told=no
     until mkdir "$lock.d" 2>/dev/null || take_over; do
-        [ -z "$waiting" ] || say "$waiting; if there is none, remove $lock.d"
-        waiting=
+        [ "$told" = yes ] || say "another first use is at work, and this one waits for it; if there is none, remove $lock.d"
+        told=yes
         sleep 0.2
     done
     lock_folder=$lock.d
     hold "$$"
+}
+
+# Waits until no other first use is at work. rt inherits the lock: where its caller was killed, the next waits for its end.
+take_lock() {
+    { mkdir -p "$root/target" && exec 9>"$lock"; } 2>/dev/null || trouble "cannot write in $root/target"
+    lock_folder=
+    if command -v flock >/dev/null; then
+        flock -n 9 2>/dev/null && return
+        say "another first use is at work, and this one waits for it"
+        flock 9 2>/dev/null && return
+    fi
+    take_folder
 }
 
 # Lets the next first use in.
@@ -154,7 +159,7 @@ time_left() {
 # Takes in what rt says: a line of a crate that is proved takes it off the list.
 hear() { # LINE
     local crate kept=()
-    printf '%s\n' "$1" >>"$log"
+    printf '%s\n' "$1" 2>/dev/null >>"$log"
     [[ $1 =~ ^rt:\ ([A-Za-z0-9_]+)\ proved\ \((unchanged)? ]] && [ -n "${seconds[${BASH_REMATCH[1]}]-}" ] || return
     for crate in "${left[@]}"; do
         [ "$crate" = "${BASH_REMATCH[1]}" ] || kept+=("$crate")

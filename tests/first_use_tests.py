@@ -29,6 +29,14 @@ import ctypes, os, sys
 print(ctypes.CDLL(os.environ["LESKWYN_LIBRARY"]).leskwyn_version(), sys.argv[1:], sys.path[:2])
 """
 USAGE = "import sys\nprint('usage', *sys.argv[1:])\n"
+OLDER_PYTHON = """\
+#!/bin/sh
+shift
+code="import sys; sys.version_info = (3, 9, 2); sys.version = '3.9.2 (older)'
+$1"
+shift
+exec {python} -c "$code" "$@"
+"""
 CHECK_TIMES = "## Other\n\n| `sums` | 1 | 900 |\n\n## Check times\n\n| crate | functions | s |\n|---|---:|---:|\n"
 
 
@@ -389,8 +397,6 @@ class LeskwynDoor(Door):
 
     def printed(self) -> bytes:
         path = [str(self.package.parent), "/elsewhere"]
-        if sys.version_info < (3, 11):
-            path = [str(self.folder), path[0]]
         return f"{header_version()} {self.words} {path}\n".encode()
 
 
@@ -421,6 +427,12 @@ class CompareProgress(CompareDoor, Progress):
             self.assertRegex(line, r"^compare: proving (?:sums, crate 1|shapes, crate 2) of 3; (?:about \d+ s|some seconds) left$")
 
 
+    def test_lines_in_pieces_and_without_an_end(self) -> None:
+        self.command("rt", "#!/bin/sh\nprintf 'rt: sums pro'\nsleep 1.2\necho 've\\d (1 s)'\nprintf 'the end '\nexit 3\n")
+        self.assert_trouble(self.run_door(), "\nthe end \ncompare: rt check compare failed")
+        self.assertEqual((self.target / "compare.log").read_text(), "rt: sums prove\\d (1 s)\nthe end \n")
+
+
 class LeskwynBuilding(LeskwynDoor, Building):
     def test_help_and_version_build_nothing(self) -> None:
         (self.package / "__main__.py").write_text(USAGE)
@@ -433,7 +445,6 @@ class LeskwynBuilding(LeskwynDoor, Building):
         (self.package / "__main__.py").write_text("import sys\nprint(sys.stdin.read())\nsys.exit(1)\n")
         self.assert_done(self.run_door("compare", "-", input=b"a tree"), 1, b"a tree\n")
 
-    @unittest.skipIf(sys.version_info < (3, 11), "Python 3.11 leaves the current folder out")
     def test_no_module_of_the_current_folder_is_taken(self) -> None:
         for name in ("leskwyn", "ctypes", "os"):
             self.file(f"{name}.py", b"raise SystemExit(9)")
@@ -456,9 +467,14 @@ class LeskwynBuilding(LeskwynDoor, Building):
         self.assertEqual(self.built(), 0)
 
     def test_an_older_python(self) -> None:
-        self.command("python3", "#!/bin/sh\n[ \"$1\" != --version ] || echo Python 3.9.2\nexit 1\n")
-        self.assert_trouble(self.run_door(*self.words), "Python 3.10 or newer is needed, and python3 is Python 3.9.2")
-        self.assertEqual(self.built(), 0)
+        self.assert_used(1)
+        self.command("python3", OLDER_PYTHON.format(python=sys.executable))
+        for _ in range(2):
+            done = self.run_door(*self.words)
+            self.assert_trouble(done)
+            self.assertEqual(done.stderr, b"leskwyn: Python 3.10 or newer is needed, and python3 is 3.9.2\n")
+            (self.target / "leskwyn.mark").unlink(missing_ok=True)
+        self.assertEqual(self.built(), 1)
 
     def test_no_c_compiler(self) -> None:
         self.where["CC"] = "no-such-compiler"

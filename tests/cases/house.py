@@ -8,6 +8,7 @@ import os
 import pathlib
 import shutil
 import subprocess
+import sys
 import tempfile
 import unittest
 from typing import Any
@@ -64,7 +65,7 @@ class House(unittest.TestCase):
                       "CRATES": " ".join(CRATES), "PAUSE": "0"}
         self.path.mkdir()
         for command in COMMANDS:
-            if found := shutil.which(command):
+            if found := sys.executable if command == "python3" else shutil.which(command):
                 (self.path / command).symlink_to(found)
         self.command("rt", STAND_IN_RT)
 
