@@ -5,7 +5,7 @@ version=0.2.0
 root=$(dirname "$(dirname "$(readlink -f "${BASH_SOURCE[0]}")")")
 mark=$root/target/$me.mark # as old as the start of the last proof that succeeded
 log=$root/target/$me.log
-lock=$root/target/first-use.lock # one for both, since rt's own files in target/ are
+lock=$root/target/first-use.lock # one for both, since they share what rt keeps in target/
 trap '' PIPE # a reader that has gone away is a failed write like any other
 
 # Says a line on standard error.
@@ -127,25 +127,25 @@ plan() { # CRATE
         }' from=page "$page" from=crates "$root/crates.txt"
 }
 
-# Begins to tell how far rt is: `left` has the crates to come, `seconds` what each takes.
+# Begins to tell how far rt is. `crates` has all, in their order, and `seconds` what each takes that is still to be proved.
 begin_progress() { # CRATE
     local crate took
     every=30 # seconds between two lines where there is no terminal
-    left=() line='' next=$((SECONDS + every)) began=$SECONDS
-    seconds_left=0 seconds_done=0 last=0 # `last` crate was proved that long after the beginning
+    began=$SECONDS next=$((SECONDS + every)) line=''
+    seconds_left=0 seconds_done=0 spent=0 # all told, of crates to come, of crates proved by now, and what these did take
+    crates=()
     declare -gA seconds=()
     while read -r crate took; do
-        left+=("$crate") seconds[$crate]=$took seconds_left=$((seconds_left + took))
+        crates+=("$crate") seconds[$crate]=$took seconds_left=$((seconds_left + took))
     done < <(plan "$1")
-    total=${#left[@]}
     rewritten=no
     [ ! -t 2 ] || [ "${TERM:-dumb}" = dumb ] || rewritten=yes
 }
 
 # Tells how long it takes from here, by the pace so far.
 time_left() {
-    local all=$((seconds_left * (last + 10) / (seconds_done + 10)))
-    local now=$((all - (SECONDS - began - last)))
+    local all=$((seconds_left * (spent + 10) / (seconds_done + 10)))
+    local now=$((all - (SECONDS - began - spent)))
     [ "$now" -ge $((all / 10)) ] || now=$((all / 10))
     if [ "$now" -ge 90 ]; then
         printf 'about %d min' $(((now + 30) / 60))
@@ -156,25 +156,26 @@ time_left() {
     fi
 }
 
-# Takes in what rt says: a line of a crate that is proved takes it off the list.
+# Takes in what rt says: of a crate that is proved, and of its time unless it was proved before.
 hear() { # LINE
-    local crate kept=()
+    local crate took
     printf '%s\n' "$1" 2>/dev/null >>"$log"
-    [[ $1 =~ ^rt:\ ([A-Za-z0-9_]+)\ proved\ \((unchanged)? ]] && [ -n "${seconds[${BASH_REMATCH[1]}]-}" ] || return
-    for crate in "${left[@]}"; do
-        [ "$crate" = "${BASH_REMATCH[1]}" ] || kept+=("$crate")
-    done
-    left=("${kept[@]}") crate=${BASH_REMATCH[1]}
-    seconds_left=$((seconds_left - seconds[$crate]))
-    [ -n "${BASH_REMATCH[2]}" ] || seconds_done=$((seconds_done + seconds[$crate])) last=$((SECONDS - began))
+    [[ $1 =~ ^rt:\ ([A-Za-z0-9_]+)\ proved\ \((unchanged)? ]] || return
+    crate=${BASH_REMATCH[1]} took=${seconds[${BASH_REMATCH[1]}]-0}
     unset "seconds[$crate]"
+    seconds_left=$((seconds_left - took))
+    [ -n "${BASH_REMATCH[2]-}" ] || seconds_done=$((seconds_done + took)) spent=$((SECONDS - began))
 }
 
 # Tells how far rt is: on a terminal in one line that is rewritten, else in a line now and then.
 show_progress() {
-    local now="$me: all $total crates are proved; building"
-    [ ${#left[@]} -eq 0 ] ||
-        now="$me: proving ${left[0]}, crate $((total - ${#left[@]} + 1)) of $total; $(time_left) left"
+    local all=${#crates[@]} left=${#seconds[@]} crate now
+    now="$me: all $all crates are proved; building"
+    for crate in "${crates[@]}"; do
+        [ -n "${seconds[$crate]-}" ] || continue
+        now="$me: proving $crate, crate $((all - left + 1)) of $all; $(time_left) left"
+        break
+    done
     if [ "$rewritten" = yes ]; then
         [ "$now" = "$line" ] || printf '\r%s\e[K' "$now" >&2
         line=$now

@@ -234,6 +234,10 @@ class Building(Door):
         self.assert_done(self.run_door(*self.words, preexec_fn=lambda: os.close(2)), 0, self.printed())
         self.assertEqual(self.built(), 1)
 
+    def test_closed_standard_input(self) -> None:
+        self.assert_done(self.run_door(*self.words, preexec_fn=lambda: os.close(0)), 0, self.printed())
+        self.assertEqual(self.built(), 1)
+
     def test_help_and_version_build_nothing(self) -> None:
         (self.path / "rt").unlink()
         for option in ("-h", "--help"):
@@ -449,6 +453,8 @@ class LeskwynBuilding(LeskwynDoor, Building):
         for name in ("leskwyn", "ctypes", "os"):
             self.file(f"{name}.py", b"raise SystemExit(9)")
         self.assert_used(1)
+        self.where["PYTHONSAFEPATH"] = "1"
+        self.assert_used(1)
 
     def test_the_package_beside_bin(self) -> None:
         self.package.parent.rename(self.house / "python")
@@ -543,12 +549,16 @@ class Text(CompareDoor):
         for content in (b"((a,b),c,d); ", b"((a,b),c,d);"):
             done = self.run_door("-", input=content)
             self.assert_done(done, 1, b"refused %d\n" % (15 if len(content) % 2 else 2))
-            self.assertIn("if this is Newick text, bin/leskwyn compare - takes it", done.stderr.decode())
+            self.assertEqual(done.stderr.decode().splitlines()[-1],
+                             "compare: if standard input is Newick text, this takes it: bin/leskwyn compare -")
 
     def test_a_long_file(self) -> None:
+        self.assert_used(1)
         done = self.run_door(self.file("pair", bytes(2000)))
         self.assert_done(done, 1, b"refused 14\n")
-        self.assertIn("bin/leskwyn compare --listing pair", done.stderr.decode())
+        self.assertEqual(done.stderr.decode(),
+                         "compare: pair has more than 1016 bytes; this takes it: bin/leskwyn compare --listing pair\n")
+        self.assertEqual(self.run_door("-", input=bytes(2000)).stderr.count(b"this takes it"), 2)
 
     def test_comparison_files_that_begin_with_such_a_byte(self) -> None:
         """40 tips make the first byte '(', 91 '[', 35 '#', 32 a blank: accepted, and refused by their number."""

@@ -1,5 +1,5 @@
-//! Comparison files that are too long for the proved program, which takes 1016 bytes. That the listing of shorter ones is
-//! the proved program's is for `bench/tests/comparison_files.rs`.
+//! Comparison files of more than the 1016 bytes that the proved program takes. That the listing of shorter ones is the
+//! proved program's is for `bench/tests/comparison_files.rs`.
 
 use leskwyn::file::{bytes, compare, listing};
 
