@@ -14,7 +14,7 @@ import subprocess
 import sys
 import time
 import unittest
-from collections.abc import Callable, Iterator
+from collections.abc import Callable
 from typing import Any
 
 sys.dont_write_bytecode = True
@@ -63,17 +63,15 @@ def until(holds: Callable[[], bool]) -> None:
 
 def screen(said: str) -> list[str]:
     """The lines on a terminal that got these characters."""
-    lines = [""]
-    for sign in re.findall(r"\r\n|\r|\x1b\[K|.", said, re.S):
-        if sign == "\r\n":
+    lines, column = [""], 0
+    for sign in re.findall(r"\r|\n|\x1b\[K|.", said):
+        if sign == "\r":
+            column = 0
+        elif sign == "\n":
             lines.append("")
-            column = 0
-        elif sign == "\r":
-            column = 0
         elif sign == "\x1b[K":
             lines[-1] = lines[-1][:column]
         else:
-            column = 0 if lines == [""] else column
             lines[-1] = lines[-1][:column] + sign + lines[-1][column + 1:]
             column += 1
     return lines
@@ -118,26 +116,18 @@ class Door(House):
         rows = [f"| `{crate}` | 1 | {took} |\n" for crate, took in seconds.items()]
         (self.house / "docs" / "PROMISES.md").write_text(CHECK_TIMES + "".join(rows), encoding="utf-8")
 
-    @contextlib.contextmanager
-    def killed_in_the_middle(self) -> Iterator[None]:
-        """A use that is killed while rt proves the second crate."""
+    def kill_in_the_middle(self) -> None:
+        """A use that is killed while rt proves the second crate. Its rt may have the streams for a while still."""
         self.where["PAUSE"] = "0.2"
         log = self.target / f"{self.door}.log"
         log.unlink(missing_ok=True)
         use = self.start()
         until(lambda: log.is_file() and b"sums proved" in log.read_bytes())
-        os.kill(use.pid, signal.SIGKILL)
-        self.assertEqual(self.ended_quietly(use), -signal.SIGKILL)
+        use.kill()
+        self.assertEqual(use.wait(timeout=SECONDS), -signal.SIGKILL)
+        use.stdout.close()
+        use.stderr.close()
         self.where["PAUSE"] = "0"
-        yield
-
-    def ended_quietly(self, use: subprocess.Popen[bytes]) -> int:
-        """The status of a use whose rt may have its streams still."""
-        status = use.wait(timeout=SECONDS)
-        for stream in (use.stdout, use.stderr):
-            if stream is not None:
-                stream.close()
-        return status
 
 
 class Building(Door):
@@ -263,20 +253,20 @@ class AtOnce(Door):
             (self.target / f"{self.door}.mark").unlink()
 
     def test_a_killed_first_use_is_begun_anew(self) -> None:
-        with self.killed_in_the_middle():
-            self.assertEqual(self.marks(), [])
-            self.assert_used(2)
+        self.kill_in_the_middle()
+        self.assertEqual(self.marks(), [])
+        self.assert_used(2)
         self.assert_used(2)
 
     def test_a_killed_rebuild_leaves_no_mark(self) -> None:
         self.assert_used(1)
         later = time.time() + 3600
         os.utime(self.source, (later, later))
-        with self.killed_in_the_middle():
-            os.utime(self.source, (0, 0))
-            self.assertTrue((self.house / self.built_file).exists())
-            self.assertEqual(self.marks(), [])
-            self.assert_used(3)
+        self.kill_in_the_middle()
+        os.utime(self.source, (0, 0))
+        self.assertTrue((self.house / self.built_file).exists())
+        self.assertEqual(self.marks(), [])
+        self.assert_used(3)
 
 
 class WithoutFlock(AtOnce):
@@ -364,18 +354,21 @@ class Progress(Door):
         self.assertEqual(said.count("proving"), 1)
 
     def test_the_crates_of_the_repository(self) -> None:
-        """How many a door needs, by its line in crates.txt."""
-        lines = dict(re.findall(r"^(\w+):(.*)$", (ROOT / "crates.txt").read_text(encoding="utf-8"), re.M))
-        needed = [name for name in lines[self.crate].split() if name in lines] + [self.crate]
-        (self.house / "crates.txt").write_text((ROOT / "crates.txt").read_text())
+        """Those of the door's line in crates.txt and the crate itself, level by level."""
+        needs = {name: words.split() for name, words in
+                 re.findall(r"^(\w+):(.*)$", (ROOT / "crates.txt").read_text(encoding="utf-8"), re.M)}
+
+        def level(crate: str) -> int:
+            return 1 + max((level(below) for below in needs[crate] if below in needs), default=-1)
+
+        needed = sorted([name for name in needs[self.crate] if name in needs] + [self.crate], key=level)
+        (self.house / "crates.txt").write_text((ROOT / "crates.txt").read_text(encoding="utf-8"), encoding="utf-8")
         self.where["CRATES"] = " ".join(needed)
         said = self.on_terminal()
-        told = re.findall(r"proving (\w+), crate (\d+) of (\d+);", said)
-        self.assertEqual({count for _, _, count in told}, {str(len(needed))})
-        self.assertEqual({name for name, _, _ in told} - set(needed), set())
-        for at, (name, _, _) in enumerate(told):
-            earlier = {one for one, _, _ in told[:at]}
-            self.assertEqual((set(lines[name].split()) & set(lines)) - earlier - set(needed), set())
+        told = {int(number): crate for crate, number in re.findall(rf"proving (\w+), crate (\d+) of {len(needed)};", said)}
+        self.assertEqual(list(told), list(range(1, len(needed) + 1)), said)
+        self.assertEqual([level(crate) for crate in told.values()], [level(crate) for crate in needed], said)
+        self.assertIn(f"all {len(needed)} crates are proved; building", said)
 
     def test_a_page_that_cannot_be_read(self) -> None:
         """Ten seconds for each of the three crates."""
