@@ -435,8 +435,8 @@ class LeskwynBuilding(LeskwynDoor, Building):
         (self.package / "__main__.py").write_text(USAGE)
         super().test_help_and_version_build_nothing()
         self.assert_done(self.run_door("compare", "--help"), 0, b"usage compare --help\n")
-        self.assert_done(self.run_door(), 0, b"usage\n")
-        self.assert_trouble(self.run_door("compare", "--", "-h"), "no rt on the path")
+        for words in ([], ["compare", "--", "-h"]):
+            self.assert_trouble(self.run_door(*words), "no rt on the path")
 
     def test_the_status_and_standard_input_are_those_of_the_package(self) -> None:
         (self.package / "__main__.py").write_text("import sys\nprint(sys.stdin.read())\nsys.exit(1)\n")
