@@ -535,15 +535,15 @@ class Text(CompareDoor):
         self.assert_told(trees * 100, "Newick")
         for start in (b"#NEXUS\nbegin trees;\n", b"#nexus ", b"\xef\xbb\xbf\n#Nexus\r\n"):
             self.assert_told(start, "NEXUS")
-        self.assertIn("this takes it: bin/leskwyn compare trees\n",
-                      self.run_door(self.file("trees", trees)).stderr.decode())
+        self.assertEqual(self.run_door(self.file("trees", trees)).stderr.decode(),
+                         "compare: trees is Newick text, no comparison file; this takes text: bin/leskwyn compare trees\n")
 
     def test_a_pipe_is_told_of_as_a_guess(self) -> None:
         for content in (b"((a,b),c,d); ", b"((a,b),c,d);"):
             done = self.run_door("-", input=content)
             self.assert_done(done, 1, b"refused %d\n" % (15 if len(content) % 2 else 2))
             self.assertEqual(done.stderr.decode().splitlines()[-1],
-                             "compare: if standard input is Newick text, this takes it: bin/leskwyn compare -")
+                             "compare: if standard input is Newick text, this takes text: bin/leskwyn compare -")
 
     def test_a_long_file(self) -> None:
         self.assert_used(1)
@@ -551,7 +551,7 @@ class Text(CompareDoor):
         self.assert_done(done, 1, b"refused 14\n")
         self.assertEqual(done.stderr.decode(),
                          "compare: pair has more than 1016 bytes; this takes it: bin/leskwyn compare --listing pair\n")
-        self.assertEqual(self.run_door("-", input=bytes(2000)).stderr.count(b"this takes it"), 2)
+        self.assertEqual(self.run_door("-", input=bytes(2000)).stderr.count(b"bin/leskwyn compare "), 2)
 
     def test_comparison_files_that_begin_with_such_a_byte(self) -> None:
         """40 tips make the first byte '(', 91 '[', 35 '#', 32 a blank: accepted, and refused by their number."""
