@@ -7,13 +7,12 @@
 Nothing is built here: `rt check compare` does that. Nothing here knows how the program works: every file is cut and
 checked rule by rule, every set of four is looked up edge by edge, claims are listed one by one, and splits are sets of
 labels. The refusal of one table, and above 16 tips the count of the sets of four by pairs, are those of cases/. bin/compare
-is tried in a copy of its folder, with an rt that proves nothing and puts the program in its place.
+is tried in cases/house, with an rt that proves nothing; its first use is for tests/first_use_tests.py.
 """
 import itertools
 import os
 import pathlib
 import random
-import shutil
 import signal
 import subprocess
 import sys
@@ -26,16 +25,13 @@ from math import comb
 from typing import Any
 
 sys.dont_write_bytecode = True
+from cases.house import PROGRAM, ROOT, SECONDS, Done, House
 from cases.quartets import cases_by_pairs
 from cases.shapes import balanced, caterpillar, related_pair, star, unrelated_pair, with_labels_exchanged
 from cases.tables import OUTSIDE, P, Q, R, THREE, TWO, W, X, damaged, table, tree_refusal
 
-ROOT = pathlib.Path(__file__).resolve().parent.parent
-PROGRAM = pathlib.Path(os.environ.get("LESKWYN_COMPARE") or ROOT / "target" / "bin" / "compare").absolute()
 MOST_BYTES = 1016
 ENUMERATED = 16  # the most tips for which every set of four and every claim is looked at
-SECONDS = 20  # the longest that one run may take
-Done = subprocess.CompletedProcess[bytes]
 
 # docs/SPECIFICATION.md, 'Reference pairs': S S' S2 S3, A B C D E, distance, splits.
 REFERENCE_PAIRS = {
@@ -558,215 +554,100 @@ class Failures(ProgramTest):
 
 # ---- bin/compare
 
-STAND_IN_RT = """#!/bin/sh
-echo "$PWD: $*" >>"$CALLS"
-echo what rt says
-[ ! -e "$CALLS.fail" ] || { echo compare NOT PROVED; exit 1; }
-[ ! -e "$CALLS.nothing" ] || exit 0
-mkdir -p target/bin && ln -sf "$BUILT" target/bin/compare
-"""
-COMMANDS = ["bash", "cat", "dirname", "env", "find", "flock", "ln", "mkdir", "mv", "readlink", "sh", "tail"]
-
-
-class Wrapper(unittest.TestCase):
-    def setUp(self) -> None:
-        folder = tempfile.TemporaryDirectory()
-        self.addCleanup(folder.cleanup)
-        self.folder = pathlib.Path(folder.name).resolve()
-        self.house, self.calls, self.path = self.folder / "the house", self.folder / "calls", self.folder / "path"
-        for part in ("bin", "examples"):
-            shutil.copytree(ROOT / part, self.house / part)
-        (self.house / "crates" / "compare" / "src").mkdir(parents=True)
-        self.source = self.house / "crates" / "compare" / "src" / "main.rt"
-        for file in (self.source, self.house / "crates.txt"):
-            file.write_text("")
-        self.where = {"PATH": str(self.path), "CALLS": str(self.calls), "BUILT": str(PROGRAM)}
-        self.path.mkdir()
-        for command in COMMANDS:
-            if shutil.which(command):
-                (self.path / command).symlink_to(shutil.which(command))
-        (self.path / "rt").write_text(STAND_IN_RT)
-        (self.path / "rt").chmod(0o755)
-
-    def compare(self, *words: str, cwd: pathlib.Path | str | None = None, command: str | None = None,
-                stdout: int = subprocess.PIPE, **given: Any) -> Done:
-        """A run; `given` is its standard input, else it has an empty one."""
-        given = given or {"input": b""}
-        return subprocess.run([command or self.house / "bin" / "compare", *words], cwd=cwd or self.folder, env=self.where,
-                              stdout=stdout, stderr=subprocess.PIPE, timeout=SECONDS, **given)
-
-    def built(self) -> int:
-        """How often rt was called."""
-        calls = self.calls.read_text().splitlines() if self.calls.exists() else []
-        self.assertEqual(set(calls) - {f"{self.house}: check compare"}, set())
-        return len(calls)
-
-    def file(self, name: str, content: bytes) -> str:
-        (self.folder / name).write_bytes(content)
-        return name
-
-    def assert_done(self, done: Done, status: int, printed: bytes) -> None:
-        self.assertEqual((done.returncode, done.stdout), (status, printed), done.stderr)
-
-    def assert_trouble(self, done: Done, *words: str) -> None:
-        """Status 2, nothing on standard output, a message."""
-        self.assert_done(done, 2, b"")
-        for word in words:
-            self.assertIn(word, done.stderr.decode())
-
-    def test_first_use(self) -> None:
-        done = self.compare()
-        self.assert_done(done, 0, P_AND_Q)
-        lines = done.stderr.decode().splitlines()
-        self.assertEqual((len(lines), self.built()), (2, 1), lines)
-        self.assertIn("example", lines[0])
-        self.assertIn("proving and building", lines[1])
-        self.assertIn("minutes", lines[1])
-        self.assertEqual((self.house / "target" / "compare.log").read_text(), "what rt says\n")
-
-    def test_second_use_builds_nothing_and_needs_no_rt(self) -> None:
-        self.compare()
-        (self.path / "rt").unlink()
-        done = self.compare("-", input=packed(P, Q))
-        self.assert_done(done, 0, P_AND_Q)
-        self.assertEqual((done.stderr, self.built()), (b"", 1))
-
-    def test_a_newer_source_is_built(self) -> None:
-        self.compare()
-        for newer in (self.source, self.house / "crates.txt"):
-            before, later = self.built(), time.time() + 3600
-            os.utime(newer, (later, later))
-            self.assert_done(self.compare(), 0, P_AND_Q)
-            self.assertEqual(self.built(), before + 1)
-            os.utime(newer, (0, 0))
-        self.source.unlink()
-        self.assert_done(self.compare(), 0, P_AND_Q)
-        self.assertEqual(self.built(), 4)
-
-    def test_a_failed_build_is_tried_again(self) -> None:
-        fail = self.folder / "calls.fail"
-        fail.write_text("")
-        for _ in range(2):
-            self.assert_trouble(self.compare(), "compare NOT PROVED", "rt check compare failed", "compare.log")
-        fail.unlink()
-        self.assert_done(self.compare(), 0, P_AND_Q)
-        self.assertEqual(self.built(), 3)
-
-    def test_a_program_that_no_longer_proves_is_not_run(self) -> None:
-        self.compare()
-        later = time.time() + 3600
-        os.utime(self.source, (later, later))
-        (self.folder / "calls.fail").write_text("")
-        self.assert_trouble(self.compare(), "rt check compare failed")
-
-    def test_a_build_that_leaves_nothing(self) -> None:
-        (self.folder / "calls.nothing").write_text("")
-        self.assert_trouble(self.compare(), "left no")
-
-    def test_no_rt(self) -> None:
-        (self.path / "rt").unlink()
-        self.assert_trouble(self.compare(), "no rt on the path")
-
-    def test_first_uses_at_once(self) -> None:
-        uses = [subprocess.Popen([self.house / "bin" / "compare"], env=self.where, stdout=subprocess.PIPE,
-                                 stderr=subprocess.DEVNULL) for _ in range(3)]
-        self.assertEqual([use.communicate(timeout=SECONDS)[0] for use in uses], [P_AND_Q] * 3)
-        if (self.path / "flock").exists():
-            self.assertEqual(self.built(), 1)
-
+class Wrapper(House):
     def test_a_file(self) -> None:
-        self.assert_done(self.compare(self.file("pair.bin", packed(P, R))), 0, listing(packed(P, R)))
+        self.assert_done(self.run_door(self.file("pair.bin", packed(P, R))), 0, listing(packed(P, R)))
 
     def test_names_with_blanks_and_signs(self) -> None:
         for name in ("two words.bin", " ", "a*b", "$HOME", "'", "\u00e9t\u00e9", "line\nbreak"):
-            self.assert_done(self.compare(self.file(name, packed(Q, R))), 0, listing(packed(Q, R)))
-        self.assert_done(self.compare("./" + self.file("-", packed(Q, R))), 0, listing(packed(Q, R)))
+            self.assert_done(self.run_door(self.file(name, packed(Q, R))), 0, listing(packed(Q, R)))
+        self.assert_done(self.run_door("./" + self.file("-", packed(Q, R))), 0, listing(packed(Q, R)))
 
     def test_standard_input(self) -> None:
-        self.assert_done(self.compare("-", input=packed(W, P)), 0, listing(packed(W, P)))
-        self.assert_done(self.compare("-"), 1, b"refused 1\n")
+        self.assert_done(self.run_door("-", input=packed(W, P)), 0, listing(packed(W, P)))
+        self.assert_done(self.run_door("-"), 1, b"refused 1\n")
 
     def test_standard_input_is_left_alone_without_the_sign(self) -> None:
-        done = self.compare(input=packed(W, P))
+        done = self.run_door(input=packed(W, P))
         self.assert_done(done, 0, P_AND_Q)
         self.assertIn(b"this is the example", done.stderr)
-        self.assert_done(self.compare(self.file("pair.bin", packed(P, R)), input=b"x"), 0, listing(packed(P, R)))
+        self.assert_done(self.run_door(self.file("pair.bin", packed(P, R)), input=b"x"), 0, listing(packed(P, R)))
 
     def test_standard_input_that_is_closed_or_a_folder(self) -> None:
-        self.assert_trouble(self.compare("-", preexec_fn=lambda: os.close(0)), "standard input: it is closed")
-        self.assert_done(self.compare(preexec_fn=lambda: os.close(0)), 0, P_AND_Q)
+        self.assert_trouble(self.run_door("-", preexec_fn=lambda: os.close(0)), "standard input: it is closed")
+        self.assert_done(self.run_door(preexec_fn=lambda: os.close(0)), 0, P_AND_Q)
         folder = os.open(self.folder, os.O_RDONLY)
         self.addCleanup(os.close, folder)
-        self.assert_trouble(self.compare("-", stdin=folder), "folder")
+        self.assert_trouble(self.run_door("-", stdin=folder), "folder")
 
     def assert_one_line(self, done: Done, line: str) -> None:
         """Status 2, nothing on standard output, and this line alone on standard error."""
         self.assertEqual((done.returncode, done.stdout or b"", done.stderr.decode()), (2, b"", line + "\n"))
 
     def test_standard_input_that_fails(self) -> None:
-        self.compare()
+        self.run_door()
         content = packed(P, Q)
         for length in (0, 34, 36, 68):
             own = breaks_after(content[:length])
-            self.assert_one_line(self.compare("-", stdin=own), "compare: cannot read standard input")
+            self.assert_one_line(self.run_door("-", stdin=own), "compare: cannot read standard input")
             os.close(own)
         with open(os.devnull, "wb") as unreadable:
-            self.assert_one_line(self.compare("-", stdin=unreadable), "compare: cannot read standard input")
+            self.assert_one_line(self.run_door("-", stdin=unreadable), "compare: cannot read standard input")
 
     @unittest.skipUnless(os.path.exists("/proc/self/mem"), "there is no file whose first byte cannot be read")
     def test_a_file_that_fails(self) -> None:
-        self.compare()
-        self.assert_one_line(self.compare("/proc/self/mem"), "compare: cannot read /proc/self/mem")
+        self.run_door()
+        self.assert_one_line(self.run_door("/proc/self/mem"), "compare: cannot read /proc/self/mem")
 
     def test_standard_input_in_pieces(self) -> None:
-        self.compare()
+        self.run_door()
         command, content = [self.house / "bin" / "compare", "-"], packed(P, Q)
         for lengths, pause in (([1], 0.002), ([34], 0.2), ([35, 33], 0.2)):
             done = run_in_pieces(command, pieces_of(content, lengths), pause, env=self.where)
             self.assertEqual(done, (P_AND_Q, b"", 0))
 
     def test_standard_output_that_cannot_be_written(self) -> None:
-        self.compare()
+        self.run_door()
         pair = self.file("pair.bin", packed(P, Q))
         outputs = [without_a_reader(), os.open(os.devnull, os.O_RDONLY)]
         if os.path.exists("/dev/full"):
             outputs.append(os.open("/dev/full", os.O_WRONLY))
         for words in ([pair], ["--help"], ["--version"]):
             for output in outputs:
-                self.assert_one_line(self.compare(*words, stdout=output), "compare: cannot write to standard output")
-            self.assert_one_line(self.compare(*words, preexec_fn=lambda: os.close(1)),
+                self.assert_one_line(self.run_door(*words, stdout=output), "compare: cannot write to standard output")
+            self.assert_one_line(self.run_door(*words, preexec_fn=lambda: os.close(1)),
                                  "compare: cannot write to standard output")
         for output in outputs:
             os.close(output)
 
     def test_refusals_have_status_1(self) -> None:
         for content in (b"", b"\0", packed(P), packed(P, THREE), bytes(2000)):
-            self.assert_done(self.compare(self.file("pair.bin", content)), 1, listing(content))
+            self.assert_done(self.run_door(self.file("pair.bin", content)), 1, listing(content))
 
     def test_a_missing_file(self) -> None:
         for name in ("absent.bin", "", "no/such/folder"):
-            self.assert_trouble(self.compare(name), "no such file: " + name)
+            self.assert_trouble(self.run_door(name), "no such file: " + name)
         self.assertEqual(self.built(), 0)
 
     def test_a_folder(self) -> None:
-        self.assert_trouble(self.compare("."), "folder")
+        self.assert_trouble(self.run_door("."), "folder")
         self.assertEqual(self.built(), 0)
 
     @unittest.skipIf(os.geteuid() == 0, "root can read every file")
     def test_an_unreadable_file(self) -> None:
         os.chmod(self.folder / self.file("pair.bin", packed(P, Q)), 0)
-        self.assert_trouble(self.compare("pair.bin"), "cannot read pair.bin")
+        self.assert_trouble(self.run_door("pair.bin"), "cannot read pair.bin")
 
     def test_two_arguments(self) -> None:
         pair = self.file("pair.bin", packed(P, Q))
-        self.assert_trouble(self.compare(pair, pair), "usage: compare [FILE]")
+        self.assert_trouble(self.run_door(pair, pair), "usage: compare [FILE]")
 
     def test_an_unknown_option(self) -> None:
-        self.assert_trouble(self.compare("--verbose"), "no option --verbose")
+        self.assert_trouble(self.run_door("--verbose"), "no option --verbose")
 
     def test_help(self) -> None:
         for option in ("-h", "--help"):
-            done = self.compare(option)
+            done = self.run_door(option)
             self.assertEqual((done.returncode, done.stderr, self.built()), (0, b"", 0))
             for words in ("usage: compare [FILE]", "exit status: 0 compared; 1 refused; 2 wrong usage"):
                 self.assertIn(words, done.stdout.decode())
@@ -775,22 +656,22 @@ class Wrapper(unittest.TestCase):
         elsewhere = self.folder / "elsewhere"
         elsewhere.mkdir()
         self.file("elsewhere/pair.bin", packed(R, Q))
-        self.assert_done(self.compare("pair.bin", cwd=elsewhere), 0, listing(packed(R, Q)))
-        self.assert_done(self.compare("../elsewhere/pair.bin", cwd=self.house), 0, listing(packed(R, Q)))
-        self.assert_done(self.compare(cwd="/"), 0, P_AND_Q)
+        self.assert_done(self.run_door("pair.bin", cwd=elsewhere), 0, listing(packed(R, Q)))
+        self.assert_done(self.run_door("../elsewhere/pair.bin", cwd=self.house), 0, listing(packed(R, Q)))
+        self.assert_done(self.run_door(cwd="/"), 0, P_AND_Q)
         (elsewhere / "linked").symlink_to(self.house / "bin" / "compare")
-        self.assert_done(self.compare(cwd=elsewhere, command="./linked"), 0, P_AND_Q)
+        self.assert_done(self.run_door(cwd=elsewhere, command="./linked"), 0, P_AND_Q)
 
     def test_a_program_that_breaks(self) -> None:
-        self.compare()
+        self.run_door()
         program = self.house / "target" / "bin" / "compare"
         program.unlink()
         for body in ("exit 3", "echo leaf 5", "exit 0", "printf 'leaves 5\\nclaims 10 6'", "printf 'refused 1'"):
             program.write_text("#!/bin/sh\n" + body + "\n")
             program.chmod(0o755)
-            self.assert_trouble(self.compare(), "the program")
+            self.assert_trouble(self.run_door(), "the program")
         program.write_text("#!/bin/sh\nprintf 'leaves 5\\ncl'\necho compare: cannot write to standard output >&2\n")
-        self.assert_trouble(self.compare(), "compare: cannot write to standard output\n")
+        self.assert_trouble(self.run_door(), "compare: cannot write to standard output\n")
 
 
 class Readme(unittest.TestCase):

@@ -1,6 +1,6 @@
 #!/usr/bin/env bash
-# The Rust packages: the bindings with leskwyn-compare and the example of docs/LIBRARY.md, and the differential tests of
-# every exported function. Clippy finds nothing in either, where it is installed.
+# The Rust packages: the bindings with the example of docs/LIBRARY.md, and the differential tests of every exported
+# function. Clippy finds nothing in either, where it is installed.
 # Needs target/staticlib/libcapi.a and target/bin/compare. Writes to each package's own target/ alone. Prints one line
 # for each package, or all that cargo says of one that fails.
 set -euo pipefail

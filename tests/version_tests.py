@@ -61,7 +61,7 @@ class Versions(unittest.TestCase):
             self.assertRegex(text(f"{path}/Cargo.toml"), rf'(?m)^version = "{re.escape(newest())}"$')
 
     def test_commands(self) -> None:
-        for command in ("bin/compare", "bin/leskwyn-compare", "tools/newick"):
+        for command in ("bin/compare", "bin/leskwyn", "tools/newick"):
             with self.subTest(command=command):
                 name = command.split("/")[1]
                 self.assertEqual(printed(ROOT / command, "--version"), f"{name} (Leskwyn) {newest()}\n")

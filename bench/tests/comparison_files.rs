@@ -1,4 +1,4 @@
-//! The parsing and printing behind leskwyn-compare against the proved comparing program, on every file that both take:
+//! The parsing and printing of `leskwyn::file` against the proved comparing program, on every file that both take:
 //! up to 1016 bytes, valid and damaged.
 
 use std::io::Write;

@@ -1,0 +1,49 @@
+//! Comparison files of more than the 1016 bytes that the proved program takes. That the listing of shorter ones is the
+//! proved program's is for `bench/tests/comparison_files.rs`.
+
+use leskwyn::file::{bytes, compare, listing};
+
+/// What is printed of a file.
+fn printed(bytes: &[u8]) -> String {
+    listing(&compare(bytes))
+}
+
+/// A caterpillar of n tips, labelled along its length.
+fn caterpillar(n: u16) -> Vec<u16> {
+    let m = 2 * n - 2;
+    // Inner nodes are the odd ones, each hanging from the one before it; a tip hangs from the node before it, and the
+    // last node is a tip besides.
+    let parents = (0..m).map(|i| match i {
+        0 | 1 => 0,
+        i if i % 2 == 0 => i - 1,
+        i => i - 2,
+    });
+    let labels = (0..m).map(|i| match i {
+        i if i == m - 1 => n - 1,
+        i if i % 2 == 0 => i / 2,
+        _ => leskwyn::INNER,
+    });
+    [n, m].into_iter().chain(parents).chain(labels).collect()
+}
+
+#[test]
+fn the_largest_trees() {
+    let table = caterpillar(256);
+    let expected = "leaves 256\nclaims 349585280 349585280 349585280 0\nquartets 174792640 0 0 0 0\ndistance 0\n\
+                    splits 253 253 253 0\n";
+    assert_eq!(printed(&bytes(&table, &table)), expected);
+}
+
+/// Refused for what is in it: never 9, never 14.
+#[test]
+fn large_files_that_are_refused() {
+    let table = caterpillar(256);
+    let whole = bytes(&table, &table);
+    let long = |words: usize| bytes(&table, &[table.clone(), vec![0; words]].concat());
+    assert_eq!(printed(&whole[1..]), "refused 15\n");
+    assert_eq!(printed(&whole[..whole.len() - 2]), "refused 104\n");
+    assert_eq!(printed(&long(1)), "refused 104\n");
+    assert_eq!(printed(&long(1_000_000)), "refused 104\n");
+    assert_eq!(printed(&bytes(&table, &caterpillar(255))), "refused 8\n");
+    assert_eq!(printed(&vec![255; 300_000]), "refused 2\n");
+}
