@@ -685,7 +685,8 @@ class Readme(unittest.TestCase):
 
     def test_from_newick_to_a_listing(self) -> None:
         trees = [ROOT / "examples" / name for name in ("feathers.nwk", "wings.nwk")]
-        made = subprocess.run([sys.executable, ROOT / "tools" / "newick", *trees], capture_output=True)
+        made = subprocess.run([sys.executable, "-B", "-m", "leskwyn", "table", *trees], capture_output=True,
+                              env={**os.environ, "PYTHONPATH": str(ROOT / "python")})
         self.assertEqual(made.returncode, 0, made.stderr)
         printed = subprocess.run([PROGRAM], input=made.stdout, stdout=subprocess.PIPE).stdout
         self.assertEqual(printed, listing(made.stdout))

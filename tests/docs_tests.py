@@ -16,7 +16,7 @@ ROOT = pathlib.Path(__file__).resolve().parent.parent
 CODE = sorted(ROOT.glob("crates/*/*/**/*.antt")) + sorted(ROOT.glob("crates/*/src/**/*.rt"))
 WORD = re.compile(r"[A-Za-z_'′][\w'′-]*", re.UNICODE)
 PAGES = [ROOT / name for name in ("README.md", "CONTRIBUTING.md", "CHANGELOG.md")] + sorted(ROOT.glob("docs/*.md"))
-FOLDERS = "bench|bin|bindings|crates|docs|examples|include|tests|tools|[.]ci"
+FOLDERS = "bench|bin|bindings|crates|docs|examples|include|python|tests|tools|[.]ci"
 
 
 def text(name: str) -> str:

@@ -9,6 +9,7 @@ import os
 import pathlib
 import re
 import subprocess
+import sys
 import tempfile
 import unittest
 
@@ -61,10 +62,20 @@ class Versions(unittest.TestCase):
             self.assertRegex(text(f"{path}/Cargo.toml"), rf'(?m)^version = "{re.escape(newest())}"$')
 
     def test_commands(self) -> None:
-        for command in ("bin/compare", "bin/leskwyn", "tools/newick"):
+        for command in ("bin/compare", "bin/leskwyn"):
             with self.subTest(command=command):
                 name = command.split("/")[1]
                 self.assertEqual(printed(ROOT / command, "--version"), f"{name} (Leskwyn) {newest()}\n")
+
+    def test_python_package(self) -> None:
+        """It tells the version in one place, and its commands tell that."""
+        self.assertRegex(text("python/leskwyn/__init__.py"), rf'(?m)^__version__ = "{re.escape(newest())}"$')
+        telling = [path.name for path in (ROOT / "python").rglob("*.*")
+                   if path.suffix in (".py", ".toml") and newest() in path.read_text(encoding="utf-8")]
+        self.assertEqual(telling, ["__init__.py"])
+        for command in ([], ["compare"], ["against"], ["matrix"], ["table"], ["show"]):
+            told = printed("env", "PYTHONPATH=python", sys.executable, "-B", "-m", "leskwyn", *command, "--version")
+            self.assertEqual(told, f"leskwyn (Leskwyn) {newest()}\n")
 
 
 if __name__ == "__main__":

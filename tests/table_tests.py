@@ -1,45 +1,32 @@
 #!/usr/bin/env python3
-"""Tests of tools/newick, with expected values worked out from docs/SPECIFICATION.md alone.
+"""Tests of the commands table and show, and so of how Newick is read, with expected values worked out from
+docs/SPECIFICATION.md alone.
 
-    python3 tests/newick_tests.py
+    python3 tests/table_tests.py
 
-Nothing here knows how the tool works: a random tree is a set of edges, its splits come from walking over them, a
-table's splits come from climbing its parent words, and the check of a table is that of cases/tables.py.
+Nothing here knows how the package works: a random tree is a set of edges, its splits come from walking over them, a
+table's splits come from climbing its parent words, and the check of a table is that of cases/tables.py. No library is needed.
 """
-import contextlib
-import importlib.machinery
-import importlib.util
-import io
 import os
-import pathlib
+import pty
 import random
+import select
 import subprocess
 import sys
-import tempfile
-import types
+import time
 import unittest
 import unittest.mock
-from collections.abc import Callable, Iterable
+from collections.abc import Iterable
 
 sys.dont_write_bytecode = True
+from command_runs import ENVIRONMENT, LESKWYN, CommandTest, Run
+from cases.newick import Splits, Tree, caterpillar, random_names, random_tree, splits_from, star_text, written_tree
 from cases.tables import P, Q, R, THREE, TWO, W, X, tree_refusal
+from leskwyn.newick import Source, read_trees
+from leskwyn.tables import broken_rule, newick_text
+from leskwyn.trees import table_of
 
-# Without installed packages: the tool needs none, and starts sooner.
-PYTHON = [sys.executable, "-I", "-S"]
-TOOL = pathlib.Path(__file__).resolve().parent.parent / "tools" / "newick"
-Done = subprocess.CompletedProcess[bytes]
-Run = Callable[..., Done]
-Splits = set[frozenset[frozenset[int]]]
-
-
-def load_tool() -> types.ModuleType:
-    loader = importlib.machinery.SourceFileLoader("newick", str(TOOL))
-    module = importlib.util.module_from_spec(importlib.util.spec_from_loader("newick", loader))
-    loader.exec_module(module)
-    return module
-
-
-NEWICK = load_tool()
+SOON = 3  # seconds within which a text that is too large is refused, on a busy machine
 
 
 # ---- tables
@@ -70,150 +57,14 @@ def edge_sets(t: list[int]) -> list[list[int]]:
     return sorted(sorted(labels) for labels in beyond.values())
 
 
-def splits_from(sets: Iterable[Iterable[int]], tips: Iterable[int]) -> Splits:
-    """Splits as sets of two tip sets, from the tips on one side of each edge."""
-    tips = frozenset(tips)
-    sides = [frozenset(side) for side in sets]
-    return {frozenset([side, tips - side]) for side in sides if len(side) >= 2 and len(tips - side) >= 2}
-
-
 def table_splits(t: list[int]) -> Splits:
     return splits_from(edge_sets(t), range(t[0]))
 
 
-# ---- trees as sets of edges
-
-class Tree:
-    """Nodes with their neighbours; the nodes that are tips have names."""
-
-    def __init__(self, names: list[str]) -> None:
-        self.joined: dict[int, set[int]] = {}
-        self.name = dict(enumerate(names))
-
-    def join(self, a: int, b: int) -> None:
-        self.joined.setdefault(a, set()).add(b)
-        self.joined.setdefault(b, set()).add(a)
-
-    def part(self, a: int, b: int) -> None:
-        self.joined[a].remove(b)
-        self.joined[b].remove(a)
-
-    def edges(self) -> list[tuple[int, int]]:
-        return [(a, b) for a in sorted(self.joined) for b in sorted(self.joined[a]) if a < b]
-
-    def names_beyond(self, a: int, b: int) -> set[str]:
-        """The names on b's side of the edge from a to b."""
-        seen, todo = {a, b}, [b]
-        while todo:
-            more = self.joined[todo.pop()] - seen
-            seen |= more
-            todo += more
-        return {self.name[node] for node in seen - {a} if node in self.name}
-
-    def splits(self, label: dict[str, int]) -> Splits:
-        sides = [[label[name] for name in self.names_beyond(a, b)] for a, b in self.edges()]
-        return splits_from(sides, label.values())
-
-
-def random_tree(rng: random.Random, names: list[str], polytomies: float) -> Tree:
-    """Three tips around a node; each further tip is joined to an inner node, or to the midst of an edge."""
-    tree, n = Tree(names), len(names)
-    for tip in range(min(n, 3)):
-        tree.join(tip, n)
-    for tip in range(3, n):
-        node = rng.choice([node for node in tree.joined if node >= n])
-        if rng.random() >= polytomies:
-            a, b = rng.choice(tree.edges())
-            node = n + tip
-            tree.part(a, b)
-            tree.join(a, node)
-            tree.join(node, b)
-        tree.join(tip, node)
-    return tree
-
-
-def caterpillar(names: list[str]) -> Tree:
-    """Binary, as deep as it can be."""
-    tree, n = Tree(names), len(names)
-    for i in range(1, n - 1):
-        tree.join(i, n + i)
-        if i > 1:
-            tree.join(n + i - 1, n + i)
-    tree.join(0, n + 1)
-    tree.join(n - 1, n + n - 2)
-    return tree
-
-
-# ---- Newick texts
-
-PIECES = ["Parus", "major", "Cetti's", "ü", "Łódź", "a_b", " ", "''", "(x)", "[y]", ";", ",", ":1", "-", "\U0001F426",
-          "9", "\"", "\t", "#", "/"]
-
-
-def random_names(rng: random.Random, n: int) -> list[str]:
-    found: set[str] = set()
-    while len(found) < n:
-        pieces = "".join(rng.choice(PIECES) for _ in range(rng.randint(1, 5)))
-        found.add(pieces + rng.choice(["", str(len(found))]))
-    names = sorted(found)
-    rng.shuffle(names)
-    return names
-
-
-def written_name(rng: random.Random, name: str) -> str:
-    """Quoted, or if the name allows it, plain with '_' for a blank."""
-    plain = name.replace(" ", "_")
-    may_be_plain = "_" not in name and not any(c in "()[]',:;" or c.isspace() for c in plain)
-    if may_be_plain and rng.random() < 0.7:
-        return plain
-    return "'" + name.replace("'", "''") + "'"
-
-
-def gap(rng: random.Random) -> str:
-    return rng.choice([""] * 8 + [" ", "\n", "\r\n\t", "[a (b, c);]", "[&R [nested 'quote] ]", " [x]\n"])
-
-
-def spaced(rng: random.Random, *parts: str) -> str:
-    return "".join(gap(rng) + part for part in parts) + gap(rng)
-
-
-def length(rng: random.Random) -> str:
-    return rng.choice(["", "", spaced(rng, ":", rng.choice(["0.1", "1e-5", "3", "-0.25", "1E+2", "NaN"]))])
-
-
-def support(rng: random.Random) -> str:
-    return rng.choice(["", "", spaced(rng, rng.choice(["95", "0.5", "'inner; (name)'", "''", "clade_1"]))])
-
-
-def written_group(rng: random.Random, texts: list[str]) -> str:
-    rng.shuffle(texts)
-    return spaced(rng, "(", ",".join(texts), ")") + support(rng)
-
-
-def written_from(rng: random.Random, tree: Tree, node: int, origin: int | None) -> str:
-    """The text of what lies beyond the edge from origin to node, at times in brackets of its own."""
-    if node in tree.name:
-        text = spaced(rng, written_name(rng, tree.name[node]))
-    else:
-        text = written_group(rng, [written_from(rng, tree, other, node) for other in tree.joined[node] - {origin}])
-    while rng.random() < 0.05:
-        text = written_group(rng, [text + length(rng)])
-    return text + length(rng)
-
-
-def written_tree(rng: random.Random, tree: Tree) -> str:
-    """The tree rooted anywhere: at an inner node, or in the midst of an edge."""
-    if rng.random() < 0.5:
-        root = rng.choice([node for node in sorted(tree.joined) if node not in tree.name])
-        text = written_from(rng, tree, root, None)
-    else:
-        a, b = rng.choice(tree.edges())
-        text = written_group(rng, [written_from(rng, tree, a, b), written_from(rng, tree, b, a)])
-    return text + gap(rng) + ";" + gap(rng)
-
+# ---- what show prints
 
 def shown_splits(text: str, n: int) -> Splits:
-    """The splits of --show's Newick text: every pair of brackets is the side of an edge."""
+    """The splits of show's Newick text: every pair of brackets is the side of an edge."""
     sides: list[list[int]] = []
     open_groups: list[list[int]] = []
     number = ""
@@ -237,72 +88,29 @@ def code_points(name: str) -> list[int]:
     return [ord(c) for c in name]
 
 
-def star_text(names: Iterable[str]) -> str:
-    return "(" + ",".join(names) + ");"
+# ---- running the commands
 
-
-# ---- running the tool
-
-class ToolTest(unittest.TestCase):
-    def setUp(self) -> None:
-        folder = tempfile.TemporaryDirectory()
-        self.addCleanup(folder.cleanup)
-        self.folder = pathlib.Path(folder.name)
-
-    def file(self, name: str, content: bytes | str) -> str:
-        path = self.folder / name
-        path.write_bytes(content if isinstance(content, bytes) else content.encode())
-        return name
-
-    def run_tool(self, *arguments: str, stdin: bytes | str = b"") -> Done:
-        stdin = stdin if isinstance(stdin, bytes) else stdin.encode()
-        return subprocess.run([*PYTHON, str(TOOL), *arguments], input=stdin, capture_output=True, cwd=self.folder,
-                              timeout=20)
-
-    def run_here(self, *arguments: str, stdin: bytes | str = b"") -> Done:
-        """As run_tool, without a process of its own: for long rows of cases."""
-        stdin = stdin if isinstance(stdin, bytes) else stdin.encode()
-        output, errors, status = io.BytesIO(), io.StringIO(), None
-        with (contextlib.chdir(self.folder), contextlib.redirect_stderr(errors),
-              unittest.mock.patch.object(sys, "stdin", types.SimpleNamespace(buffer=io.BytesIO(stdin))),
-              unittest.mock.patch.object(NEWICK, "put_on_standard_output", output.write)):
-            try:
-                status = NEWICK.main(list(arguments))
-            except SystemExit as end:
-                status = end.code
-        return subprocess.CompletedProcess(arguments, status, output.getvalue(), errors.getvalue().encode())
-
+class TableTest(CommandTest):
     def converted(self, text: bytes | str, *arguments: str, run: Run | None = None) -> tuple[list[int], list[int]]:
         """The two tables of a text with two trees; both keep every rule."""
-        done = (run or self.run_tool)("-", *arguments, stdin=text)
+        done = (run or self.run_here)("-", *arguments, stdin=text)
         self.assertEqual((done.returncode, done.stderr if done.returncode else b""), (0, b""))
         tables = two_tables(done.stdout)
         self.assertEqual([tree_refusal(table) for table in tables], [0, 0])
         return tables
 
-    def assert_message(self, done: Done, status: int, *words: str) -> None:
-        """One line on standard error that holds the words, and nothing on standard output."""
-        self.assertEqual((done.returncode, done.stdout), (status, b""), done)
-        message = done.stderr.decode()
-        self.assertEqual((message.count("\n"), message[-1:], message[:8]), (1, "\n", "newick: "), message)
-        for word in words:
-            self.assertIn(word, message)
-
-    def assert_refused(self, arguments: Iterable[str], *words: str, stdin: bytes | str = b"",
-                       run: Run | None = None) -> None:
+    def assert_refused(self, arguments: Iterable[str], *words: str, stdin: bytes | str = b"", run: Run | None = None,
+                       status: int = 1) -> None:
         """Refused both ways, to standard output and to a file, and no file comes to be."""
         before = self.contents()
         run = run or self.run_here
-        self.assert_message(run(*arguments, stdin=stdin), 1, *words)
+        self.assert_message(run(*arguments, stdin=stdin), status, *words)
         to_files = [*arguments, "-o", "out.bin", "--list", "list.txt"]
-        self.assert_message(run(*to_files, stdin=stdin), 1, *words)
+        self.assert_message(run(*to_files, stdin=stdin), status, *words)
         self.assertEqual(self.contents(), before)
 
-    def contents(self) -> dict[str, bytes]:
-        return {path.name: path.read_bytes() for path in self.folder.iterdir()}
 
-
-class ReferenceTables(ToolTest):
+class ReferenceTables(TableTest):
     def assert_same_tree(self, table: list[int], reference: list[int]) -> None:
         self.assertEqual(tree_refusal(table), 0)
         self.assertEqual(table[:2], reference[:2])
@@ -328,7 +136,7 @@ class ReferenceTables(ToolTest):
         self.assert_same_tree(tables[1], W)
 
     def test_bytes_where_depth_first_order_is_the_reference_numbering(self) -> None:
-        done = self.run_tool("-", "--quiet", stdin="(0,(1,(2,(3,4))));(0,1,(2,3,4));")
+        done = self.run_command("-", "--quiet", stdin="(0,(1,(2,(3,4))));(0,1,(2,3,4));")
         self.assertEqual((done.returncode, done.stdout, done.stderr), (0, packed(P, Q), b""))
 
     def test_two_tips(self) -> None:
@@ -342,9 +150,9 @@ class ReferenceTables(ToolTest):
         self.assertEqual(self.converted("(C,B,A);(A,C,B);"), (swapped, swapped))
 
 
-class NewickForms(ToolTest):
+class NewickForms(TableTest):
     def names_of(self, text: str) -> list[str]:
-        done = self.run_tool("-", stdin=text)
+        done = self.run_here("-", stdin=text)
         self.assertEqual(done.returncode, 0, done)
         lines = done.stderr.decode().removesuffix("\n").split("\n")
         self.assertEqual([line.split("\t", 1)[0] for line in lines], [str(i) for i in range(len(lines))])
@@ -376,6 +184,25 @@ class NewickForms(ToolTest):
     def test_line_breaks_and_byte_order_mark(self) -> None:
         self.assertEqual(self.converted("\ufeff\r\n(\r\nA\n,\tB\n:\n1\n,C\n)\nx\n;\n\n(A,B,C)\n;\n \n"), (THREE, THREE))
 
+    def test_encodings_by_their_mark(self) -> None:
+        text = "(Möwe,(Łódź,\U0001F426));\r\n(Łódź,Möwe,\U0001F426);\r\n"
+        for encoding, mark in (("utf-8", b""), ("utf-8", b"\xef\xbb\xbf"), ("utf-16-le", b"\xff\xfe"),
+                               ("utf-16-be", b"\xfe\xff"), ("utf-32-le", b"\xff\xfe\0\0"), ("utf-32-be", b"\0\0\xfe\xff")):
+            done = self.run_here("-", stdin=mark + text.encode(encoding))
+            self.assertEqual((done.returncode, done.stderr.decode()), (0, "0\tMöwe\n1\tŁódź\n2\t\U0001F426\n"))
+
+    def test_a_mark_between_two_files(self) -> None:
+        self.assertEqual(self.names_of("\ufeff(A,B);\n\ufeff(B,A);\n"), ["A", "B"])
+
+    def test_double_quotes(self) -> None:
+        self.assertEqual(self.names_of('("A b",\'A_b\',"say ""x"" it\'s");("A_b",A_b,\'say "x" it\'\'s\');'),
+                         ["A b", "A_b", 'say "x" it\'s'])
+
+    def test_decimal_points_beside_numbers_as_names(self) -> None:
+        for text in ("(1:0,2:0,3:1);", "(A:1,'2','3');", "(A:1, 2,(3));", "(A:1.5,2,3);", "(A:1[x],2,3);", "(A:0,5x,B);",
+                     "((1,2)100,3);", "((1,2)1,3);", "((A,B)0.95,3);", "((A,B)0:1,3:2,C);"):
+            self.assertEqual(self.run_here("-", stdin=text * 2).returncode, 0, text)
+
     def test_nodes_with_one_child_vanish(self) -> None:
         first = "((0, (((1)), (((2, ((3,4)) )x)y:1)) ));"
         second = "(((0, (1, ((2,3,(4)))) )));"
@@ -395,7 +222,7 @@ class NewickForms(ToolTest):
         self.assertEqual([edge_sets(table) for table in tables], [beyond, beyond])
 
 
-class Commands(ToolTest):
+class Commands(TableTest):
     TEXTS = "(0,(1,(2,(3,4))));\n", "(0,1,(2,3,4));\n"
 
     def setUp(self) -> None:
@@ -408,16 +235,16 @@ class Commands(ToolTest):
         for arguments, stdin in ((("first.nwk", "second.nwk"), ""), (("both.nwk",), ""), (("-",), "".join(self.TEXTS)),
                                  (("-", "second.nwk"), self.TEXTS[0]), (("first.nwk", "-"), self.TEXTS[1]),
                                  (("--", "first.nwk", "second.nwk"), "")):
-            done = self.run_tool(*arguments, stdin=stdin)
+            done = self.run_command(*arguments, stdin=stdin)
             self.assertEqual((done.returncode, done.stdout), (0, packed(P, Q)))
 
     def test_order_of_the_trees(self) -> None:
-        self.assertEqual(self.run_tool("second.nwk", "first.nwk").stdout, packed(Q, P))
+        self.assertEqual(self.run_command("second.nwk", "first.nwk").stdout, packed(Q, P))
 
     def test_output_file(self) -> None:
         for arguments in (("first.nwk", "second.nwk", "-o", "a.bin"), ("-o", "a.bin", "both.nwk"),
                           ("first.nwk", "-o", "a.bin", "second.nwk")):
-            done = self.run_tool(*arguments)
+            done = self.run_command(*arguments)
             self.assertEqual((done.returncode, done.stdout), (0, b""))
             self.assertEqual((self.folder / "a.bin").read_bytes(), packed(P, Q))
             (self.folder / "a.bin").unlink()
@@ -425,73 +252,81 @@ class Commands(ToolTest):
 
     def test_output_replaces_an_older_file(self) -> None:
         self.file("a.bin", "older and longer " * 20)
-        self.assertEqual(self.run_tool("both.nwk", "-o", "a.bin").returncode, 0)
+        self.assertEqual(self.run_command("both.nwk", "-o", "a.bin").returncode, 0)
         self.assertEqual((self.folder / "a.bin").read_bytes(), packed(P, Q))
 
     def test_a_refusal_keeps_the_older_file(self) -> None:
         self.file("a.bin", "older")
         self.file("bad.nwk", "(0,1,2,3;")
-        self.assert_message(self.run_tool("first.nwk", "bad.nwk", "-o", "a.bin"), 1, "bad.nwk")
+        self.assert_message(self.run_command("first.nwk", "bad.nwk", "-o", "a.bin"), 1, "bad.nwk")
         self.assertEqual((self.folder / "a.bin").read_bytes(), b"older")
 
     def test_output_that_cannot_be_written(self) -> None:
         before = self.contents()
-        self.assert_message(self.run_tool("both.nwk", "-o", "none/a.bin"), 1, "cannot write none/a.bin")
-        self.assert_message(self.run_tool("both.nwk", "-o", "a.bin", "--list", "none/b"), 1, "cannot write none/b")
-        self.assert_message(self.run_tool("both.nwk", "-o", ".", "--list", "b"), 1, "cannot write .")
+        self.assert_message(self.run_command("both.nwk", "-o", "none/a.bin"), 2, "cannot write none/a.bin")
+        self.assert_message(self.run_command("both.nwk", "-o", "a.bin", "--list", "none/b"), 2, "cannot write none/b")
+        self.assert_message(self.run_command("both.nwk", "-o", ".", "--list", "b"), 2, "cannot write .")
         self.assertEqual(self.contents(), before)
 
     def test_standard_output_that_nobody_reads(self) -> None:
         reader, writer = os.pipe()
         os.close(reader)
         self.addCleanup(os.close, writer)
-        done = subprocess.run([*PYTHON, str(TOOL), "both.nwk", "--list", "b"], stdout=writer, stderr=subprocess.PIPE,
-                              cwd=self.folder, timeout=20)
-        self.assertEqual((done.returncode, done.stderr.count(b"\n")), (1, 1))
+        done = subprocess.run([*LESKWYN, "table", "both.nwk", "--list", "b"], stdout=writer, stderr=subprocess.PIPE,
+                              cwd=self.folder, env=ENVIRONMENT, timeout=20)
+        self.assertEqual((done.returncode, done.stderr.count(b"\n")), (2, 1))
         self.assertIn(b"cannot write standard output", done.stderr)
         self.assertFalse((self.folder / "b").exists())
 
     def test_wrong_usage(self) -> None:
         before = self.contents()
         for arguments in ((), ("a", "b", "c"), ("-", "-"), ("both.nwk", "--wrong"), ("both.nwk", "-o"), ("",),
-                          ("-", "--names", "-"), ("--show",), ("--show", "a", "b"), ("--show", "a", "--quiet"),
+                          ("-", "--names", "-"), ("both.nwk", "--show"),
                           ("both.nwk", "--list", "-"), ("both.nwk", "--list", "b", "--quiet"), ("both.nwk", "-o", ""),
                           ("both.nwk", "-o", "both.nwk"), ("first.nwk", "second.nwk", "--list", "./second.nwk"),
                           ("both.nwk", "-o", "a", "--list", "./a"), ("first.nwk", "-", "--quie")):
-            self.assert_message(self.run_here(*arguments), 2, "--help")
-        self.assert_message(self.run_tool(), 2, "--help")
-        self.assert_message(self.run_tool("both.nwk", "-o", "both.nwk"), 2, "--help")
+            self.assert_message(self.run_here(*arguments), 2, "leskwyn table --help")
+        for arguments in ((), ("a", "b"), ("a", "--quiet"), ("a", "--names", ""), ("",), ("-", "--names", "-"), ("-", "-")):
+            self.assert_message(self.run_here(*arguments, command="show"), 2, "leskwyn show --help")
+        self.assert_message(self.run_command(), 2, "--help")
+        self.assert_message(self.run_command("both.nwk", "-o", "both.nwk"), 2, "--help")
         self.assertEqual(self.contents(), before)
 
     def test_help(self) -> None:
-        done = self.run_tool("--help")
+        done = self.run_command("--help")
         self.assertEqual((done.returncode, done.stderr), (0, b""))
-        for word in (b"examples:", b"newick both.nwk -o pair.bin", b"--names", b"--list", b"--quiet", b"--show"):
+        for word in (b"examples:", b"table both.nwk -o pair.bin", b"--names", b"--list", b"--quiet", b"--common"):
             self.assertIn(word, done.stdout)
 
-    @unittest.skipUnless(os.name == "posix", "needs files that can be run")
-    def test_runs_by_itself(self) -> None:
-        done = subprocess.run([str(TOOL), "both.nwk"], capture_output=True, cwd=self.folder, timeout=20)
-        self.assertEqual((done.returncode, done.stdout), (0, packed(P, Q)))
+    def test_no_bytes_to_a_terminal(self) -> None:
+        outer, inner = pty.openpty()
+        self.addCleanup(os.close, outer)
+        self.addCleanup(os.close, inner)
+        for arguments in ([], ["-o", "-"], ["-o", os.ttyname(inner)]):
+            done = subprocess.run([*LESKWYN, "table", "both.nwk", *arguments], stdout=inner, stderr=subprocess.PIPE,
+                                  cwd=self.folder, env=ENVIRONMENT, timeout=20)
+            self.assertEqual((done.returncode, done.stderr.count(b"\n")), (2, 1))
+            self.assertIn(b"not for a terminal", done.stderr)
+        self.assertEqual(select.select([outer], [], [], 0)[0], [])
 
 
-class Labels(ToolTest):
+class Labels(TableTest):
     TEXT = "((Zilpzalp,(10,2)),(amsel,(Émile,('\uff5e',\U0001F426))));(Zilpzalp,10,2,amsel,Émile,'\uff5e',\U0001F426);"
     SORTED = "0\t10\n1\t2\n2\tZilpzalp\n3\tamsel\n4\tÉmile\n5\t\uff5e\n6\t\U0001F426\n".encode()
 
     def test_sorted_by_code_point(self) -> None:
-        self.assertEqual(self.run_tool("-", stdin=self.TEXT).stderr, self.SORTED)
+        self.assertEqual(self.run_command("-", stdin=self.TEXT).stderr, self.SORTED)
 
     def test_list_file_and_quiet(self) -> None:
-        done = self.run_tool("-", "--list", "labels.txt", stdin=self.TEXT)
+        done = self.run_command("-", "--list", "labels.txt", stdin=self.TEXT)
         self.assertEqual((done.returncode, done.stderr), (0, b""))
         self.assertEqual((self.folder / "labels.txt").read_bytes(), self.SORTED)
-        quiet = self.run_tool("-", "--quiet", stdin=self.TEXT)
+        quiet = self.run_command("-", "--quiet", stdin=self.TEXT)
         self.assertEqual((quiet.returncode, quiet.stderr, quiet.stdout), (0, b"", done.stdout))
 
     def test_names_give_the_order(self) -> None:
         for content in ("C\nA b\nB\n", "\ufeffC\r\nA b\r\nB\r\n", "C\nA b\nB", "C\n\nA b\nB\n\n"):
-            done = self.run_tool("-", "--names", self.file("names", content), stdin="(A_b,B,C);('A b',(B,C));")
+            done = self.run_command("-", "--names", self.file("names", content), stdin="(A_b,B,C);('A b',(B,C));")
             self.assertEqual(done.stderr, b"0\tC\n1\tA b\n2\tB\n")
             self.assertEqual(done.stdout, packed(THREE, [3, 4, 0, 0, 1, 1, 0, X, 2, 1]))
 
@@ -503,8 +338,33 @@ class Labels(ToolTest):
 
     def test_names_from_standard_input(self) -> None:
         self.file("both.nwk", "(A,B,C);(C,B,A);")
-        done = self.run_tool("both.nwk", "--names", "-", stdin="B\nC\nA\n")
+        done = self.run_command("both.nwk", "--names", "-", stdin="B\nC\nA\n")
         self.assertEqual((done.returncode, done.stderr), (0, b"0\tB\n1\tC\n2\tA\n"))
+
+    def test_its_own_list_is_an_order_of_names(self) -> None:
+        """A list of labels, in any order of its lines, gives the same labels again, awkward names among them."""
+        names = ["b\\n", "a\nb", "\\", "\r", "1\tx", "Łódź", "\\\\r", "x\ty"]
+        text = star_text("'" + name + "'" for name in names) * 2
+        first = self.run_here("-", "--list", "labels.txt", "--names", self.file("plain", "1\tx\n\\\n"), stdin=text)
+        self.assertEqual(first.returncode, 1)
+        first = self.run_here("-", "--list", "labels.txt", stdin=text)
+        lines = (self.folder / "labels.txt").read_bytes().splitlines(keepends=True)
+        self.assertEqual(len(lines), len(names))
+        for order in (lines, lines[::-1]):
+            again = self.run_here("-", "--names", self.file("order", b"".join(order)), stdin=text)
+            self.assertEqual((again.returncode, again.stdout, again.stderr), (0, first.stdout, b"".join(lines)))
+
+    def test_tips_that_look_like_a_list_of_labels(self) -> None:
+        self.file("names", "1\tA\n0\tB\n")
+        done = self.run_here("-", "--names", "names", stdin="('0\tB','1\tA');" * 2)
+        self.assertEqual((done.returncode, done.stderr), (0, b"0\t1\tA\n1\t0\tB\n"))
+
+    def test_common(self) -> None:
+        done = self.run_here("-", "--common", "--list", "labels.txt", stdin="((A,x),(B,(C,y)),z);((A,(B,C)),w);")
+        self.assertEqual((done.returncode, done.stdout), (0, packed(THREE, THREE)))
+        self.assertEqual(done.stderr, b"leskwyn: left out of standard input, first tree: 'x', 'y', 'z'\n"
+                                      b"leskwyn: left out of standard input, second tree: 'w'\n")
+        self.assertEqual((self.folder / "labels.txt").read_bytes(), b"0\tA\n1\tB\n2\tC\n")
 
     def test_refused_lists(self) -> None:
         self.file("both.nwk", "(A,B,C);(C,B,A);")
@@ -512,23 +372,64 @@ class Labels(ToolTest):
                                ("A\nB\nC\nB\n", ["repeats 'B'"]), ("A\nB\nc\n", ["lacks 'C'", "has 'c'"]),
                                ("", ["lacks 'A', 'B', 'C'"]),
                                ("A\nB\nC \n", ["lacks 'C'", "has 'C '"]), (b"A\nB\n\xff\n", ["not UTF-8"]),
-                               ("A\nB\nC\nv\nw\nx\ny\nz\n", ["has 'v', 'w', 'x' and 2 more"])):
+                               ("A\nB\nC\n" + "".join(f"x{i:02}\n" for i in range(23)), ["has 'x00', ", "'x19' and 3 more"]),
+                               ("0\tA\n1\tB\n3\tC\n", ["lacks 'A'", "has '0\\tA'"])):
             self.assert_refused(["both.nwk", "--names", self.file("names", content)], "names", *words)
-        self.assert_refused(["both.nwk", "--names", "absent"], "cannot read absent")
+        self.assert_refused(["both.nwk", "--names", "absent"], "cannot read absent", status=2)
 
 
-class Refusals(ToolTest):
+LETTERS = "abcdefghijklmnopqrstuvwxyz"
+
+
+class Refusals(TableTest):
     GOOD = "(A,(B,C));"
+
+    def test_decimal_commas(self) -> None:
+        for text, end in (("(A:0,25,B:0,5);", "25"), ("(A,B:1,5);", "5"), ("((A,B):0,5,C);", "5"), ("(A:-0,1e-3,C);", "1e-3"),
+                          ("(A:1,2,3);", "2"), ("(A:0,1[x],B);", "1"), ("(A:0,1)x;", "1"), ("((A,B)0,95:1,C);", "95"),
+                          ("((A,B)1,00,C);", "00"), ("((A,B)0,5:0,5,C);", "5")):
+            self.assert_refused(["-"], "standard input, line 1: ", f"'{end}' is the end of a number with a decimal comma",
+                                "point", "quotes", stdin=text * 2)
+
+    def test_double_quotes(self) -> None:
+        for text, words in (('("A,B);', 'opens with " and does not end'), ('(A"b,C);', "a quote inside"),
+                            ('(6",B);', "a quote inside")):
+            self.assert_refused(["-"], words, stdin=self.GOOD + text)
+
+    def test_no_text(self) -> None:
+        """UTF-16 without its mark, and comparison files."""
+        self.file("good", self.GOOD)
+        for content in ("(A,B);".encode("utf-16-le"), packed(P, Q)):
+            self.assert_refused(["good", "-"], "standard input is a comparison file", stdin=content)
+        self.assert_refused(["good", "-"], "a zero byte, at byte 6", stdin=b"\xef\xbb\xbf(A,\0B);")
+
+    def test_nexus_without_dendropy(self) -> None:
+        self.file("good", self.GOOD)
+        nexus = "#NEXUS\nbegin trees;\ntree one = (A,(B,C));\nend;\n"
+        with unittest.mock.patch.dict(sys.modules, {"dendropy": None}):
+            self.assert_refused(["good", "-"], "standard input is a NEXUS file", "DendroPy", "not installed", stdin=nexus,
+                                status=2)
+
+    def test_unicode_forms(self) -> None:
+        composed, taken_apart = "M\u00f6we", "Mo\u0308we"
+        self.assert_refused(["-"], "different tips", f"'{composed}' differs only in Unicode form", "NFC",
+                            stdin=f"({composed},B);({taken_apart},B);")
+        self.file("both.nwk", f"({composed},B);(B,{composed});")
+        self.assert_refused(["both.nwk", "--names", self.file("names", f"{taken_apart}\nB\n")], "names: the list lacks",
+                            f"'{composed}' differs only in Unicode form")
+        done = self.run_here("-", stdin="(M\u00f6we,B);(M\u00f8we,B);")
+        self.assertNotIn(b"Unicode", done.stderr)
 
     def test_different_tips(self) -> None:
         for first, second, words, unnamed in (
-                ("(A,B,C);", "(A,B,D);", ["only the first has 'C'", "only the second has 'D'"], "more"),
-                ("(A,B,C);", "(A,B);", ["only the first has 'C'"], "only the second"),
-                ("(A,B);", "(A,B,C,D,E);", ["only the second has 'C', 'D', 'E'"], "more"),
-                ("(A,B,C,D,E,F);", "(A,B);", ["only the first has 'C', 'D', 'E'", "1 more"], "'F'"),
-                ("(A,C,D,E);", "(A,X,Y,Z);", ["first has 'C', 'D'", "second has 'X'", "3 more"], "'Y'"),
-                ("(A,C);", "(A,X,Y,Z);", ["first has 'C'", "second has 'X', 'Y'", "1 more"], "'Z'"),
-                ("(A_b,B);", "('A_b',B);", ["first has 'A b'", "second has 'A_b'"], "more")):
+                ("(A,B,C);", "(A,B,D);",
+                 ["only standard input, first tree has 'C'", "only standard input, second tree has 'D'"], "more"),
+                ("(A,B,C);", "(A,B);", ["first tree has 'C'"], "second tree"),
+                ("(A,B);", "(A,B,C,D,E);", ["second tree has 'C', 'D', 'E'"], "more"),
+                (star_text(["A", "B", *LETTERS]), "(A,B);", ["first tree has 'a', 'b', ", "'t' and 6 more"], "'u'"),
+                (star_text(["A", *LETTERS]), star_text(["A", *(c * 2 for c in LETTERS)]),
+                 ["first tree has 'a', ", "'t' and 6 more; only", "second tree has 'aa', ", "'tt' and 6 more"], "'uu'"),
+                ("(A_b,B);", "('A_b',B);", ["first tree has 'A b'", "second tree has 'A_b'"], "more")):
             self.assert_refused(["-"], "different tips", *words, stdin=first + second)
             self.assertNotIn(unnamed, self.run_here("-", stdin=first + second).stderr.decode())
 
@@ -559,9 +460,9 @@ class Refusals(ToolTest):
         for text, words in (("(A,B);(A,C);", "different tips"), ("(A,B);(A,(B,A));", "repeated"), ("(A,B);(A,B;", "("),
                             ("(A,B);('A,B);", "quoted name"), ("(A,B);", "two trees are needed"),
                             (b"\xff", "not UTF-8")):
-            self.assert_refused(["-"], words, stdin=text, run=self.run_tool)
-        self.assert_refused(["-", "--names", "names"], "lacks 'C'", stdin="(A,B,C);(A,B,C);", run=self.run_tool)
-        self.assert_refused(["absent"], "cannot read absent", run=self.run_tool)
+            self.assert_refused(["-"], words, stdin=text, run=self.run_command)
+        self.assert_refused(["-", "--names", "names"], "lacks 'C'", stdin="(A,B,C);(A,B,C);", run=self.run_command)
+        self.assert_refused(["absent"], "cannot read absent", run=self.run_command, status=2)
 
     def test_damaged_first_tree(self) -> None:
         self.file("good", self.GOOD)
@@ -589,19 +490,21 @@ class Refusals(ToolTest):
 
     def test_files_that_cannot_be_read(self) -> None:
         self.file("good", self.GOOD)
-        self.assert_refused(["good", "absent"], "cannot read absent")
-        self.assert_refused(["absent"], "cannot read absent")
-        self.assert_message(self.run_tool(".", "good"), 1, "cannot read .")
-        for content in (b"(A,\xff);", b"\xff\xfe(\x00A\x00", b"(A,\xed\xa0\x80);"):
-            self.assert_refused(["good", "-"], "standard input", "not UTF-8", stdin=content)
+        self.assert_refused(["good", "absent"], "cannot read absent", status=2)
+        self.assert_refused(["absent"], "cannot read absent", status=2)
+        self.assert_message(self.run_command(".", "good"), 2, "cannot read .")
+        for content, at in ((b"(A,\xff);", 3), (b"(A,\xed\xa0\x80);", 3), ("\n(Möwe,B);".encode("latin-1"), 3),
+                            (b"\xef\xbb\xbf(A,\xff);", 6)):
+            self.assert_refused(["good", "-"], "standard input", f"not UTF-8 text, at byte {at} ", stdin=content)
+        self.assert_refused(["good", "-"], "standard input", "not UTF-16 text, at byte 4", stdin=b"\xff\xfe(\0A")
 
     def test_message_stays_one_line(self) -> None:
         self.assert_refused(["-"], "'a\\nb'", stdin="('a\nb',C);(C,D);")
-        long = self.run_tool("-", stdin=f"({'x' * 5000},C);(C,D);")
-        self.assertLess(len(long.stderr), 200)
+        long = self.run_command("-", stdin=f"({'x' * 5000},C);(C,D);")
+        self.assertLess(len(long.stderr), 300)
 
 
-class Limits(ToolTest):
+class Limits(TableTest):
     def test_256_tips(self) -> None:
         names = [f"n{i:03}" for i in range(256)]
         first, second = self.converted(star_text(names) * 2, "--quiet")
@@ -611,6 +514,21 @@ class Limits(ToolTest):
     def test_257_tips(self) -> None:
         names = [f"n{i:03}" for i in range(257)]
         self.assert_refused(["-"], "257 tips", "2 to 256", stdin=star_text(names) * 2)
+
+    def test_many_tips(self) -> None:
+        """Counted to the end up to some number, and then at least so many, soon."""
+        self.assert_refused(["-"], "70000 tips", "2 to 256", stdin=star_text(map(str, range(70000))) + "(A,B);")
+        start = time.monotonic()
+        self.assert_refused(["-"], "at least 131071 tips", stdin=star_text(map(str, range(1_500_000))) * 2)
+        self.assertLess(time.monotonic() - start, 2 * SOON)
+
+    def test_nested_a_million_deep(self) -> None:
+        deep = 1_000_000
+        start = time.monotonic()
+        self.assert_refused(["-"], "more than 131072 nodes", stdin="(" * deep + "A,B" + ")" * deep + ";(A,B);")
+        self.assert_refused(["-"], "( without its )", stdin="(" * 100_000 + ";")
+        self.assert_refused(["-"], "at least 65536 tips", stdin="(a," * deep + "b" + ")" * deep + ";(A,B);")
+        self.assertLess(time.monotonic() - start, 6 * SOON)
 
     def test_one_tip(self) -> None:
         for text in ("A;", "(A);", "(((A)x:1));"):
@@ -622,21 +540,21 @@ class Limits(ToolTest):
         for n, size in ((64, 1016), (65, 1032)):
             names = [f"n{i}" for i in range(n)]
             text = "".join(written_tree(rng, random_tree(rng, names, 0)) for _ in range(2))
-            done = self.run_tool("-", "--quiet", "-o", "pair.bin", stdin=text)
+            done = self.run_command("-", "--quiet", "-o", "pair.bin", stdin=text)
             self.assertEqual((done.returncode, (self.folder / "pair.bin").stat().st_size), (0, size))
-            shown = self.run_tool("--show", "pair.bin")
+            shown = self.run_command("pair.bin", command="show")
             self.assertEqual(shown.returncode, 0)
             for message in (done.stderr, shown.stderr):
                 self.assertEqual((message.count(b"\n"), b"note: 1032 bytes" in message), (size > 1016, size > 1016))
         names = [f"n{i}" for i in range(84)]
         text = written_tree(rng, random_tree(rng, names, 0)) + star_text(names)
-        self.assertEqual(len(self.run_tool("-", stdin=text).stdout), 8 + 4 * (166 + 85))
-        self.assertNotIn(b"note", self.run_tool("-", stdin=text).stderr)
+        self.assertEqual(len(self.run_command("-", stdin=text).stdout), 8 + 4 * (166 + 85))
+        self.assertNotIn(b"note", self.run_command("-", stdin=text).stderr)
 
 
-class RoundTrips(ToolTest):
+class RoundTrips(TableTest):
     def assert_round_trip(self, run: Run, trees: list[Tree], text: str, names: list[str], listed: bool) -> None:
-        """Two trees to a comparison file, to the texts of --show, and to a comparison file again."""
+        """Two trees to a comparison file, to the texts of show, and to a comparison file again."""
         arguments = ["--names", self.file("names", "\n".join(names))] if listed else ["--quiet"]
         order = names if listed else sorted(names, key=code_points)
         label = {name: i for i, name in enumerate(order)}
@@ -644,7 +562,7 @@ class RoundTrips(ToolTest):
         tables = self.converted(text, *arguments, run=run)
         self.assertEqual([table[1] for table in tables], [len(tree.joined) for tree in trees])
         self.assertEqual([table_splits(table) for table in tables], splits)
-        shown = run("--show", "-", stdin=packed(*tables))
+        shown = run("-", command="show", stdin=packed(*tables))
         self.assertEqual(shown.returncode, 0)
         texts = [line for line in shown.stdout.decode().split("\n") if line.startswith("(")]
         self.assertEqual([shown_splits(line, len(names)) for line in texts], splits)
@@ -660,7 +578,7 @@ class RoundTrips(ToolTest):
             trees = [random_tree(rng, names, rng.choice([0, 0.2, 0.5, 0.9])) for _ in range(2)]
             with self.subTest(case=case):
                 text = "".join(written_tree(rng, tree) for tree in trees)
-                run = self.run_tool if case < 4 else self.run_here
+                run = self.run_command if case < 4 else self.run_here
                 self.assert_round_trip(run, trees, text, names, listed=case % 2 == 0)
 
     def test_256_tips(self) -> None:
@@ -669,25 +587,25 @@ class RoundTrips(ToolTest):
             names = random_names(rng, 256)
             trees = [random_tree(rng, names, polytomies), caterpillar(names)]
             text = "".join(written_tree(rng, tree) for tree in trees)
-            self.assert_round_trip(self.run_tool, trees, text, names, listed=False)
+            self.assert_round_trip(self.run_command, trees, text, names, listed=False)
 
     def test_many_writings_of_one_tree(self) -> None:
-        """Without a process for each: the tree's splits whatever its writing, in the tool's own functions."""
+        """Without a process for each: the tree's splits whatever its writing, in the package's own functions."""
         rng = random.Random(11)
         for _ in range(300):
             names = random_names(rng, rng.randint(3, 24))
             tree = random_tree(rng, names, rng.random())
             label = {name: i for i, name in enumerate(names)}
-            source = NEWICK.Source("test", written_tree(rng, tree))
-            table = NEWICK.table_of(NEWICK.read_trees(source, 1)[0], label)
+            source = Source("test", written_tree(rng, tree))
+            table = table_of(read_trees(source, 1)[0], label)
             self.assertEqual((tree_refusal(table), table[1]), (0, len(tree.joined)), source.text)
             self.assertEqual(table_splits(table), tree.splits(label), source.text)
-            self.assertEqual(shown_splits(NEWICK.newick_text(table), len(names)), tree.splits(label))
+            self.assertEqual(shown_splits(newick_text(table), len(names)), tree.splits(label))
 
 
-class Show(ToolTest):
+class Show(TableTest):
     def shown(self, content: bytes, run: Run | None = None) -> tuple[int, str, str]:
-        done = (run or self.run_tool)("--show", self.file("pair.bin", content))
+        done = (run or self.run_here)(self.file("pair.bin", content), command="show")
         self.assertNotIn(b"Traceback", done.stderr)
         return done.returncode, done.stdout.decode(), done.stderr.decode()
 
@@ -697,7 +615,7 @@ class Show(ToolTest):
         lines = messages.split("\n")[:-1]
         self.assertEqual((status, len(lines)), (1, len(faults)), messages)
         for line, words in zip(lines, faults):
-            self.assertTrue(line.startswith("newick: pair.bin: "), line)
+            self.assertTrue(line.startswith("leskwyn: pair.bin: "), line)
             for word in words:
                 self.assertIn(word, line)
 
@@ -715,8 +633,23 @@ class Show(ToolTest):
         status, text, _ = self.shown(packed(TWO, TWO))
         self.assertEqual((status, text.count("(0,1);\n"), text.count("\n")), (0, 2, 8))
 
+    def test_names(self) -> None:
+        labels = "0\tAzores\n1\tCetti's warbler\n2\t2\n3\ta_b\n4\tx\\ny\n"
+        for content in (labels, "Azores\nCetti's warbler\n2\na_b\nx\\ny\n"):
+            self.file("names", content)
+            self.file("pair.bin", packed(P, Q))
+            done = self.run_here("pair.bin", "--names", "names", command="show")
+            name = "x\ny" if content == labels else "x\\ny"
+            self.assertEqual((done.returncode, done.stderr), (0, b""))
+            lines = done.stdout.decode()
+            self.assertIn(f"(Azores,'Cetti''s warbler',(2,('a_b','{name}')));\n", lines)
+            self.assertIn(f"(Azores,'Cetti''s warbler',(2,'a_b','{name}'));\n", lines)
+            self.assertIn("    2      1       1 Cetti's warbler\n    3      1   inner\n", lines)
+        done = self.run_here("pair.bin", "--names", self.file("names", "A\nB\n"), command="show")
+        self.assert_message(done, 1, "names: 2 names", "n = 5")
+
     def test_standard_input(self) -> None:
-        done = self.run_tool("--show", "-", stdin=packed(P, Q))
+        done = self.run_command("-", command="show", stdin=packed(P, Q))
         self.assertEqual((done.returncode, done.stdout.decode()), (0, self.shown(packed(P, Q))[1]))
 
     def test_each_rule(self) -> None:
@@ -730,8 +663,8 @@ class Show(ToolTest):
                                      (changed(16, 4), 6, "label 3"), (changed(16, X), 6, "label 3"),
                                      (changed(9, 6), 7, "node 5"), (changed(6, 2), 7, "node 2")):
             self.assertEqual(tree_refusal(table), number)
-            self.assert_faults(packed(table, Q), ["first tree", f"refused {number}: ", words], run=self.run_here)
-            self.assert_faults(packed(Q, table), ["second tree", f"refused {number}: ", words], run=self.run_here)
+            self.assert_faults(packed(table, Q), ["first tree", f"refused {number}: ", words])
+            self.assert_faults(packed(Q, table), ["second tree", f"refused {number}: ", words])
 
     def test_too_short(self) -> None:
         self.assert_faults(b"", ["first tree refused 1: too short"])
@@ -763,7 +696,7 @@ class Show(ToolTest):
         self.assertEqual(text.count("\n"), 1 + 8 + 1 + 1 + 7 + 1)
 
     def test_absent_file(self) -> None:
-        self.assert_message(self.run_tool("--show", "absent"), 1, "cannot read absent")
+        self.assert_message(self.run_command("absent", command="show"), 2, "cannot read absent")
 
     def test_random_bytes(self) -> None:
         rng = random.Random(13)
@@ -777,7 +710,7 @@ class Show(ToolTest):
             size = 2 + 2 * words[1] if len(words) > 1 else len(words)
             numbers = [tree_refusal(words[:size]), tree_refusal(words[size:])]
             fine = numbers == [0, 0] and len(content) % 2 == 0 and words[0] == words[size]
-            status, _, messages = self.shown(bytes(content), self.run_tool if case < 4 else self.run_here)
+            status, _, messages = self.shown(bytes(content), self.run_command if case < 4 else self.run_here)
             self.assertEqual(status, 0 if fine else 1)
             if numbers[0]:
                 self.assertIn(f"first tree refused {numbers[0]}: ", messages)
@@ -785,7 +718,7 @@ class Show(ToolTest):
                 self.assertIn(f"second tree refused {numbers[1]}: ", messages)
 
     def test_random_tables(self) -> None:
-        """The tool's own check beside the one written here."""
+        """The package's own check beside that of cases/tables.py."""
         rng, numbers = random.Random(17), set()
         for _ in range(4000):
             table = list(rng.choice([P, Q, R, W, TWO, THREE]))
@@ -794,7 +727,8 @@ class Show(ToolTest):
             table = table[:rng.choice([X] * 6 + [0, 1, 2, 5])] + [0] * (rng.random() < 0.05)
             number = tree_refusal(table)
             numbers.add(number)
-            self.assertEqual(NEWICK.table_refusal(table).split(":")[0], f"refused {number}" if number else "", table)
+            broken = broken_rule(table)
+            self.assertEqual(broken.number if broken else 0, number, table)
         self.assertEqual(numbers, set(range(8)))
 
 

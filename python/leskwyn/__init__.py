@@ -1,0 +1,27 @@
+"""Two population trees counted against each other, four populations at a time, by a library that is proved to count right.
+
+    >>> import leskwyn
+    >>> c = leskwyn.compare("(Azores,(Bute,Coll),Foula,(Lundy,Texel));", "(Azores,Bute,(Coll,Foula),(Lundy,Texel));")
+    >>> c.distance, c.sets_of_four, c.robinson_foulds
+    (7, 15, 2)
+
+compare(a, b)        the figures of two trees, a Comparison
+against(a, trees)    one tree against many, a list of them
+matrix(trees)        the distances of all pairs, a square of numbers
+
+A tree is Newick text, the path of a file, or a tree object of DendroPy or ETE. What is turned away is a Refusal, and what
+cannot be read a Trouble; both are a LeskwynError, with the fields number and reason. docs/COMMANDS.md has the commands
+(python3 -m leskwyn) and what the figures are called there.
+"""
+import sys
+
+__version__ = "0.2.0"
+
+# This file and __main__.py are written so that old Pythons can read them, and say a sentence.
+if sys.version_info >= (3, 10):
+    from leskwyn.api import against, compare, matrix
+    from leskwyn.errors import LeskwynError, Refusal, Trouble
+    from leskwyn.figures import Comparison
+    __all__ = ["Comparison", "LeskwynError", "Refusal", "Trouble", "against", "compare", "matrix"]
+elif sys.argv[:1] not in (["-m"], ["-c"]):
+    raise ImportError("leskwyn needs Python 3.10 or newer; this is Python %d.%d" % sys.version_info[:2])

@@ -1,0 +1,98 @@
+"""The proved library, called through ctypes. include/leskwyn.h says what each call promises.
+
+The library is the file that LESKWYN_LIBRARY names, else target/libleskwyn.so at the top of the checkout. ctypes lets go of
+the interpreter during a call, and calls that lend different work need no lock.
+"""
+import ctypes
+import functools
+import os
+import typing
+from collections.abc import Sequence
+
+from leskwyn.errors import Trouble
+
+TOP = os.path.dirname(os.path.dirname(os.path.dirname(os.path.abspath(__file__))))
+# LESKWYN_WORK_CELLS of the header: enough for every pair.
+WORK_CELLS = 259081
+Cells = ctypes.Array[ctypes.c_uint16]
+
+
+class ClaimSums(ctypes.Structure):
+    _fields_ = [("refusal", ctypes.c_uint16), *((name, ctypes.c_uint64) for name in ("first", "second", "same", "different"))]
+
+
+class QuartetTable(ctypes.Structure):
+    _fields_ = [("refusal", ctypes.c_uint16), *((name, ctypes.c_uint64) for name in ("a", "b", "c", "d", "e", "distance"))]
+
+
+class SplitCounts(ctypes.Structure):
+    _fields_ = [("refusal", ctypes.c_uint16), *((name, ctypes.c_uint64) for name in ("first", "second", "common", "distance"))]
+
+
+Answer = typing.TypeVar("Answer", ClaimSums, QuartetTable, SplitCounts)
+PAIR_CALLS = {"leskwyn_claim_sums": ClaimSums, "leskwyn_quartet_table": QuartetTable, "leskwyn_split_counts": SplitCounts}
+
+
+class Words(typing.NamedTuple):
+    """A table's words where the library can read them; there is a cell even where there is no word."""
+    cells: Cells
+    count: int
+
+
+def words(table: Sequence[int]) -> Words:
+    return Words((ctypes.c_uint16 * max(1, len(table)))(*table), len(table))
+
+
+def work_cells(first: Words, second: Words) -> int:
+    """(m - 1)(m' - 1). Two tables that would take more than any pair does are refused before the work is measured."""
+    edges = [max(1, table.cells[1]) - 1 if table.count > 1 else 0 for table in (first, second)]
+    return min(edges[0] * edges[1], WORK_CELLS)
+
+
+def work(cells: int) -> Cells:
+    """Cells to lend. The pointer must not be null, so there is always one."""
+    return (ctypes.c_uint16 * max(1, cells))()
+
+
+@functools.cache
+def library() -> ctypes.CDLL:
+    """The library, with the types of its calls."""
+    from leskwyn import __version__
+    path = os.environ.get("LESKWYN_LIBRARY") or os.path.join(TOP, "target", "libleskwyn.so")
+    if not os.path.isfile(path):
+        raise Trouble(f"there is no library {path}; bin/leskwyn proves and builds it on first use, and LESKWYN_LIBRARY may "
+                      "name another")
+    try:
+        found = ctypes.CDLL(os.path.abspath(path))
+        slices = [ctypes.POINTER(ctypes.c_uint16), ctypes.c_size_t] * 3
+        for name, answer in PAIR_CALLS.items():
+            call = getattr(found, name)
+            call.argtypes, call.restype = slices, answer
+        found.leskwyn_version.argtypes, found.leskwyn_version.restype = [], ctypes.c_uint32
+    except (OSError, AttributeError) as error:
+        raise Trouble(f"cannot load the library {path}: {error}") from None
+    held = found.leskwyn_version()
+    told = f"{held // 1000000}.{held // 1000 % 1000}.{held % 1000}"
+    if told != __version__:
+        raise Trouble(f"the library {path} is of version {told}, and this package of {__version__}: build the library again")
+    return found
+
+
+def ask(name: str, answer: type[Answer], first: Words, second: Words, lent: Cells) -> Answer:
+    call: typing.Callable[..., Answer] = getattr(library(), name)
+    return call(first.cells, first.count, second.cells, second.count, lent, len(lent))
+
+
+def claim_sums(first: Words, second: Words, lent: Cells) -> ClaimSums:
+    """The claim sums S, S', S2 and S3, or a refusal."""
+    return ask("leskwyn_claim_sums", ClaimSums, first, second, lent)
+
+
+def quartet_table(first: Words, second: Words, lent: Cells) -> QuartetTable:
+    """The five counts A to E and the distance, or a refusal."""
+    return ask("leskwyn_quartet_table", QuartetTable, first, second, lent)
+
+
+def split_counts(first: Words, second: Words, lent: Cells) -> SplitCounts:
+    """The splits of each tree, those of both, and the Robinson-Foulds distance, or a refusal."""
+    return ask("leskwyn_split_counts", SplitCounts, first, second, lent)

@@ -1,0 +1,106 @@
+"""What Python callers use: compare, against and matrix."""
+from collections.abc import Iterable, Sequence
+
+from leskwyn import _library, counting, files
+from leskwyn.counting import Number
+from leskwyn.errors import Refusal
+from leskwyn.figures import Comparison
+from leskwyn.sources import Given, is_comparison_file, named_file, trees_given, trees_of_bytes
+from leskwyn.tables import tables_of_file
+from leskwyn.trees import Placed, checked, labels_of_names, pruned, table_of
+
+
+def compare(a: Given, b: Given = None, *, common: bool = False) -> Comparison:
+    """The figures of two trees, as a Comparison.
+
+    Each of `a` and `b` is Newick text, the path of a Newick or NEXUS file (an os.PathLike, or a str that names a file that
+    is there), or a tree object of DendroPy or ETE. Without `b`, `a` holds both trees, or is the path of a comparison file.
+
+    The trees have 2 to 256 tips, with the same names. With `common` each is cut down to the names that both have. Where a
+    tree has its root plays no part, and neither do branch lengths.
+
+    Raises Refusal for trees that are turned away, and Trouble for a file that cannot be read; both have `number` and
+    `reason`.
+
+        >>> leskwyn.compare("((a,b),(c,d));", "((a,c),(b,d));").different
+        1
+    """
+    if b is not None:
+        return compare_trees(*trees_given(a, "the first tree", 1), *trees_given(b, "the second tree", 1), common)
+    path = named_file(a)
+    if path is None:
+        return compare_trees(*trees_given(a, "the text", 2), common)
+    content = files.read_bytes(path)
+    if is_comparison_file(content):
+        return compare_file(path, content)
+    return compare_trees(*trees_of_bytes(path, content, 2), common)
+
+
+def against(reference: Given, trees: Iterable[Given], *, common: bool = False, jobs: int | None = None) -> list[Comparison]:
+    """The figures of one tree against each of many, in their order; the reference is the first tree of each Comparison.
+
+    A tree is given as to compare; a file or a text may hold several. `jobs` is the number of threads, by default one for
+    each processor.
+    """
+    held = trees_given(reference, "the reference", 1) + all_trees(trees)
+    held, names = same_names(held, common)
+    labels = labels_of_names(names)
+    placed = [(tree.place, table_of(tree.tree, labels)) for tree in held]
+    return counting.compared_to_one(placed[0], placed[1:], names, threads(jobs))
+
+
+def matrix(trees: Iterable[Given], *, measure: str = "quartet", normalised: bool = False, common: bool = False,
+           jobs: int | None = None) -> list[list[Number]]:
+    """The distances of all pairs of trees: a square of numbers, row i and column j for the trees i and j.
+
+    A tree is given as to compare; a file or a text may hold several. `measure` is 'quartet' for the quartet distance or
+    'splits' for the Robinson-Foulds distance; with `normalised` it is divided by all sets of four, or by the splits of both
+    trees. `jobs` is the number of threads, by default one for each processor.
+
+        >>> leskwyn.matrix(["((a,b),(c,d));", "((a,c),(b,d));", "(a,b,c,d);"])
+        [[0, 1, 1], [1, 0, 1], [1, 1, 0]]
+    """
+    if measure not in counting.MEASURES:
+        raise ValueError(f"measure is {measure!r}, not one of {', '.join(map(repr, counting.MEASURES))}")
+    held, names = same_names(all_trees(trees), common)
+    labels = labels_of_names(names)
+    return counting.distances([table_of(tree.tree, labels) for tree in held], measure, normalised, threads(jobs))
+
+
+# ---- what these share with the commands
+
+def compare_trees(first: Placed, second: Placed, common: bool = False) -> Comparison:
+    (first, second), names = same_names([first, second], common)
+    labels = labels_of_names(names)
+    tables = [_library.words(table_of(placed.tree, labels)) for placed in (first, second)]
+    return counting.compared((first.place, second.place), tables[0], tables[1], names)
+
+
+def compare_file(place: str, content: bytes) -> Comparison:
+    """The figures of a comparison file of any length."""
+    first, second = tables_of_file(place, content)
+    try:
+        return counting.compared((f"{place}, first tree", f"{place}, second tree"), _library.words(first),
+                                 _library.words(second), ())
+    except Refusal as refusal:
+        raise Refusal(f"{place}: {refusal.reason}", refusal.number) from None
+
+
+def all_trees(trees: Iterable[Given]) -> list[Placed]:
+    if isinstance(trees, str) or named_file(trees) is not None:
+        trees = [trees]
+    return [placed for at, given in enumerate(trees, 1) for placed in trees_given(given, f"tree {at}", None)]
+
+
+def same_names(trees: Sequence[Placed], common: bool) -> tuple[list[Placed], list[str]]:
+    """The trees, cut down to the names that all have if that is wanted, and their sorted names."""
+    if not trees:
+        return [], []
+    held = pruned(trees).trees if common else list(trees)
+    return held, checked(held)
+
+
+def threads(jobs: int | None) -> int:
+    if jobs is not None and jobs < 1:
+        raise ValueError(f"jobs is {jobs}, not 1 or more")
+    return counting.default_jobs() if jobs is None else jobs

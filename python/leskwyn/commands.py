@@ -1,0 +1,221 @@
+"""The commands compare, matrix and against, and the way from the command line to each command.
+
+    leskwyn COMMAND [OPTION...] [FILE...]
+
+Exit status: 0 done; 1 the trees are refused; 2 wrong usage, a file that cannot be read or written, or no library.
+"""
+import os
+import sys
+
+from leskwyn import __version__, counting, files, text
+from leskwyn._library import TOP
+from leskwyn.api import compare_file, compare_trees
+from leskwyn.errors import LeskwynError, Refusal, Trouble
+from leskwyn.figures import Comparison
+from leskwyn.sources import is_comparison_file, trees_of_bytes, trees_of_path
+from leskwyn.trees import Placed, checked, labels_of_names, table_of
+from leskwyn.usage import Parser, ProgressLine, Usage, add_common, add_jobs, with_common
+
+HELP = """\
+usage: leskwyn COMMAND [OPTION...] [FILE...]
+
+Counts population trees against each other, four populations at a time, by a library that is proved to count right.
+
+  leskwyn                          compares the two example trees
+  leskwyn compare A B              two trees: what they part alike and differently, the distances
+  leskwyn against REF FILE...      one tree against many, a row for each
+  leskwyn matrix FILE...           all pairs of trees, a square of distances
+  leskwyn table A B -o PAIR        two trees as one comparison file
+  leskwyn show PAIR                a comparison file as tables and trees
+  leskwyn --help, --version        this text; the version
+
+Each command has its own --help. Trees are Newick text, with 2 to 256 tips; - stands for standard input.
+
+exit status: 0 done; 1 the trees are refused; 2 wrong usage, a file that cannot be read or written, or no library
+"""
+EXAMPLES = ("examples/feathers.nwk", "examples/wings.nwk")
+INTERRUPTED = 130
+STATUS = """
+exit status: 0 done; 1 refused; 2 wrong usage, a file that cannot be read or written, or no library"""
+
+
+# ---- compare
+
+def compare_parser() -> Parser:
+    parser = Parser("compare", usage="leskwyn compare [A [B]] [--format text|tsv|json | --listing] [--common] [--tables]",
+                    description="Compares two trees: each in a Newick file, both in one, or as one comparison file.",
+                    epilog="Without a file the two example trees are compared. docs/COMMANDS.md has the keys of tsv and json.\n"
+                           + STATUS)
+    parser.add_argument("trees", nargs="*", metavar="FILE", help="Newick or comparison files; - is standard input")
+    forms = parser.add_mutually_exclusive_group()
+    forms.add_argument("--format", choices=["text", "tsv", "json"], default="text", help="for people, or for programs")
+    forms.add_argument("--listing", dest="format", action="store_const", const="listing",
+                       help="the five lines of the proved program compare, or 'refused N'")
+    add_common(parser)
+    parser.add_argument("--tables", action="store_true", help="take the one file for a comparison file, whatever its bytes")
+    return parser
+
+
+def example_trees() -> Comparison:
+    paths = [os.path.join(TOP, name) for name in EXAMPLES]
+    if not all(map(os.path.isfile, paths)):
+        raise Trouble(f"the example trees {' and '.join(EXAMPLES)} are not in {TOP}: name two files")
+    files.say_line(f"these are the example trees {' and '.join(EXAMPLES)}; `leskwyn compare A B` compares your own")
+    trees = [Placed(name, placed.tree) for name, path in zip(EXAMPLES, paths) for placed in trees_of_path(path, 1)]
+    return compare_trees(*trees)
+
+
+def one_file(parser: Parser, path: str, common: bool, tables: bool) -> Comparison:
+    """The figures of a file that holds both trees."""
+    place, content = files.shown_path(path), files.read_bytes(path)
+    if not tables and not is_comparison_file(content):
+        return compare_trees(*with_common(trees_of_bytes(place, content, 2), common))
+    if common:
+        parser.error("--common goes by names, and a comparison file has none")
+    return compare_file(place, content)
+
+
+def two_files(paths: list[str], common: bool) -> Comparison:
+    trees = [placed for path in paths for placed in trees_of_path(path, 1)]
+    return compare_trees(*with_common(trees, common))
+
+
+def compare_command(arguments: list[str]) -> int:
+    parser = compare_parser()
+    options = parser.parsed(arguments, "trees")
+    if len(options.trees) > 2 or options.tables and len(options.trees) != 1:
+        parser.error(f"{len(options.trees)} files; " + ("one comparison file is needed" if options.tables else
+                                                        "one or two are needed (leskwyn matrix takes more)"))
+    try:
+        if len(options.trees) == 1:
+            found = one_file(parser, options.trees[0], options.common, options.tables)
+        else:
+            found = two_files(options.trees, options.common) if options.trees else example_trees()
+    except Refusal as refusal:
+        if options.format == "listing" and refusal.number is not None:
+            files.print_text(f"refused {refusal.number}\n")
+        raise
+    files.print_text(text.FORMATS[options.format]([found]))
+    return 0
+
+
+# ---- many trees
+
+def read_all(paths: list[str]) -> list[Placed]:
+    return [placed for path in paths for placed in trees_of_path(path, None)]
+
+
+def told_apart(places: list[str]) -> list[str]:
+    """The places, with a number where one stands again."""
+    seen: dict[str, int] = {}
+    for at, place in enumerate(places):
+        seen[place] = seen.get(place, 0) + 1
+        places[at] = place if seen[place] == 1 else f"{place}({seen[place]})"
+    return places
+
+
+def matrix_parser() -> Parser:
+    parser = Parser("matrix", usage="leskwyn matrix FILE... [--measure quartet|splits] [--normalised] [--format tsv|phylip] "
+                                    "[--jobs N] [--common]",
+                    description="Compares all pairs of trees; a file may hold several.",
+                    epilog="A tree is told by its file, and as FILE#K where a file holds several.\n" + STATUS)
+    parser.add_argument("trees", nargs="*", metavar="FILE", help="Newick files; - is standard input")
+    parser.add_argument("--measure", choices=sorted(counting.MEASURES), default="quartet",
+                        help="the quartet distance, or the Robinson-Foulds distance of splits")
+    parser.add_argument("--normalised", action="store_true", help="over all sets of four, or over the splits of both trees")
+    parser.add_argument("--format", choices=sorted(text.SQUARES), default="tsv", help="a table, or PHYLIP's square")
+    add_jobs(parser)
+    add_common(parser)
+    return parser
+
+
+def matrix_command(arguments: list[str]) -> int:
+    parser = matrix_parser()
+    options = parser.parsed(arguments, "trees")
+    if not options.trees:
+        parser.error("no files; one or more are needed")
+    trees = with_common(read_all(options.trees), options.common)
+    labels = labels_of_names(checked(trees))
+    tables = [table_of(placed.tree, labels) for placed in trees]
+    with ProgressLine(len(trees) * (len(trees) - 1) // 2) as progress:
+        square = counting.distances(tables, options.measure, options.normalised, options.jobs or counting.default_jobs(),
+                                    progress)
+    files.print_text(text.SQUARES[options.format](told_apart([placed.place for placed in trees]), square))
+    return 0
+
+
+def against_parser() -> Parser:
+    parser = Parser("against", usage="leskwyn against REF FILE... [--format tsv|json] [--jobs N] [--common]",
+                    description="Compares one tree with each of many; a file may hold several, but REF holds one.",
+                    epilog="REF is the first tree of each row. docs/COMMANDS.md has the keys of tsv and json.\n" + STATUS)
+    parser.add_argument("trees", nargs="*", metavar="FILE", help="REF, then Newick files; - is standard input")
+    parser.add_argument("--format", choices=["tsv", "json"], default="tsv", help="rows, or an object on each line")
+    add_jobs(parser)
+    add_common(parser)
+    return parser
+
+
+def against_command(arguments: list[str]) -> int:
+    parser = against_parser()
+    options = parser.parsed(arguments, "trees")
+    if len(options.trees) < 2:
+        parser.error("REF and one file or more are needed")
+    trees = with_common(trees_of_path(options.trees[0], 1) + read_all(options.trees[1:]), options.common)
+    names = checked(trees)
+    labels = labels_of_names(names)
+    tables = [(placed.place, table_of(placed.tree, labels)) for placed in trees]
+    with ProgressLine(len(trees) - 1) as progress:
+        rows = counting.compared_to_one(tables[0], tables[1:], names, options.jobs or counting.default_jobs(), progress)
+    files.print_text(text.FORMATS[options.format](rows))
+    return 0
+
+
+# ---- the command line
+
+def table_command(arguments: list[str]) -> int:
+    from leskwyn.tabling import table_command
+    return table_command(arguments)
+
+
+def show_command(arguments: list[str]) -> int:
+    from leskwyn.tabling import show_command
+    return show_command(arguments)
+
+
+COMMANDS = {"compare": compare_command, "matrix": matrix_command, "against": against_command, "table": table_command,
+            "show": show_command}
+
+
+def dispatched(arguments: list[str]) -> int:
+    """Runs the command; the exit status."""
+    command, rest = (arguments[0], arguments[1:]) if arguments else ("compare", [])
+    if command in ("-h", "--help"):
+        files.print_text(HELP)
+    elif command == "--version":
+        files.print_text(f"leskwyn (Leskwyn) {__version__}\n")
+    elif command in COMMANDS:
+        return COMMANDS[command](rest)
+    else:
+        raise Usage(f"no command '{command}'; the commands are {', '.join(COMMANDS)} (leskwyn --help tells the usage)")
+    return 0
+
+
+def main(arguments: list[str]) -> int:
+    try:
+        return dispatched(arguments)
+    except Usage as usage:
+        files.say_line(str(usage))
+        return 2
+    except LeskwynError as error:
+        files.say_line(str(error))
+        return error.status
+    except KeyboardInterrupt:
+        files.say_line("interrupted")
+        return INTERRUPTED
+
+
+def run() -> None:
+    """The command as a program."""
+    if sys.stderr is not None:
+        sys.stderr.reconfigure(encoding="utf-8", errors="backslashreplace", newline="\n")
+    sys.exit(main(sys.argv[1:]))

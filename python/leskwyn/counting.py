@@ -1,0 +1,122 @@
+"""Tables counted against each other by the library: one pair, or many pairs on several threads."""
+import os
+import typing
+from collections.abc import Callable, Sequence
+from math import comb
+
+from leskwyn import _library
+from leskwyn._library import Cells, Words
+from leskwyn.figures import Comparison, normalised
+from leskwyn.tables import pair_refusal
+from leskwyn.trees import Table
+
+Number = typing.Union[int, float]
+# Is told how many pairs are done, from the thread that waits for them.
+Progress = Callable[[int], None]
+Done = typing.TypeVar("Done")
+
+
+def refused(number: int, first: Words, second: Words) -> None:
+    """Raises the refusal that the library tells, with its reason."""
+    if number:
+        raise pair_refusal(number, list(first.cells[:first.count]), list(second.cells[:second.count]))
+
+
+def compared(places: tuple[str, str], first: Words, second: Words, names: Sequence[str]) -> Comparison:
+    """All figures of a pair. `places` tells where the trees come from."""
+    lent = _library.work(_library.work_cells(first, second))
+    quartets = _library.quartet_table(first, second, lent)
+    refused(quartets.refusal, first, second)
+    claims = _library.claim_sums(first, second, lent)
+    splits = _library.split_counts(first, second, lent)
+    return Comparison(
+        first=places[0], second=places[1], tips=first.cells[0], names=tuple(names),
+        same=quartets.a, different=quartets.b, first_only=quartets.c, second_only=quartets.d, neither=quartets.e,
+        distance=quartets.distance, first_splits=splits.first, second_splits=splits.second, common_splits=splits.common,
+        robinson_foulds=splits.distance, first_claims=claims.first, second_claims=claims.second, same_claims=claims.same,
+        different_claims=claims.different)
+
+
+# ---- one distance
+
+def quartet_distance(first: Words, second: Words, lent: Cells, over_all: bool) -> Number:
+    table = _library.quartet_table(first, second, lent)
+    refused(table.refusal, first, second)
+    return normalised(table.distance, comb(first.cells[0], 4)) if over_all else table.distance
+
+
+def splits_distance(first: Words, second: Words, lent: Cells, over_all: bool) -> Number:
+    counts = _library.split_counts(first, second, lent)
+    refused(counts.refusal, first, second)
+    return normalised(counts.distance, counts.first + counts.second) if over_all else counts.distance
+
+
+MEASURES = {"quartet": quartet_distance, "splits": splits_distance}
+
+
+# ---- many pairs
+
+def default_jobs() -> int:
+    """As many threads as there are processors for this process."""
+    return len(os.sched_getaffinity(0)) if hasattr(os, "sched_getaffinity") else os.cpu_count() or 1
+
+
+def done_in_turn(tasks: Sequence[tuple[int, Callable[[], Done]]], jobs: int, progress: Progress | None) -> list[Done]:
+    """The answers of tasks, in their order. Each task comes with the number of its pairs; `jobs` run at once."""
+    tell = progress or (lambda pairs: None)
+    if jobs == 1 or len(tasks) < 2:
+        found, pairs = [], 0
+        for size, task in tasks:
+            found.append(task())
+            pairs += size
+            tell(pairs)
+        return found
+    return done_by_threads(tasks, jobs, tell)
+
+
+def done_by_threads(tasks: Sequence[tuple[int, Callable[[], Done]]], jobs: int, tell: Progress) -> list[Done]:
+    from concurrent.futures import ThreadPoolExecutor, as_completed
+    pool = ThreadPoolExecutor(min(jobs, len(tasks)))
+    try:
+        waiting = {pool.submit(task): size for size, task in tasks}
+        pairs = 0
+        for future in as_completed(waiting):
+            future.result()
+            pairs += waiting[future]
+            tell(pairs)
+        return [future.result() for future in waiting]
+    finally:
+        pool.shutdown(cancel_futures=True)
+
+
+def distances(tables: Sequence[Table], measure: str, over_all: bool, jobs: int,
+              progress: Progress | None = None) -> list[list[Number]]:
+    """The square of distances: symmetric, with 0 on the diagonal. A row's pairs after the diagonal are one task."""
+    held = [_library.words(table) for table in tables]
+    distance, zero = MEASURES[measure], 0.0 if over_all else 0
+    most = max((table[1] for table in tables), default=1)
+
+    def row(at: int) -> list[Number]:
+        lent = _library.work((tables[at][1] - 1) * (most - 1))
+        return [distance(held[at], other, lent, over_all) for other in held[at + 1:]]
+
+    def task(at: int) -> tuple[int, Callable[[], list[Number]]]:
+        return len(held) - 1 - at, lambda: row(at)
+
+    rows = done_in_turn([task(at) for at in range(len(held))], jobs, progress)
+    square: list[list[Number]] = [[zero] * len(held) for _ in held]
+    for i, later in enumerate(rows):
+        for j, number in enumerate(later, i + 1):
+            square[i][j] = square[j][i] = number
+    return square
+
+
+def compared_to_one(reference: tuple[str, Table], others: Sequence[tuple[str, Table]], names: Sequence[str], jobs: int,
+                    progress: Progress | None = None) -> list[Comparison]:
+    """The figures of one tree against each of the others, each with its place."""
+    first = _library.words(reference[1])
+
+    def task(place: str, table: Table) -> tuple[int, Callable[[], Comparison]]:
+        return 1, lambda: compared((reference[0], place), first, _library.words(table), names)
+
+    return done_in_turn([task(place, table) for place, table in others], jobs, progress)

@@ -1,0 +1,89 @@
+"""The figures of two trees."""
+import dataclasses
+import typing
+from math import comb
+
+
+@dataclasses.dataclass(frozen=True)
+class Comparison:
+    """Two trees on the same tips, counted against each other by every set of four tips.
+
+    A tree parts four tips two and two if one of its edges has two of them on each side; else it leaves them open. The letters
+    are those of the field.
+
+    first, second          where the trees come from, in words
+    tips                   n, how many populations the trees have
+    same                   A: sets of four that both trees part in the same way
+    different              B: that the two trees part in different ways
+    first_only             C: that only the first tree parts
+    second_only            D: that only the second tree parts
+    neither                E: that both trees leave open
+    distance               the quartet distance, B + C + D
+    first_splits           edges of the first tree with two tips or more on each side
+    second_splits          those of the second tree
+    common_splits          those of both
+    robinson_foulds        those of one tree only: first + second - 2 common
+    first_claims           S, twice the sets of four that the first tree parts
+    second_claims          S', twice those that the second tree parts
+    same_claims            S2 = 2 A
+    different_claims       S3 = 4 B
+    names                  the tips' names in the order of their labels; empty for a comparison file, which has none
+
+    sets_of_four, normalised_distance and normalised_robinson_foulds follow from these.
+    """
+
+    first: str
+    second: str
+    tips: int
+    same: int
+    different: int
+    first_only: int
+    second_only: int
+    neither: int
+    distance: int
+    first_splits: int
+    second_splits: int
+    common_splits: int
+    robinson_foulds: int
+    first_claims: int
+    second_claims: int
+    same_claims: int
+    different_claims: int
+    names: tuple[str, ...] = dataclasses.field(default=(), repr=False)
+
+    @property
+    def sets_of_four(self) -> int:
+        """All sets of four tips: A + B + C + D + E."""
+        return comb(self.tips, 4)
+
+    @property
+    def normalised_distance(self) -> float:
+        """The distance over all sets of four, from 0 to 1; 0.0 where there is no set of four."""
+        return normalised(self.distance, self.sets_of_four)
+
+    @property
+    def normalised_robinson_foulds(self) -> float:
+        """The Robinson-Foulds distance over the splits of both trees, from 0 to 1; 0.0 where neither has a split."""
+        return normalised(self.robinson_foulds, self.first_splits + self.second_splits)
+
+    def listing(self) -> str:
+        """The five lines that the proved program compare prints."""
+        return (f"leaves {self.tips}\n"
+                f"claims {self.first_claims} {self.second_claims} {self.same_claims} {self.different_claims}\n"
+                f"quartets {self.same} {self.different} {self.first_only} {self.second_only} {self.neither}\n"
+                f"distance {self.distance}\n"
+                f"splits {self.first_splits} {self.second_splits} {self.common_splits} {self.robinson_foulds}\n")
+
+    def as_dict(self) -> dict[str, typing.Any]:
+        """All figures under their names, in the order of the TSV columns, and the names of the tips as a list."""
+        return {**{column: getattr(self, column) for column in COLUMNS}, "names": list(self.names)}
+
+
+def normalised(part: int, whole: int) -> float:
+    """The part over the whole; 0.0 where there is no whole, and so nothing that differs."""
+    return part / whole if whole else 0.0
+
+
+COLUMNS = ("first", "second", "tips", "sets_of_four", "same", "different", "first_only", "second_only", "neither", "distance",
+           "normalised_distance", "first_splits", "second_splits", "common_splits", "robinson_foulds",
+           "normalised_robinson_foulds", "first_claims", "second_claims", "same_claims", "different_claims")

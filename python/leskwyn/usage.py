@@ -1,0 +1,95 @@
+"""What the commands share: the parser, options that several have, and trees read with what --common leaves out."""
+import argparse
+import sys
+import time
+import typing
+from collections.abc import Sequence
+
+from leskwyn import __version__, files
+from leskwyn.counting import Progress
+from leskwyn.errors import quoted
+from leskwyn.trees import Placed, pruned
+
+# How long work runs before a terminal sees how far it is, and how often it does, in seconds.
+SHOWN_AFTER, SHOWN_EVERY = 1.0, 0.2
+
+
+class Usage(Exception):
+    """A command line that is not understood, in words."""
+
+
+class Parser(argparse.ArgumentParser):
+    """A parser that prints as the commands do, and takes what follows -- for a file even if it starts with -."""
+
+    def __init__(self, command: str, **described: typing.Any) -> None:
+        super().__init__(prog=f"leskwyn {command}".rstrip(), allow_abbrev=False,
+                         formatter_class=argparse.RawDescriptionHelpFormatter, **described)
+        self.add_argument("--version", action="version", version=f"leskwyn (Leskwyn) {__version__}",
+                          help="print the version of Leskwyn")
+
+    def error(self, message: str) -> typing.NoReturn:
+        raise Usage(f"{message} ({self.prog} --help tells the usage)")
+
+    def _print_message(self, message: str, file: typing.Any = None) -> None:
+        files.print_text(message)
+
+    def parsed(self, arguments: list[str], names: str) -> argparse.Namespace:
+        """The options; `names` is the argument that takes files."""
+        end = arguments.index("--") if "--" in arguments else len(arguments)
+        options = self.parse_intermixed_args(arguments[:end])
+        found = getattr(options, names) + arguments[end + 1:]
+        if "" in found:
+            self.error("an empty file name")
+        if found.count("-") > 1:
+            self.error("standard input can be read only once")
+        setattr(options, names, found)
+        return options
+
+
+def add_common(parser: Parser) -> None:
+    parser.add_argument("--common", action="store_true", help="leave out the tips that not all trees have, and list them on "
+                                                              "standard error")
+
+
+def jobs(text: str) -> int:
+    if not text.isascii() or not text.isdigit() or not 1 <= int(text) <= 1024:
+        raise argparse.ArgumentTypeError(f"{quoted(text)} is not a number of threads from 1 to 1024")
+    return int(text)
+
+
+def add_jobs(parser: Parser) -> None:
+    parser.add_argument("--jobs", type=jobs, metavar="N", help="threads; by default one for each processor")
+
+
+def with_common(trees: Sequence[Placed], common: bool) -> list[Placed]:
+    """The trees, cut down if that is wanted; standard error tells what was left out."""
+    if not common:
+        return list(trees)
+    cut = pruned(trees)
+    for placed, names in zip(trees, cut.left_out):
+        if names:
+            files.say_line(f"left out of {placed.place}: {', '.join(map(quoted, names))}")
+    if cut.hint:
+        files.say_line(f"note: {cut.hint}")
+    return cut.trees
+
+
+class ProgressLine:
+    """A line on standard error that tells how many pairs are done, where that is a terminal and the work long."""
+
+    def __init__(self, pairs: int) -> None:
+        self.pairs = pairs
+        self.next = time.monotonic() + SHOWN_AFTER
+        self.shown = False
+
+    def __enter__(self) -> Progress | None:
+        return self.tell if sys.stderr is not None and sys.stderr.isatty() else None
+
+    def tell(self, done: int) -> None:
+        if time.monotonic() >= self.next:
+            files.say(f"\rleskwyn: {done} of {self.pairs} pairs")
+            self.next, self.shown = time.monotonic() + SHOWN_EVERY, True
+
+    def __exit__(self, *_: object) -> None:
+        if self.shown:
+            files.say("\r\x1b[K")

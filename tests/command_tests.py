@@ -1,0 +1,447 @@
+#!/usr/bin/env python3
+"""Tests of the commands compare, matrix and against, of docs/COMMANDS.md, and of what the commands say where things fail.
+
+    python3 tests/command_tests.py
+
+Needs target/libleskwyn.so, or what LESKWYN_LIBRARY names. The figures of the examples are worked out by hand in README.md; the
+examples of the pages are run.
+"""
+import contextlib
+import doctest
+import io
+import itertools
+import json
+import os
+import pathlib
+import re
+import shlex
+import signal
+import subprocess
+import sys
+import tempfile
+import time
+import unittest
+import unittest.mock
+
+sys.dont_write_bytecode = True
+from command_runs import ENVIRONMENT, LESKWYN, ROOT, CommandTest, Done, inside
+from cases.newick import star_text
+from cases.pairs import pair_refusal, split_counts
+from cases.shapes import balanced, caterpillar
+from cases.tables import P, Q, THREE, W, damaged
+
+import leskwyn
+from leskwyn import usage
+from leskwyn.figures import COLUMNS
+from leskwyn.tables import newick_text
+
+FEATHERS, WINGS = "(Azores,(Bute,Coll),Foula,(Lundy,Texel));\n", "(Azores,Bute,(Coll,Foula),(Lundy,Texel));\n"
+# README.md, 'What the figures mean', by hand.
+LISTING = b"leaves 6\nclaims 22 22 12 12\nquartets 6 3 2 2 2\ndistance 7\nsplits 2 2 1 2\n"
+FIGURES = {"tips": 6, "sets_of_four": 15, "same": 6, "different": 3, "first_only": 2, "second_only": 2, "neither": 2,
+           "distance": 7, "normalised_distance": 7 / 15, "first_splits": 2, "second_splits": 2, "common_splits": 1,
+           "robinson_foulds": 2, "normalised_robinson_foulds": 2 / 4, "first_claims": 22, "second_claims": 22,
+           "same_claims": 12, "different_claims": 12}
+
+
+def packed(*tables: list[int]) -> bytes:
+    return b"".join(word.to_bytes(2, "little") for table in tables for word in table)
+
+
+def run_leskwyn(*arguments: str, **options: object) -> Done:
+    settings = {"capture_output": True, "env": ENVIRONMENT, "timeout": 20, "cwd": ROOT, **options}
+    return subprocess.run([*LESKWYN, *arguments], **settings)
+
+
+class TreesTest(CommandTest):
+    def setUp(self) -> None:
+        super().setUp()
+        self.file("feathers.nwk", FEATHERS)
+        self.file("wings.nwk", WINGS)
+        self.file("both.nwk", FEATHERS + WINGS)
+
+    def here(self, command: str, *arguments: str, stdin: bytes | str = b"") -> Done:
+        return self.run_here(*arguments, command=command, stdin=stdin)
+
+    def figures(self, *arguments: str, stdin: bytes | str = b"") -> dict[str, object]:
+        done = self.here("compare", *arguments, "--format", "json", stdin=stdin)
+        self.assertEqual((done.returncode, done.stdout.count(b"\n")), (0, 1), done)
+        return json.loads(done.stdout)
+
+
+class Compare(TreesTest):
+    def test_every_way_of_giving_two_trees(self) -> None:
+        for arguments, stdin in ((["feathers.nwk", "wings.nwk"], ""), (["both.nwk"], ""), (["-"], FEATHERS + WINGS),
+                                 (["-", "wings.nwk"], FEATHERS), (["feathers.nwk", "-"], WINGS),
+                                 (["--", "feathers.nwk", "wings.nwk"], ""), (["feathers.nwk", "--common", "wings.nwk"], "")):
+            done = self.here("compare", "--listing", *arguments, stdin=stdin)
+            self.assertEqual((done.returncode, done.stdout, done.stderr), (0, LISTING, b""), arguments)
+
+    def test_a_comparison_file(self) -> None:
+        self.assertEqual(self.here("table", "both.nwk", "-o", "pair.bin", "--quiet").returncode, 0)
+        content = (self.folder / "pair.bin").read_bytes()
+        for arguments, stdin in ((["pair.bin"], b""), (["-"], content), (["pair.bin", "--tables"], b"")):
+            done = self.here("compare", *arguments, "--listing", stdin=stdin)
+            self.assertEqual((done.returncode, done.stdout, done.stderr), (0, LISTING, b""))
+        self.assertEqual(self.figures("pair.bin") | FIGURES, self.figures("pair.bin"))
+        self.assertEqual(self.figures("pair.bin")["names"], [])
+
+    def test_text(self) -> None:
+        done = self.here("compare", "feathers.nwk", "wings.nwk")
+        self.assertEqual((done.returncode, done.stderr), (0, b""))
+        lines = [" ".join(line.split()) for line in done.stdout.decode().split("\n")]
+        for line in ("first tree: feathers.nwk", "second tree: wings.nwk", "populations 6", "sets of four 15",
+                     "A parted alike by both trees 6 40.0 %", "B parted differently 3 20.0 %",
+                     "C parted by the first tree only 2 13.3 %", "D parted by the second tree only 2 13.3 %",
+                     "E left open by both trees 2 13.3 %", "distance 7 B + C + D",
+                     "normalised distance 0.4667 distance / sets of four", "splits of the first tree 2",
+                     "splits of the second tree 2", "splits of both 1", "Robinson-Foulds distance 2 splits of one tree only",
+                     "normalised Robinson-Foulds 0.5000 distance / splits of the first and the second"):
+            self.assertIn(line, lines)
+
+    def test_text_without_sets_of_four(self) -> None:
+        done = self.here("compare", "-", stdin="(A,B);(A,B);")
+        text = " ".join(done.stdout.decode().split())
+        self.assertIn("normalised distance 0.0000 there are no sets of four", text)
+        self.assertIn("normalised Robinson-Foulds 0.0000 neither tree has a split", text)
+        self.assertIn("A parted alike by both trees 0 none", text)
+
+    def test_json_and_tsv(self) -> None:
+        told = self.figures("feathers.nwk", "wings.nwk")
+        names = ["Azores", "Bute", "Coll", "Foula", "Lundy", "Texel"]
+        self.assertEqual(told, {"first": "feathers.nwk", "second": "wings.nwk", **FIGURES, "names": names})
+        self.assertEqual(list(told), [*COLUMNS, "names"])
+        done = self.here("compare", "both.nwk", "--format", "tsv")
+        header, row = done.stdout.decode().removesuffix("\n").split("\n")
+        fields = dict(zip(header.split("\t"), row.split("\t"), strict=True))
+        self.assertEqual(fields, {"first": "both.nwk, first tree", "second": "both.nwk, second tree",
+                                  **{key: str(value) for key, value in FIGURES.items()}})
+
+    def test_example(self) -> None:
+        for arguments in ([], ["compare"]):
+            done = run_leskwyn(*arguments, cwd=self.folder)
+            self.assertEqual((done.returncode, done.stderr.count(b"\n")), (0, 1))
+            self.assertIn(b"these are the example trees examples/feathers.nwk and examples/wings.nwk", done.stderr)
+            self.assertIn(b"first tree: examples/feathers.nwk\n", done.stdout)
+        self.assertEqual(self.here("compare", "--listing").stdout, LISTING)
+
+    def test_windows_line_ends_and_marks(self) -> None:
+        text = (FEATHERS + WINGS).replace("\n", "\r\n").replace(",", " ,\r\n\t")
+        for content in (text.encode(), b"\xef\xbb\xbf" + text.encode(), text.encode("utf-16")):
+            self.assertEqual(self.here("compare", self.file("w.nwk", content), "--listing").stdout, LISTING)
+
+    def test_256_tips_soon(self) -> None:
+        """Any size goes through the library: 255 * 2 - 1 edges of each tree."""
+        names = [f"t{i:03}" for i in range(256)]
+        first, second = balanced(256), caterpillar(256)
+        self.file("large.nwk", newick_text(first, names) + newick_text(second, names))
+        start = time.monotonic()
+        done = run_leskwyn("compare", str(self.folder / "large.nwk"), "--format", "json")
+        self.assertLess(time.monotonic() - start, 3)
+        told = json.loads(done.stdout)
+        self.assertEqual([told[key] for key in ("same", "different", "first_only", "second_only", "neither")],
+                         [told["sets_of_four"] - told["different"], told["different"], 0, 0, 0])
+        self.assertEqual([told[key] for key in ("first_splits", "second_splits", "common_splits", "robinson_foulds")],
+                         split_counts(first, second))
+
+    def test_common(self) -> None:
+        self.file("more.nwk", "((Azores,Zeist),Bute,(Coll,(Foula,'Y e')),(Lundy,Texel));")
+        done = self.here("compare", "feathers.nwk", "more.nwk", "--common", "--listing")
+        self.assertEqual((done.returncode, done.stdout), (0, LISTING))
+        self.assertEqual(done.stderr.decode(), "leskwyn: left out of more.nwk: 'Y e', 'Zeist'\n")
+        done = self.here("compare", "feathers.nwk", "more.nwk")
+        self.assert_message(done, 1, "different tips", "only more.nwk has 'Y e', 'Zeist'", "--common")
+        many = star_text(["Azores", *(f"x{i:02}" for i in range(24))])
+        done = self.here("compare", "feathers.nwk", "-", stdin=many)
+        self.assert_message(done, 1, "only feathers.nwk has 'Bute', 'Coll', 'Foula', 'Lundy', 'Texel';",
+                            "only standard input has 'x00', ", "'x19' and 4 more;")
+        self.assert_message(self.here("compare", "feathers.nwk", "-", "--common", stdin=many), 1, "share 1 name")
+        self.assert_message(self.here("compare", "-", "--common", stdin=packed(P, Q)), 2, "a comparison file has none")
+
+    def test_unicode_forms_left_out(self) -> None:
+        done = self.here("compare", "-", "--common", "--listing", stdin="(M\u00f6we,B,C);(Mo\u0308we,B,C);")
+        self.assertEqual(done.returncode, 0)
+        self.assertIn("'M\u00f6we' differs only in Unicode form", done.stderr.decode())
+
+
+class Refusals(TreesTest):
+    """Every number of a comparison file is told in words."""
+
+    def refused(self, content: bytes, number: int, *words: str) -> None:
+        for arguments in (["--tables"], ["--tables", "--format", "json"]):
+            done = self.here("compare", "-", *arguments, stdin=content)
+            self.assert_message(done, 1, f"leskwyn: refused {number}: standard input: ", *words)
+        done = self.here("compare", "-", "--tables", "--listing", stdin=content)
+        self.assertEqual((done.returncode, done.stdout), (1, b"refused %d\n" % number))
+        self.assertIn(f"refused {number}: ", done.stderr.decode())
+
+    def test_every_number(self) -> None:
+        def changed(at: int, word: int) -> list[int]:
+            return P[:at] + [word] + P[at + 1:]
+        self.refused(b"", 1, "first tree", "too short: 0 of the 2 words")
+        self.refused(packed(P), 101, "second tree", "too short", "make it again")
+        self.refused(packed(P[:-3]), 4, "first tree", "words missing: 3", "make the file again")
+        self.refused(packed(P, Q, [7, 7]), 104, "second tree", "words left over: 2", "make the file again")
+        for table, number, words in ((changed(0, 257), 2, ["n is 257", "too small or too large"]),
+                                     (changed(0, 9), 3, ["m is 8, not 9 to 16", "count them again"]),
+                                     (changed(5, 3), 5, ["the parent of node 3 is 3, not 1 to 2", "after its parent"]),
+                                     (changed(16, 5), 6, ["the label of node 6 is 5", "population"]),
+                                     (changed(16, 4), 6, ["label 3 stands 0 times"]),
+                                     (changed(9, 6), 7, ["inner node 5 has 1", "take out inner nodes"]),
+                                     (changed(6, 2), 7, ["node 2 is a tip and has a child"])):
+            self.refused(packed(table, Q), number, "first tree", *words)
+            self.refused(packed(Q, table), 100 + number, "second tree", *words, "word 1")
+        self.refused(packed(P, THREE), 8, "the first tree has 5 tips, the second 3", "take the populations out")
+        self.refused(packed(P, Q) + b"\0", 15, "odd number of bytes", "make it again")
+
+    def test_damaged_tables(self) -> None:
+        for t, u in itertools.chain(((t, list(W)) for t in damaged(P)), ((list(P), t) for t in damaged(W))):
+            words = t + u
+            size = 2 + 2 * words[1] if len(words) > 1 else len(words)
+            number = pair_refusal(words[:size], words[size:], 10**6)
+            if number:
+                self.refused(packed(t, u), number)
+
+    def test_comparison_files_told_by_their_bytes(self) -> None:
+        done = self.here("compare", "-", stdin=packed(P, Q)[:-2])
+        self.assert_message(done, 1, "refused 104: ", "second tree")
+        self.assert_message(self.here("compare", "-", stdin=b""), 1, "no tree in the file; two trees are needed")
+        self.assert_message(self.here("compare", "feathers.nwk", "-", stdin=packed(P, Q)), 1, "is a comparison file", "alone")
+
+    def test_texts(self) -> None:
+        for text, words in (("(A,B);", "one tree in the file; two trees are needed"), ("(A,B);(A,B;", "( without its )"),
+                            ("(A,B,A);(A,B);", "first tree: repeated tip names: 'A'"), ("(A,B:0,5);(A,B);", "decimal comma"),
+                            (star_text(map(str, range(300))) * 2, "first tree: 300 tips; a tree needs 2 to 256")):
+            done = self.here("compare", "-", "--listing", stdin=text)
+            self.assert_message(done, 1, "standard input", words)
+
+
+class Many(TreesTest):
+    TREES = [FEATHERS, WINGS, "(Azores,Bute,Coll,Foula,Lundy,Texel);\n", FEATHERS]
+
+    def setUp(self) -> None:
+        super().setUp()
+        self.file("all.nwk", "".join(self.TREES))
+        self.file("last.nwk", "".join(self.TREES[2:]))
+        pairs = {(i, j): leskwyn.compare(t, u) for (i, t), (j, u) in itertools.product(enumerate(self.TREES), repeat=2)}
+        self.assertEqual((pairs[0, 1].distance, pairs[0, 2].distance, pairs[1, 2].robinson_foulds), (7, 11, 2))
+        self.pairs = pairs
+
+    def square(self, key: str) -> list[list[str]]:
+        return [[str(getattr(self.pairs[i, j], key)) for j in range(4)] for i in range(4)]
+
+    def test_tsv(self) -> None:
+        for arguments, places in ((["all.nwk"], ["all.nwk#1", "all.nwk#2", "all.nwk#3", "all.nwk#4"]),
+                                  (["feathers.nwk", "wings.nwk", "last.nwk"],
+                                   ["feathers.nwk", "wings.nwk", "last.nwk#1", "last.nwk#2"]),
+                                  (["feathers.nwk", "wings.nwk", "-", "feathers.nwk"],
+                                   ["feathers.nwk", "wings.nwk", "standard input", "feathers.nwk(2)"])):
+            for jobs in ([], ["--jobs", "1"], ["--jobs", "2"], ["--jobs", "8"]):
+                done = self.here("matrix", *arguments, *jobs, stdin=self.TREES[2])
+                self.assertEqual((done.returncode, done.stderr), (0, b""))
+                rows = [line.split("\t") for line in done.stdout.decode().removesuffix("\n").split("\n")]
+                self.assertEqual(rows[0], ["tree", *places])
+                self.assertEqual([row[0] for row in rows[1:]], places)
+                self.assertEqual([row[1:] for row in rows[1:]], self.square("distance"))
+
+    def test_measures_and_phylip(self) -> None:
+        for arguments, key in (([], "distance"), (["--normalised"], "normalised_distance"),
+                               (["--measure", "splits"], "robinson_foulds"),
+                               (["--measure", "splits", "--normalised"], "normalised_robinson_foulds")):
+            done = self.here("matrix", "all.nwk", "--format", "phylip", *arguments)
+            lines = done.stdout.decode().removesuffix("\n").split("\n")
+            self.assertEqual((done.returncode, lines[0]), (0, "4"))
+            self.assertEqual([line.split() for line in lines[1:]],
+                             [[f"all.nwk#{at + 1}", *row] for at, row in enumerate(self.square(key))])
+
+    def test_against(self) -> None:
+        for jobs in ("1", "2", "8"):
+            done = self.here("against", "feathers.nwk", "all.nwk", "wings.nwk", "--jobs", jobs)
+            header, *rows = [line.split("\t") for line in done.stdout.decode().removesuffix("\n").split("\n")]
+            self.assertEqual((done.returncode, tuple(header)), (0, COLUMNS))
+            told = [dict(zip(header, row, strict=True)) for row in rows]
+            self.assertEqual([(row["first"], row["second"], row["distance"]) for row in told],
+                             [("feathers.nwk", f"all.nwk#{i + 1}", str(self.pairs[0, i].distance)) for i in range(4)]
+                             + [("feathers.nwk", "wings.nwk", "7")])
+        done = self.here("against", "feathers.nwk", "all.nwk", "--format", "json")
+        told = [json.loads(line) for line in done.stdout.decode().removesuffix("\n").split("\n")]
+        self.assertEqual([row["robinson_foulds"] for row in told], [self.pairs[0, i].robinson_foulds for i in range(4)])
+
+    def test_names(self) -> None:
+        self.file("more.nwk", "(Azores,Bute,Coll,Foula,Lundy,Texel,Zeist);")
+        for command in ("matrix", "against"):
+            done = self.here(command, "feathers.nwk", "all.nwk", "more.nwk")
+            self.assert_message(done, 1, "only more.nwk has 'Zeist'", "--common")
+            done = self.here(command, "feathers.nwk", "all.nwk", "more.nwk", "--common")
+            self.assertEqual((done.returncode, done.stderr), (0, b"leskwyn: left out of more.nwk: 'Zeist'\n"))
+        self.assert_message(self.here("matrix", "-", stdin=packed(P, Q)), 1, "is a comparison file")
+        self.assert_message(self.here("against", "all.nwk", "feathers.nwk"), 1, "4 trees in the file; one tree is needed")
+        self.assert_message(self.here("matrix", "-", stdin="(A,B);(A,B"), 1, "standard input, line 1: a ( without its )")
+
+    def test_progress(self) -> None:
+        """On a terminal, after a while, at most so often; and the line is cleared."""
+        class Terminal(io.StringIO):
+            def isatty(self) -> bool:
+                return True
+        for seconds, shown in ((0, True), (1000, False)):
+            with (contextlib.redirect_stderr(Terminal()) as told, unittest.mock.patch.object(usage, "SHOWN_AFTER", seconds),
+                  unittest.mock.patch.object(usage, "SHOWN_EVERY", 0)):
+                with usage.ProgressLine(6) as progress:
+                    for done in range(7):
+                        progress(done)
+                line = told.getvalue()
+            self.assertEqual(("\rleskwyn: 5 of 6 pairs" in line, line.endswith("\r\x1b[K")), (shown, shown))
+        with contextlib.redirect_stderr(io.StringIO()), usage.ProgressLine(6) as progress:
+            self.assertIsNone(progress)
+
+
+class Usage(TreesTest):
+    def test_wrong_usage(self) -> None:
+        for command, *arguments in (["compare", "a", "b", "c"], ["compare", "-", "-"], ["compare", ""], ["compare", "--wrong"],
+                                    ["compare", "--listing", "--format", "tsv"], ["compare", "--format", "xml"],
+                                    ["compare", "both.nwk", "--tables", "wings.nwk"], ["compare", "both.nwk", "--list"],
+                                    ["matrix"], ["matrix", "--jobs", "0", "all.nwk"], ["matrix", "all.nwk", "--jobs", "x"],
+                                    ["matrix", "all.nwk", "--measure", "triplet"], ["against"], ["against", "feathers.nwk"],
+                                    ["against", "-", "-"]):
+            self.assert_message(self.here(command, *arguments), 2, f"leskwyn {command} --help tells the usage")
+        self.assert_message(self.here("comprae"), 2, "no command 'comprae'; the commands are compare, matrix, against, table,")
+
+    def test_unreadable(self) -> None:
+        for command in ("compare", "matrix", "against"):
+            self.assert_message(self.here(command, "feathers.nwk", "absent"), 2, "cannot read absent: No such file")
+            self.assert_message(self.here(command, "feathers.nwk", "."), 2, "cannot read .: Is a directory")
+        self.assert_message(self.here("compare", "feathers.nwk", "-", stdin="(Möwe,B);".encode("latin-1")), 1,
+                            "standard input: not UTF-8 text, at byte 2 (line 1), 0xf6; save the file as UTF-8")
+
+    def test_help_and_version(self) -> None:
+        version = f"leskwyn (Leskwyn) {leskwyn.__version__}\n".encode()
+        self.assertEqual(run_leskwyn("--version").stdout, version)
+        for command in ("compare", "matrix", "against", "table", "show"):
+            for arguments, word in ((["--version"], version), (["--help"], b"usage: leskwyn " + command.encode())):
+                done = run_leskwyn(command, *arguments)
+                self.assertEqual((done.returncode, done.stderr), (0, b""))
+                self.assertTrue(done.stdout.startswith(word), done.stdout)
+            self.assertIn(b"exit status: 0", done.stdout)
+            self.assertIn(b"leskwyn " + command.encode(), run_leskwyn("--help").stdout)
+
+
+class Surroundings(TreesTest):
+    """Output that cannot be written, input that is closed, no library, an old Python: a sentence and status 2."""
+
+    WRITERS = [["compare", "both.nwk"], ["matrix", "both.nwk"], ["against", "feathers.nwk", "wings.nwk"], ["--help"],
+               ["compare", "--help"], ["--version"], ["show", "--version"], ["table", "both.nwk"]]
+
+    def assert_one_sentence(self, done: Done, status: int, *words: bytes) -> None:
+        self.assertEqual((done.returncode, done.stderr.count(b"\n"), done.stderr[:9]), (status, 1, b"leskwyn: "), done.stderr)
+        for word in words:
+            self.assertIn(word, done.stderr)
+
+    def run_with(self, arguments: list[str], **options: object) -> Done:
+        settings = {"stderr": subprocess.PIPE, "env": ENVIRONMENT, "cwd": self.folder, "timeout": 20, **options}
+        return subprocess.run([*LESKWYN, *arguments], **settings)
+
+    @unittest.skipUnless(os.path.exists("/dev/full"), "needs /dev/full")
+    def test_a_full_device(self) -> None:
+        for arguments in self.WRITERS:
+            with open("/dev/full", "wb") as full:
+                done = self.run_with(arguments, stdout=full)
+            self.assert_one_sentence(done, 2, b"cannot write standard output: No space left")
+
+    def test_a_closed_pipe(self) -> None:
+        for arguments in self.WRITERS:
+            reader, writer = os.pipe()
+            os.close(reader)
+            done = self.run_with(arguments, stdout=writer)
+            os.close(writer)
+            self.assert_one_sentence(done, 2, b"cannot write standard output: Broken pipe")
+
+    def test_closed_streams(self) -> None:
+        closed = self.run_with(["compare", "both.nwk"], preexec_fn=lambda: os.close(1))
+        self.assert_one_sentence(closed, 2, b"cannot write standard output")
+        closed = self.run_with(["compare", "-"], stdout=subprocess.PIPE, preexec_fn=lambda: os.close(0))
+        self.assert_one_sentence(closed, 2, b"cannot read standard input: it is closed")
+        closed = self.run_with(["compare", "absent"], stdout=subprocess.PIPE, stderr=None, preexec_fn=lambda: os.close(2))
+        self.assertEqual((closed.returncode, closed.stdout), (2, b""))
+
+    def test_no_library(self) -> None:
+        env = {**ENVIRONMENT, "LESKWYN_LIBRARY": str(self.folder / "absent.so")}
+        done = self.run_with(["compare", "both.nwk"], stdout=subprocess.PIPE, env=env)
+        self.assert_one_sentence(done, 2, b"there is no library ", b"absent.so", b"bin/leskwyn")
+        self.file("absent.so", b"no library")
+        done = self.run_with(["compare", "both.nwk"], stdout=subprocess.PIPE, env=env)
+        self.assert_one_sentence(done, 2, b"cannot load the library ")
+        self.assertEqual(self.run_with(["table", "both.nwk", "-o", "x"], stdout=subprocess.PIPE, env=env).returncode, 0)
+
+    def test_interrupted(self) -> None:
+        """While standard input is waited for."""
+        with subprocess.Popen([*LESKWYN, "compare", "-"], stdin=subprocess.PIPE, stdout=subprocess.PIPE, stderr=subprocess.PIPE,
+                              env={**ENVIRONMENT, "PYTHONUNBUFFERED": "1"}, cwd=self.folder) as process:
+            process.stdin.write(b"(A,")
+            process.stdin.flush()
+            time.sleep(1)
+            process.send_signal(signal.SIGINT)
+            output, message = process.communicate(timeout=20)
+        self.assertEqual((process.returncode, output, message), (130, b"", b"leskwyn: interrupted\n"))
+
+    def test_an_old_python(self) -> None:
+        told = ("import runpy, sys; sys.version_info = (3, 8, 18); sys.argv = ['-m'] + sys.argv[1:]; "
+                "runpy.run_module('leskwyn', run_name='__main__')")
+        done = subprocess.run([sys.executable, "-B", "-c", told, "compare"], capture_output=True, env=ENVIRONMENT, timeout=20)
+        self.assertEqual((done.returncode, done.stdout, done.stderr),
+                         (2, b"", b"leskwyn: Python 3.10 or newer is needed; this is Python 3.8\n"))
+        told = "import sys; sys.version_info = (3, 8, 18); sys.argv = ['x.py']; import leskwyn"
+        done = subprocess.run([sys.executable, "-B", "-c", told], capture_output=True, env=ENVIRONMENT, timeout=20)
+        self.assertIn(b"ImportError: leskwyn needs Python 3.10 or newer; this is Python 3.8", done.stderr)
+
+    def test_what_an_old_python_reads(self) -> None:
+        """The two files that it meets have no syntax that came with Python 3."""
+        for name in ("__init__.py", "__main__.py"):
+            text = (ROOT / "python" / "leskwyn" / name).read_text(encoding="utf-8")
+            self.assertTrue(text.isascii())
+            self.assertNotRegex(text, r"\bf['\"]|->|: (?:str|int)\b|:=|\bmatch ")
+
+
+class Pages(unittest.TestCase):
+    """The examples of the pages are what the commands print."""
+
+    def examples(self, page: str) -> list[tuple[str, str]]:
+        """Each indented command line that runs bin/leskwyn, with the fenced block that follows it."""
+        text = (ROOT / page).read_text(encoding="utf-8")
+        return re.findall(r"^    bin/(leskwyn\b[^\n]*)\n(?:\n|[^`\n ][^\n]*\n)+?```\w*\n(.*?)^```$", text, re.M | re.S)
+
+    def assert_examples(self, page: str, fewest: int) -> None:
+        found = self.examples(page)
+        self.assertGreaterEqual(len(found), fewest)
+        with tempfile.TemporaryDirectory() as folder:
+            os.symlink(ROOT / "examples", pathlib.Path(folder) / "examples")
+            for command, block in found:
+                with self.subTest(page=page, command=command):
+                    done = run_leskwyn(*shlex.split(command)[1:], cwd=folder)
+                    self.assertEqual(block, done.stdout.decode() or done.stderr.decode())
+
+    def test_commands_page(self) -> None:
+        self.assert_examples("docs/COMMANDS.md", 6)
+
+    def test_readme(self) -> None:
+        self.assert_examples("README.md", 2)
+
+    def test_python_examples(self) -> None:
+        text = (ROOT / "docs" / "COMMANDS.md").read_text(encoding="utf-8")
+        blocks = "\n".join(re.findall(r"^```python\n(.*?)^```$", text, re.M | re.S))
+        modules = [("docs/COMMANDS.md", blocks), *((name, getattr(leskwyn, name).__doc__) for name in ("compare", "matrix")),
+                   ("leskwyn", leskwyn.__doc__)]
+        runner = doctest.DocTestRunner(verbose=False)
+        with inside(ROOT), contextlib.redirect_stdout(io.StringIO()) as said:
+            for name, content in modules:
+                runner.run(doctest.DocTestParser().get_doctest(content, {"leskwyn": leskwyn}, name, None, 0))
+        self.assertGreaterEqual(runner.tries, 8)
+        self.assertEqual(runner.failures, 0, said.getvalue())
+
+    def test_every_key_is_told(self) -> None:
+        text = (ROOT / "docs" / "COMMANDS.md").read_text(encoding="utf-8")
+        self.assertEqual(re.findall(r"^\| `(\w+)` \|(?:.*\|){2}$", text.split("## Keys\n")[1].split("\n## ")[0], re.M),
+                         [*COLUMNS, "names"])
+
+
+if __name__ == "__main__":
+    unittest.main()

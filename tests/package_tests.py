@@ -1,0 +1,403 @@
+#!/usr/bin/env python3
+"""Tests of the Python package leskwyn over the proved library.
+
+    python3 tests/package_tests.py                            the program is target/bin/compare
+    LESKWYN_COMPARE=FILE python3 tests/package_tests.py       the program is FILE
+
+Needs target/libleskwyn.so, or what LESKWYN_LIBRARY names, and the proved program. Figures are held to the program's listing,
+and to a brute force over sets of four that looks at the edges of named trees; Robinson-Foulds distances to DendroPy where that
+is installed.
+"""
+import dataclasses
+import importlib.util
+import io
+import itertools
+import json
+import math
+import os
+import pathlib
+import pickle
+import random
+import subprocess
+import sys
+import tempfile
+import types
+import typing
+import unittest
+import unittest.mock
+
+sys.dont_write_bytecode = True
+ROOT = pathlib.Path(__file__).resolve().parent.parent
+sys.path.insert(0, str(ROOT / "python"))
+from cases.newick import Tree, random_names, random_tree, star_text, written_tree
+from cases.pairs import split_counts
+from cases.quartets import cases_by_pairs
+from cases.shapes import balanced, caterpillar, related_pair, star, unrelated_pair
+from cases.tables import OUTSIDE, P, Q, REFERENCE, W, damaged
+
+import leskwyn
+from leskwyn import api, counting, sources
+
+PROGRAM = pathlib.Path(os.environ.get("LESKWYN_COMPARE") or ROOT / "target" / "bin" / "compare").absolute()
+MOST_BYTES = 1016
+HAS_DENDROPY = importlib.util.find_spec("dendropy") is not None
+FEATHERS, WINGS = ROOT / "examples" / "feathers.nwk", ROOT / "examples" / "wings.nwk"
+
+
+def packed(*tables: list[int]) -> bytes:
+    return b"".join(word.to_bytes(2, "little") for table in tables for word in table)
+
+
+# ---- the figures of two named trees, worked out here
+
+def sides_of(tree: Tree) -> list[frozenset[str]]:
+    """The names on one side of each edge."""
+    return [frozenset(tree.names_beyond(a, b)) for a, b in tree.edges()]
+
+
+def parting(sides: list[frozenset[str]], four: frozenset[str]) -> frozenset[frozenset[str]] | None:
+    """How an edge parts four names two and two, or None if no edge does."""
+    for side in sides:
+        if len(side & four) == 2:
+            return frozenset([side & four, four - side])
+    return None
+
+
+def split_sets(sides: list[frozenset[str]], names: frozenset[str]) -> set[frozenset[frozenset[str]]]:
+    return {frozenset([side, names - side]) for side in sides if 2 <= len(side) <= len(names) - 2}
+
+
+def expected_figures(first: Tree, second: Tree) -> dict[str, typing.Any]:
+    """All figures of the pair, by looking at every set of four."""
+    names = frozenset(first.name.values())
+    one, other = sides_of(first), sides_of(second)
+    cases = [0] * 5
+    for four in map(frozenset, itertools.combinations(sorted(names), 4)):
+        a, b = parting(one, four), parting(other, four)
+        cases[(0 if a == b else 1) if a and b else 2 if a else 3 if b else 4] += 1
+    same, different, first_only, second_only, neither = cases
+    splits, others = split_sets(one, names), split_sets(other, names)
+    of_four, of_both = math.comb(len(names), 4), len(splits) + len(others)
+    distance, robinson_foulds = different + first_only + second_only, len(splits ^ others)
+    return {"tips": len(names), "sets_of_four": of_four, "same": same, "different": different, "first_only": first_only,
+            "second_only": second_only, "neither": neither, "distance": distance,
+            "normalised_distance": distance / of_four if of_four else 0.0, "first_splits": len(splits),
+            "second_splits": len(others), "common_splits": len(splits & others), "robinson_foulds": robinson_foulds,
+            "normalised_robinson_foulds": robinson_foulds / of_both if of_both else 0.0,
+            "first_claims": 2 * (same + different + first_only), "second_claims": 2 * (same + different + second_only),
+            "same_claims": 2 * same, "different_claims": 4 * different, "names": sorted(names)}
+
+
+def random_named_trees(rng: random.Random, n: int, count: int = 2) -> list[Tree]:
+    names = random_names(rng, n)
+    return [random_tree(rng, names, rng.choice([0, 0.2, 0.5, 0.9])) for _ in range(count)]
+
+
+class Figures(unittest.TestCase):
+    """The figures of named trees, by an enumeration that knows nothing of tables."""
+
+    def assert_figures(self, found: leskwyn.Comparison, first: Tree, second: Tree) -> None:
+        told = found.as_dict()
+        self.assertEqual({key: told[key] for key in told if key not in ("first", "second")}, expected_figures(first, second))
+
+    def test_random_trees(self) -> None:
+        rng = random.Random(1)
+        for case in range(60):
+            first, second = random_named_trees(rng, 3 + case % 12)
+            texts = [written_tree(rng, tree) for tree in (first, second)]
+            with self.subTest(case=case, texts=texts):
+                self.assert_figures(leskwyn.compare(*texts), first, second)
+                self.assert_figures(leskwyn.compare("".join(texts)), first, second)
+
+    def test_caterpillars_of_200_levels(self) -> None:
+        """One tip moved from one end to the other: it is in C(199, 3) sets of four, and no other set changes."""
+        names = [f"t{i:03}" for i in range(200)]
+        moved = names[1:] + names[:1]
+        texts = ["".join(f"({name}," for name in order[:-1]) + order[-1] + ")" * 199 + ";" for order in (names, moved)]
+        found = leskwyn.compare(*texts)
+        # The moved tip is at the one end, or at the other: of x < y < z behind it, tx|yz or xy|zt.
+        self.assertEqual((found.different, found.same), (math.comb(199, 3), math.comb(200, 4) - math.comb(199, 3)))
+        self.assertEqual((found.first_splits, found.second_splits, found.common_splits), (197, 197, 0))
+
+    def test_root_lengths_and_order_play_no_part(self) -> None:
+        rng = random.Random(2)
+        tree = random_named_trees(rng, 40, 1)[0]
+        for _ in range(10):
+            found = leskwyn.compare(written_tree(rng, tree), written_tree(rng, tree))
+            self.assertEqual((found.distance, found.robinson_foulds), (0, 0))
+
+    def test_no_sets_of_four_and_no_splits(self) -> None:
+        for text in ("(A,B);", "(A,(B,C));"):
+            found = leskwyn.compare(text, text)
+            self.assertEqual((found.sets_of_four, found.normalised_distance), (0, 0.0))
+            self.assertEqual((found.robinson_foulds, found.normalised_robinson_foulds), (0, 0.0))
+
+    @unittest.skipUnless(HAS_DENDROPY, "DendroPy is not installed")
+    def test_robinson_foulds_of_dendropy(self) -> None:
+        import dendropy
+        from dendropy.calculate import treecompare
+        rng = random.Random(3)
+        for _ in range(20):
+            texts = [written_tree(rng, tree) for tree in random_named_trees(rng, rng.randint(4, 60))]
+            taxa = dendropy.TaxonNamespace()
+            trees = [dendropy.Tree.get(data=text, schema="newick", taxon_namespace=taxa, rooting="force-unrooted")
+                     for text in texts]
+            found = leskwyn.compare(*trees)
+            self.assertEqual(found.robinson_foulds, treecompare.symmetric_difference(*trees))
+            self.assertEqual(found.as_dict() | {"first": "", "second": ""},
+                             leskwyn.compare(*texts).as_dict() | {"first": "", "second": ""})
+
+
+class Listings(unittest.TestCase):
+    """The proved program's listing, on files that both take; beyond them, the counts of cases/."""
+
+    def program(self, content: bytes) -> str:
+        done = subprocess.run([PROGRAM], input=content, capture_output=True, check=True, timeout=20)
+        self.assertEqual(done.stderr, b"")
+        return done.stdout.decode()
+
+    def listing(self, content: bytes) -> str:
+        try:
+            return api.compare_file("file", content).listing()
+        except leskwyn.Refusal as refusal:
+            self.assertTrue(refusal.reason.startswith("file: "))
+            return f"refused {refusal.number}\n"
+
+    def assert_same_listing(self, content: bytes) -> str:
+        self.assertLessEqual(len(content), MOST_BYTES)
+        listing = self.listing(content)
+        self.assertEqual(listing, self.program(content))
+        return listing
+
+    def test_reference_pairs(self) -> None:
+        for t, u in itertools.product(REFERENCE + OUTSIDE, repeat=2):
+            self.assert_same_listing(packed(t, u))
+
+    def test_every_size(self) -> None:
+        rng, sizes = random.Random(4), set()
+        for n in [*range(4, 65), *range(4, 65, 3)]:
+            pair = rng.choice([related_pair, unrelated_pair])(rng, n)
+            sizes.add(len(self.assert_same_listing(packed(*pair))) and len(packed(*pair)))
+        for pair in ((star(125), star(125)), (caterpillar(64), balanced(64)), (balanced(84), star(84))):
+            sizes.add(len(self.assert_same_listing(packed(*pair))) and len(packed(*pair)))
+        self.assertEqual(max(sizes), MOST_BYTES)
+
+    def test_damaged_files(self) -> None:
+        rng, numbers = random.Random(5), set()
+        contents = [packed(*pair) for t in damaged(P) for pair in ((t, W), (W, t))]
+        contents += [packed(P, [3, 4]), packed(P[:-3]), packed(P, REFERENCE[-1]), b"\5", b""]
+        for case in range(150):
+            content = bytearray(packed(P, Q) if case % 3 else rng.randbytes(rng.randrange(80)))
+            for _ in range(case % 4):
+                if content:
+                    content[rng.randrange(len(content))] = rng.choice([0, 1, 3, 5, 255])
+            contents.append(bytes(content[:len(content) - rng.choice([0, 0, 0, 1, 2, 5])]))
+        for content in contents:
+            numbers.add(self.assert_same_listing(content).split("\n")[0])
+        refusals = [*range(1, 9), 15, *range(101, 108)]
+        self.assertEqual({line for line in numbers if line.startswith("refused")}, {f"refused {number}" for number in refusals})
+
+    def test_larger_than_the_program_takes(self) -> None:
+        rng = random.Random(6)
+        for pair in (related_pair(rng, 100), unrelated_pair(rng, 90), (caterpillar(80), balanced(80))):
+            found = api.compare_file("file", packed(*pair))
+            self.assertEqual([found.same, found.different, found.first_only, found.second_only, found.neither],
+                             cases_by_pairs(*pair))
+            self.assertEqual([found.first_splits, found.second_splits, found.common_splits, found.robinson_foulds],
+                             split_counts(*pair))
+
+    def test_256_tips(self) -> None:
+        of_four = math.comb(256, 4)
+        same = api.compare_file("file", packed(caterpillar(256), caterpillar(256)))
+        self.assertEqual((same.same, same.distance, same.first_splits, same.common_splits), (of_four, 0, 253, 253))
+        other = api.compare_file("file", packed(caterpillar(256), star(256)))
+        self.assertEqual((other.first_only, other.distance, other.robinson_foulds), (of_four, of_four, 253))
+        open_both = api.compare_file("file", packed(star(256), star(256)))
+        self.assertEqual((open_both.neither, open_both.normalised_distance), (of_four, 0.0))
+
+
+class Many(unittest.TestCase):
+    """Squares and rows hold what each pair has alone, on any number of threads."""
+
+    def setUp(self) -> None:
+        rng = random.Random(7)
+        self.trees = random_named_trees(rng, 11, 9)
+        self.texts = [written_tree(rng, tree) for tree in self.trees]
+
+    def test_squares(self) -> None:
+        for measure, key in (("quartet", "distance"), ("splits", "robinson_foulds")):
+            for normalised in (False, True):
+                name = f"normalised_{key}" if normalised else key
+                expected = [[expected_figures(t, u)[name] for u in self.trees] for t in self.trees]
+                for jobs in (1, 2, 8, None):
+                    found = leskwyn.matrix(self.texts, measure=measure, normalised=normalised, jobs=jobs)
+                    self.assertEqual(found, expected)
+                self.assertIs(type(found[0][1]), float if normalised else int)
+
+    def test_large_squares(self) -> None:
+        """Threads at once inside the library, with trees of many sizes of work."""
+        rng = random.Random(8)
+        names = [f"t{i}" for i in range(60)]
+        texts = [written_tree(rng, random_tree(rng, names, rng.random())) for _ in range(24)]
+        expected = [[leskwyn.compare(t, u).distance for u in texts] for t in texts]
+        for jobs in (1, 2, 8):
+            self.assertEqual(leskwyn.matrix(texts, jobs=jobs), expected)
+
+    def test_against(self) -> None:
+        for jobs in (1, 2, 8):
+            rows = leskwyn.against(self.texts[0], self.texts[1:], jobs=jobs)
+            self.assertEqual([row.distance for row in rows],
+                             [expected_figures(self.trees[0], tree)["distance"] for tree in self.trees[1:]])
+            self.assertEqual({row.first for row in rows}, {"the reference"})
+            self.assertEqual([row.second for row in rows], [f"tree {at}" for at in range(1, 9)])
+
+    def test_several_trees_in_one_text(self) -> None:
+        expected = leskwyn.matrix(self.texts)
+        self.assertEqual(leskwyn.matrix("".join(self.texts)), expected)
+        self.assertEqual(leskwyn.matrix(["".join(self.texts[:4]), *self.texts[4:]]), expected)
+        self.assertEqual(leskwyn.matrix([]), [])
+        self.assertEqual(leskwyn.matrix(self.texts[:1]), [[0]])
+
+    def test_a_refusal_in_a_thread_is_raised(self) -> None:
+        tables = [list(P), list(Q), [5, 8, 1, *P[3:]], list(P)]
+        for jobs in (1, 3):
+            with self.assertRaises(leskwyn.Refusal) as raised:
+                counting.distances(tables, "quartet", False, jobs)
+            self.assertIn(raised.exception.number, (5, 105))
+
+    def test_wrong_arguments(self) -> None:
+        with self.assertRaises(ValueError):
+            leskwyn.matrix(self.texts, measure="triplet")
+        with self.assertRaises(ValueError):
+            leskwyn.matrix(self.texts, jobs=0)
+
+    def test_progress(self) -> None:
+        for jobs in (1, 2):
+            told: list[int] = []
+            counting.distances([P, Q, P, Q, P], "splits", False, jobs, told.append)
+            self.assertEqual((sorted(told), told[-1]), (told, 10))
+
+
+class Given(unittest.TestCase):
+    """What a tree may be."""
+
+    def test_paths_and_texts(self) -> None:
+        expected = leskwyn.compare(FEATHERS.read_text(), WINGS.read_text())
+        self.assertEqual((expected.distance, expected.first, expected.second), (7, "the first tree", "the second tree"))
+        for a, b in ((FEATHERS, WINGS), (str(FEATHERS), str(WINGS)), (FEATHERS, WINGS.read_text())):
+            found = leskwyn.compare(a, b)
+            self.assertEqual(dataclasses.replace(found, first=expected.first, second=expected.second), expected)
+        self.assertEqual(leskwyn.compare(FEATHERS, WINGS).first, str(FEATHERS))
+        self.assertEqual(leskwyn.compare(ROOT / "examples" / "p-q.bin").listing(),
+                         "leaves 5\nclaims 10 6 6 0\nquartets 3 0 2 0 0\ndistance 2\nsplits 2 1 1 1\n")
+
+    def test_objects_of_other_packages(self) -> None:
+        """Told by their methods alone: as_string(schema=) is DendroPy's, write() is ETE's."""
+        texts = [FEATHERS.read_text(), WINGS.read_text()]
+        dendropy_like = types.SimpleNamespace(as_string=lambda schema: {"newick": "[&R] " + texts[0]}[schema])
+        ete_like = types.SimpleNamespace(write=lambda: texts[1])
+        self.assertEqual(leskwyn.compare(dendropy_like, ete_like), leskwyn.compare(*texts))
+
+    def test_nexus(self) -> None:
+        """Through DendroPy, here one that knows a single text."""
+        nexus = "  #nexus\nbegin trees;\n tree a = (x,y);\nend;\n"
+        trees = [types.SimpleNamespace(as_string=lambda schema, text=path.read_text(): text) for path in (FEATHERS, WINGS)]
+        got = types.SimpleNamespace(get=lambda data, schema: {(nexus, "nexus"): trees}[data, schema])
+        with unittest.mock.patch.dict(sys.modules, {"dendropy": types.SimpleNamespace(TreeList=got)}):
+            self.assertEqual(leskwyn.compare(nexus).distance, 7)
+            with self.assertRaisesRegex(leskwyn.Refusal, "DendroPy cannot read it"):
+                leskwyn.compare(nexus + " ")
+        with unittest.mock.patch.dict(sys.modules, {"dendropy": None}), self.assertRaises(leskwyn.Trouble) as raised:
+            leskwyn.compare(nexus)
+        self.assertIn("DendroPy, which is not installed", raised.exception.reason)
+
+    @unittest.skipUnless(HAS_DENDROPY, "DendroPy is not installed")
+    def test_nexus_of_dendropy(self) -> None:
+        import dendropy
+        taxa = dendropy.TaxonNamespace()
+        trees = dendropy.TreeList([dendropy.Tree.get(path=str(path), schema="newick", taxon_namespace=taxa)
+                                   for path in (FEATHERS, WINGS)], taxon_namespace=taxa)
+        self.assertEqual(leskwyn.compare(trees.as_string(schema="nexus")).distance, 7)
+
+    def test_what_is_no_tree(self) -> None:
+        for given in (7, None, b"(A,B);", open, io.StringIO("(A,B);"), types.SimpleNamespace(write=lambda: None)):
+            with self.assertRaises(TypeError):
+                leskwyn.compare(given, "(A,B);")
+        with self.assertRaisesRegex(leskwyn.Trouble, "neither Newick text nor the name of a file"):
+            leskwyn.compare("absent.nwk", "(A,B);")
+        with self.assertRaisesRegex(leskwyn.Trouble, "cannot read absent.nwk"):
+            leskwyn.compare(pathlib.Path("absent.nwk"), "(A,B);")
+
+    def test_any_text_and_any_bytes(self) -> None:
+        """Either figures or a LeskwynError with a reason, whatever is given."""
+        rng, outcomes = random.Random(10), set()
+        pieces = [*"(),:;'\"[]_ \n", "A", "B", "0", "0,5", ":1", "\ufeff", "\u00a0", "é", "((", "))", "A:1", "(A,B)", "#NEXUS"]
+        for case in range(4000):
+            text = "".join(rng.choice(pieces) for _ in range(rng.randint(0, 20)))
+            text = f"({text},B);" if case % 2 else text
+            try:
+                outcomes.add(leskwyn.compare(text, text).distance)
+                sources.trees_of_bytes("bytes", rng.randbytes(rng.randint(0, 30)), None)
+            except leskwyn.LeskwynError as error:
+                self.assertGreater(len(error.reason), 10)
+                outcomes.add(type(error))
+        self.assertEqual(outcomes, {0, leskwyn.Refusal, leskwyn.Trouble})
+
+    def test_common(self) -> None:
+        rng = random.Random(9)
+        for _ in range(20):
+            names = random_names(rng, 14)
+            kept = names[:9]
+            first, second = (random_tree(rng, names[:9] + more, 0.3) for more in (names[9:11], names[11:]))
+            found = leskwyn.compare(written_tree(rng, first), written_tree(rng, second), common=True)
+            self.assertEqual(found.names, tuple(sorted(kept)))
+            cases = [0] * 5
+            sides = [sides_of(first), sides_of(second)]
+            for four in map(frozenset, itertools.combinations(kept, 4)):
+                a, b = (parting(one, four) for one in sides)
+                cases[(0 if a == b else 1) if a and b else 2 if a else 3 if b else 4] += 1
+            self.assertEqual([found.same, found.different, found.first_only, found.second_only, found.neither], cases)
+
+    def test_common_of_larger_trees(self) -> None:
+        many = [f"t{i}" for i in range(1000)]
+        nested = "".join(f"({name}," for name in many[900:]) + "x" + ")" * 100 + ";"
+        found = leskwyn.compare(star_text(many), nested, common=True)
+        self.assertEqual((found.tips, found.second_only), (100, math.comb(100, 4)))
+        with self.assertRaisesRegex(leskwyn.Refusal, "share 1 name; 2 or more are needed"):
+            leskwyn.compare("(A,B,C);", "(A,X,Y);", common=True)
+
+
+class Answers(unittest.TestCase):
+    def test_frozen(self) -> None:
+        found = leskwyn.compare(FEATHERS, WINGS)
+        with self.assertRaises(dataclasses.FrozenInstanceError):
+            found.distance = 0
+        self.assertEqual(json.loads(json.dumps(found.as_dict()))["names"], list(found.names))
+        self.assertEqual(sum([found.same, found.different, found.first_only, found.second_only, found.neither]),
+                         found.sets_of_four)
+
+    def test_errors(self) -> None:
+        with tempfile.NamedTemporaryFile() as file:
+            file.write(packed(P[:9] + [6] + P[10:], Q))
+            file.flush()
+            with self.assertRaises(leskwyn.Refusal) as raised:
+                leskwyn.compare(file.name)
+        error = raised.exception
+        self.assertEqual(error.number, 7)
+        self.assertIn("first tree: inner node 5 has 1 of the 2 children or more that it needs", error.reason)
+        self.assertEqual(str(error), f"refused 7: {error.reason}")
+        again = pickle.loads(pickle.dumps(error))
+        self.assertEqual((type(again), again.number, again.reason), (leskwyn.Refusal, 7, error.reason))
+        with self.assertRaises(leskwyn.LeskwynError) as raised:
+            leskwyn.compare("(A,B);", "(A,C);")
+        self.assertEqual((raised.exception.number, str(raised.exception)), (None, raised.exception.reason))
+
+    def test_help(self) -> None:
+        for name in leskwyn.__all__:
+            self.assertTrue(getattr(leskwyn, name).__doc__, name)
+        for field in dataclasses.fields(leskwyn.Comparison):
+            self.assertRegex(leskwyn.Comparison.__doc__, rf"(?m)^ *(\w+, )?{field.name}\b")
+
+
+if __name__ == "__main__":
+    unittest.main()
