@@ -99,6 +99,15 @@ class Compare(TreesTest):
                      "normalised Robinson-Foulds 0.5000 distance / splits of the first and the second"):
             self.assertIn(line, lines)
 
+    def test_text_of_reference_pairs(self) -> None:
+        """docs/SPECIFICATION.md, 'The figures K1 to K9': P with Q, Q with P, and W with itself."""
+        for t, u, five, splits in ((P, Q, [3, 0, 2, 0, 0], [2, 1, 1, 1]), (Q, P, [3, 0, 0, 2, 0], [1, 2, 1, 1]),
+                                   (W, W, [0, 0, 0, 0, 5], [0, 0, 0, 0])):
+            lines = [line.split() for line in self.here("compare", "-", stdin=packed(t, u)).stdout.decode().split("\n")]
+            told = {line[0]: line[-3:] for line in lines if line and line[0] in "ABCDE"}
+            self.assertEqual(told, {letter: [str(count), f"{20 * count}.0", "%"] for letter, count in zip("ABCDE", five)})
+            self.assertEqual([line[-1] for line in lines if line[:2] == ["splits", "of"]], [str(count) for count in splits[:3]])
+
     def test_text_without_sets_of_four(self) -> None:
         done = self.here("compare", "-", stdin="(A,B);(A,B);")
         text = " ".join(done.stdout.decode().split())

@@ -36,7 +36,7 @@ from cases.shapes import balanced, caterpillar, related_pair, star, unrelated_pa
 from cases.tables import OUTSIDE, P, Q, REFERENCE, W, damaged
 
 import leskwyn
-from leskwyn import api, counting, sources
+from leskwyn import _library, api, counting, sources
 
 PROGRAM = pathlib.Path(os.environ.get("LESKWYN_COMPARE") or ROOT / "target" / "bin" / "compare").absolute()
 MOST_BYTES = 1016
@@ -205,6 +205,12 @@ class Listings(unittest.TestCase):
                              cases_by_pairs(*pair))
             self.assertEqual([found.first_splits, found.second_splits, found.common_splits, found.robinson_foulds],
                              split_counts(*pair))
+
+    def test_work(self) -> None:
+        """(m - 1)(m' - 1) cells, and never more than the header's number, whatever the words say."""
+        for t, u, cells in ((P, Q, 42), (Q, P, 42), ([], P, 0), ([5], P, 0), ([5, 0], P, 0), ([5, 65535], [5, 65535], 259081),
+                            (caterpillar(256), caterpillar(256), 259081)):
+            self.assertEqual(_library.work_cells(_library.words(t), _library.words(u)), cells)
 
     def test_256_tips(self) -> None:
         of_four = math.comb(256, 4)

@@ -399,8 +399,9 @@ class Refusals(TableTest):
     def test_no_text(self) -> None:
         """UTF-16 without its mark, and comparison files."""
         self.file("good", self.GOOD)
-        for content in ("(A,B);".encode("utf-16-le"), packed(P, Q)):
-            self.assert_refused(["good", "-"], "standard input is a comparison file", stdin=content)
+        self.assert_refused(["good", "-"], "standard input is a comparison file", stdin=packed(P, Q))
+        for encoding, at in (("utf-16-le", 1), ("utf-16-be", 0)):
+            self.assert_refused(["good", "-"], f"a zero byte, at byte {at}", "byte order mark", stdin="(A,B);".encode(encoding))
         self.assert_refused(["good", "-"], "a zero byte, at byte 6", stdin=b"\xef\xbb\xbf(A,\0B);")
 
     def test_nexus_without_dendropy(self) -> None:

@@ -14,8 +14,17 @@ LONGEST_PATH = 4096
 
 
 def is_comparison_file(content: bytes) -> bool:
-    """True for bytes that are no text: each tree table has a zero byte, and text has none but after a byte order mark."""
-    return b"\0" in content and files.encoding_of(content)[1] == 0
+    """True for bytes that are no text: each tree table has a zero byte, and text has none but in UTF-16 and UTF-32."""
+    return b"\0" in content and files.encoding_of(content)[1] == 0 and not is_unmarked(content)
+
+
+def is_unmarked(content: bytes) -> bool:
+    """True for UTF-16 without its byte order mark. A table's third word is 0, so that none starts with three letters."""
+    for start in (0, 1):
+        letters, others = content[start:6:2], content[1 - start:6:2]
+        if others == b"\0\0\0" and all(32 <= letter < 127 or letter in b"\t\r\n" for letter in letters):
+            return True
+    return False
 
 
 def nexus_as_newick(place: str, text: str) -> str:
