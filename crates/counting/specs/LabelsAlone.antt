@@ -10,6 +10,7 @@ use Rattle.trees.specs.Topology.{topologyAnswer}
 use Rattle.counting.specs.ClaimSums.{S, S2, S3}
 use Rattle.counting.specs.Cases.{Case, B, C, D, quartets}
 use Rattle.counting.specs.SplitCounts.{splits, commonSplits, robinsonFoulds}
+use Rattle.counting.specs.Triplets.{triplets}
 
 -- the figures of two pairs of tables are the same
 pub record SameFigures (t u t' u' : Table) : Type 0 where
@@ -24,6 +25,7 @@ pub record SameFigures (t u t' u' : Table) : Type 0 where
   pub second-splits : splits u ≡ splits u'
   pub common : commonSplits t u ≡ commonSplits t' u'
   pub robinson-foulds : robinsonFoulds t u ≡ robinsonFoulds t' u'
+  pub triplet-counts : (k : Case) → triplets t u k ≡ triplets t' u' k
 
 -- what is counted depends on the labels of the tips alone
 pub record LabelsAlone (t t' : Table) : Type 0 where

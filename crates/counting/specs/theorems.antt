@@ -10,3 +10,4 @@ pub mod Renumbered
 pub mod TipLabels
 pub mod TreeShape
 pub mod TreeSplits
+pub mod TripletTheorem

@@ -5,4 +5,5 @@ pub mod Centres
 pub mod Quartets
 pub mod Claims
 pub mod Splits
+pub mod Triplets
 pub mod theorems

@@ -8,6 +8,7 @@ pub mod EulerCentre
 pub mod FourLabels
 pub mod Holders
 pub mod LabelSums
+pub mod LowestAncestors
 pub mod OneCentre
 pub mod OrderedClaims
 pub mod PartedFours
@@ -20,4 +21,5 @@ pub mod SplitLaws
 pub mod Topologies
 pub mod Totals
 pub mod Triples
+pub mod TripletCounts
 pub mod ZeroRule

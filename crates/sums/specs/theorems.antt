@@ -9,3 +9,5 @@ pub mod Products
 pub mod SetLaws
 pub mod SumLaws
 pub mod TestLaws
+pub mod ThreesLaws
+pub mod TripleSums

@@ -30,7 +30,7 @@ unfolding caseOf
 other-name p q d = rw (ne-eqb p q d, caseOf)
 
 module _ (p q r : ℕ) (pq : p ≢ q) (pr : p ≢ r) (qr : q ≢ r) where
-  case-named : (a b c a' b' c' : Bool)
+  pub case-named : (a b c a' b' c' : Bool)
       → caseNumber (caseOf (named a b c p q r) (named a' b' c' p q r)) ≡ caseIn (firstPassed a b c) (firstPassed a' b' c')
   unfolding named firstPassed caseIn caseNumber caseOf
   case-named true b c true b' c' = ap caseNumber (same-name p)

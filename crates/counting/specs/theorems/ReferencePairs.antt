@@ -13,6 +13,7 @@ use Rattle.shapes.specs.Ancestors.{ancIn, anc}
 use Rattle.shapes.specs.Directions.{edge, rising, head, behind}
 use Rattle.shapes.specs.Quartets.{parts, parted}
 use Rattle.shapes.specs.Claims.{sumIf, meet, sumClaimsOf, sumClaims, choose2}
+use Rattle.shapes.specs.Triplets.{lastBelow, lowest, resolved}
 use Rattle.shapes.specs.Splits.{isSplit, sameSides, occurs, splitsOf, commonOf, allOccur, sameSplitsOf}
 use Rattle.tree_check.specs.Table.{Table, tips, nodes, parents, labels, parent, label, nodeBelow, nodeOf, beyond}
 use Rattle.trees.specs.Topology.{butterfly, partner, named, topology}
@@ -21,32 +22,35 @@ use Rattle.counting.specs.ClaimSums.{codes, behindEdge, size, crossing, 
 use Rattle.counting.specs.Cases.{A, B, C, D, E, caseOf, caseNumber, isCase, quartets}
 use Rattle.counting.specs.QuartetTable.{formulaA, formulaB, formulaC, formulaE, formulaDistance, formulaD}
 use Rattle.counting.specs.SplitCounts.{splits, commonSplits, robinsonFoulds, sameSplits}
+use Rattle.counting.specs.Triplets.{together, triplet, triplets}
 
 -- one line of the reference table: S S′ S2 S3, A B C D E, distance, splits of the first, of the second, common,
--- Robinson-Foulds distance
+-- Robinson-Foulds distance, A B C D E of the triplets
 unfoldable pub figures : Table → Table → List ℕ
 figures t u =
     S t ∷ S u ∷ S2 t u ∷ S3 t u
     ∷ quartets t u A ∷ quartets t u B ∷ quartets t u C ∷ quartets t u D ∷ quartets t u E
     ∷ (quartets t u B + quartets t u C + quartets t u D)
-    ∷ splits t ∷ splits u ∷ commonSplits t u ∷ robinsonFoulds t u ∷ []
+    ∷ splits t ∷ splits u ∷ commonSplits t u ∷ robinsonFoulds t u
+    ∷ triplets t u A ∷ triplets t u B ∷ triplets t u C ∷ triplets t u D ∷ triplets t u E ∷ []
 
 -- K1 to K9
 pub reference-pairs :
     figures P Q ∷ figures P R ∷ figures Q R ∷ figures P P ∷ figures W W ∷ figures P W ∷ figures W P
     ∷ figures TwoTips TwoTips ∷ figures ThreeTips ThreeTips ∷ []
-    ≡ (10 ∷ 6 ∷ 6 ∷ 0 ∷ 3 ∷ 0 ∷ 2 ∷ 0 ∷ 0 ∷ 2 ∷ 2 ∷ 1 ∷ 1 ∷ 1 ∷ [])
-    ∷ (10 ∷ 10 ∷ 6 ∷ 8 ∷ 3 ∷ 2 ∷ 0 ∷ 0 ∷ 0 ∷ 2 ∷ 2 ∷ 2 ∷ 1 ∷ 2 ∷ [])
-    ∷ (6 ∷ 10 ∷ 2 ∷ 8 ∷ 1 ∷ 2 ∷ 0 ∷ 2 ∷ 0 ∷ 4 ∷ 1 ∷ 2 ∷ 0 ∷ 3 ∷ [])
-    ∷ (10 ∷ 10 ∷ 10 ∷ 0 ∷ 5 ∷ 0 ∷ 0 ∷ 0 ∷ 0 ∷ 0 ∷ 2 ∷ 2 ∷ 2 ∷ 0 ∷ [])
-    ∷ (0 ∷ 0 ∷ 0 ∷ 0 ∷ 0 ∷ 0 ∷ 0 ∷ 0 ∷ 5 ∷ 0 ∷ 0 ∷ 0 ∷ 0 ∷ 0 ∷ [])
-    ∷ (10 ∷ 0 ∷ 0 ∷ 0 ∷ 0 ∷ 0 ∷ 5 ∷ 0 ∷ 0 ∷ 5 ∷ 2 ∷ 0 ∷ 0 ∷ 2 ∷ [])
-    ∷ (0 ∷ 10 ∷ 0 ∷ 0 ∷ 0 ∷ 0 ∷ 0 ∷ 5 ∷ 0 ∷ 5 ∷ 0 ∷ 2 ∷ 0 ∷ 2 ∷ [])
-    ∷ (0 ∷ 0 ∷ 0 ∷ 0 ∷ 0 ∷ 0 ∷ 0 ∷ 0 ∷ 0 ∷ 0 ∷ 0 ∷ 0 ∷ 0 ∷ 0 ∷ [])
-    ∷ (0 ∷ 0 ∷ 0 ∷ 0 ∷ 0 ∷ 0 ∷ 0 ∷ 0 ∷ 0 ∷ 0 ∷ 0 ∷ 0 ∷ 0 ∷ 0 ∷ []) ∷ []
+    ≡ (10 ∷ 6 ∷ 6 ∷ 0 ∷ 3 ∷ 0 ∷ 2 ∷ 0 ∷ 0 ∷ 2 ∷ 2 ∷ 1 ∷ 1 ∷ 1 ∷ 3 ∷ 0 ∷ 1 ∷ 0 ∷ 0 ∷ [])
+    ∷ (10 ∷ 10 ∷ 6 ∷ 8 ∷ 3 ∷ 2 ∷ 0 ∷ 0 ∷ 0 ∷ 2 ∷ 2 ∷ 2 ∷ 1 ∷ 2 ∷ 2 ∷ 2 ∷ 0 ∷ 0 ∷ 0 ∷ [])
+    ∷ (6 ∷ 10 ∷ 2 ∷ 8 ∷ 1 ∷ 2 ∷ 0 ∷ 2 ∷ 0 ∷ 4 ∷ 1 ∷ 2 ∷ 0 ∷ 3 ∷ 1 ∷ 2 ∷ 0 ∷ 1 ∷ 0 ∷ [])
+    ∷ (10 ∷ 10 ∷ 10 ∷ 0 ∷ 5 ∷ 0 ∷ 0 ∷ 0 ∷ 0 ∷ 0 ∷ 2 ∷ 2 ∷ 2 ∷ 0 ∷ 4 ∷ 0 ∷ 0 ∷ 0 ∷ 0 ∷ [])
+    ∷ (0 ∷ 0 ∷ 0 ∷ 0 ∷ 0 ∷ 0 ∷ 0 ∷ 0 ∷ 5 ∷ 0 ∷ 0 ∷ 0 ∷ 0 ∷ 0 ∷ 0 ∷ 0 ∷ 0 ∷ 0 ∷ 4 ∷ [])
+    ∷ (10 ∷ 0 ∷ 0 ∷ 0 ∷ 0 ∷ 0 ∷ 5 ∷ 0 ∷ 0 ∷ 5 ∷ 2 ∷ 0 ∷ 0 ∷ 2 ∷ 0 ∷ 0 ∷ 4 ∷ 0 ∷ 0 ∷ [])
+    ∷ (0 ∷ 10 ∷ 0 ∷ 0 ∷ 0 ∷ 0 ∷ 0 ∷ 5 ∷ 0 ∷ 5 ∷ 0 ∷ 2 ∷ 0 ∷ 2 ∷ 0 ∷ 0 ∷ 0 ∷ 4 ∷ 0 ∷ [])
+    ∷ (0 ∷ 0 ∷ 0 ∷ 0 ∷ 0 ∷ 0 ∷ 0 ∷ 0 ∷ 0 ∷ 0 ∷ 0 ∷ 0 ∷ 0 ∷ 0 ∷ 0 ∷ 0 ∷ 0 ∷ 0 ∷ 0 ∷ [])
+    ∷ (0 ∷ 0 ∷ 0 ∷ 0 ∷ 0 ∷ 0 ∷ 0 ∷ 0 ∷ 0 ∷ 0 ∷ 0 ∷ 0 ∷ 0 ∷ 0 ∷ 0 ∷ 0 ∷ 0 ∷ 0 ∷ 0 ∷ []) ∷ []
 unfolding
     figures S S2 S3 codes behindEdge size crossing sumClaims sumClaimsOf sumIf meet choose2 quartets isCase caseNumber
     caseOf splits commonSplits robinsonFoulds splitsOf commonOf isSplit sameSides occurs
+    triplets triplet together resolved lowest lastBelow
     topology named partner butterfly parts parted sets2 sets3 sets4 sum bit some every
     ancIn anc edge rising head behind tips nodes parents labels parent label nodeBelow nodeOf beyond
 reference-pairs = refl

@@ -3,7 +3,7 @@
 use mathlib.Core.Path.{_≡_, refl, sym, _∙_, ap, ap₂}
 use mathlib.Core.Logic.{Ne·symm}
 use mathlib.Core.List.{List, [], _∷_}
-use Prim.Native.Nat.{ℕ, zero, suc}
+use Prim.Native.Nat.{ℕ, zero, suc, _*_}
 use native.Mathlib.Omega.{arith}
 use Rattle.sums.specs.Bits.{bit}
 use Rattle.sums.specs.SetsOfFour.{sets4}
@@ -23,9 +23,11 @@ use Rattle.walks.specs.theorems.WalkOrderLaws.{tree-accepted}
 use Rattle.trees.specs.Topology.{butterfly, topology, topologyAnswer}
 use Rattle.counting.specs.Cases.{Case, A, B, C, D, caseOf, isCase, quartets}
 use Rattle.counting.specs.SplitCounts.{commonSplits, robinsonFoulds, HaveSameSplits}
+use Rattle.counting.specs.Triplets.{triplets}
 use Rattle.counting.specs.theorems.TreeShape.{shapeOf}
 use Rattle.counting.specs.theorems.CountingTheorem.{ClaimCounts, claim-counts}
 use Rattle.counting.specs.theorems.TreeSplits.{common-from-either, same-splits-as-many, same-splits-in-common}
+use Rattle.counting.specs.theorems.TripletTheorem.{holdsTip0, quartetsWithTip0, triplets-are-quartets}
 use Rattle.counting.specs.LabelsAlone.{SameFigures, LabelsAlone}
 
 -- ---- topologies
@@ -102,6 +104,19 @@ module _ (t u t' u' : Table) (g : IsTree t) (h : IsTree u) (g' : IsTree t') (h' 
       ∙ same-splits-in-common u' t t' (omega arith) s
       ∙ common-from-either u' t' h' g' (omega arith)
 
+  -- a triplet is the topology of its labels with tip 0
+  same-triplets : (k : Case) → triplets t u k ≡ triplets t' u' k
+  unfolding quartetsWithTip0
+  same-triplets k =
+      triplets-are-quartets t u g h e k
+      ∙ sets4-ext (tips t) _ _ (λ w x y z wx xy yz l.
+      ap₂ (λ (p q : Topology). holdsTip0 w x y z * bit (isCase (caseOf p q) k))
+      (same-topologies t t' g g' et s w x y z (omega arith))
+      (same-topologies u u' h h' eu r w x y z (omega arith)))
+      ∙ ap (λ (n : ℕ). sets4 n (λ w x y z.
+      holdsTip0 w x y z * bit (isCase (caseOf (topology t' w x y z) (topology u' w x y z)) k))) et
+      ∙ sym (triplets-are-quartets t' u' g' h' (omega arith) k)
+
   pub same-figures : SameFigures t u t' u'
   same-figures = record {
     first = omega (arith, c .first, c' .first, a, b, same-counts C);
@@ -115,6 +130,7 @@ module _ (t u t' u' : Table) (g : IsTree t) (h : IsTree u) (g' : IsTree t') (h' 
     common = same-common;
     robinson-foulds = unfold robinsonFoulds in
         rw (same-splits-as-many t t' g g' et s, same-splits-as-many u u' h h' eu r, same-common);
+    triplet-counts = same-triplets;
   }
     where
       c : ClaimCounts t u

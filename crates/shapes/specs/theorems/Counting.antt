@@ -63,22 +63,22 @@ Counted {n} t u = SumsCount n (S-in t) (S-in u) (S2-in t u) (S3-in t u)
 -- ---- one set of four, with the three tests of either shape
 
 -- 1 if the two are in case k
-abbrev inCase : Bool → Bool → Bool → Bool → Bool → Bool → ℕ → ℕ
+abbrev pub inCase : Bool → Bool → Bool → Bool → Bool → Bool → ℕ → ℕ
 inCase x y z x' y' z' k = bit (eqb (caseIn (firstPassed x y z) (firstPassed x' y' z')) k)
 
-record Cases (x y z x' y' z' : Bool) : Type 0 where
-  in-first : inCase x y z x' y' z' 0 + inCase x y z x' y' z' 1 + inCase x y z x' y' z' 2
+pub record Cases (x y z x' y' z' : Bool) : Type 0 where
+  pub in-first : inCase x y z x' y' z' 0 + inCase x y z x' y' z' 1 + inCase x y z x' y' z' 2
       ≡ bit x + bit y + bit z
-  in-second : inCase x y z x' y' z' 0 + inCase x y z x' y' z' 1 + inCase x y z x' y' z' 3
+  pub in-second : inCase x y z x' y' z' 0 + inCase x y z x' y' z' 1 + inCase x y z x' y' z' 3
       ≡ bit x' + bit y' + bit z'
-  in-same : inCase x y z x' y' z' 0 ≡ bit x * bit x' + bit y * bit y' + bit z * bit z'
-  in-different : inCase x y z x' y' z' 1
+  pub in-same : inCase x y z x' y' z' 0 ≡ bit x * bit x' + bit y * bit y' + bit z * bit z'
+  pub in-different : inCase x y z x' y' z' 1
       ≡ bit x * bit y' + bit x * bit z' + bit y * bit x' + bit y * bit z' + bit z * bit x' + bit z * bit y'
-  in-one : inCase x y z x' y' z' 0 + inCase x y z x' y' z' 1 + inCase x y z x' y' z' 2
+  pub in-one : inCase x y z x' y' z' 0 + inCase x y z x' y' z' 1 + inCase x y z x' y' z' 2
       + inCase x y z x' y' z' 3 + inCase x y z x' y' z' 4
       ≡ 1
 
-cases : {x y z x' y' z' : Bool} → AtMostOne x y z → AtMostOne x' y' z' → Cases x y z x' y' z'
+pub cases : {x y z x' y' z' : Bool} → AtMostOne x y z → AtMostOne x' y' z' → Cases x y z x' y' z'
 unfolding bit firstPassed caseIn
 cases none none = omega arith
 cases none first = omega arith

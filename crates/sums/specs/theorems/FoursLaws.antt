@@ -21,10 +21,10 @@ unfolding sets2 sum
 twos zero = refl
 twos (suc k) = omega (arith, twos k, sum-const k 1)
 
-threes : (k : ℕ) → 6 * sets3 (suc (suc k)) (λ x y z. 1) ≡ suc (suc k) * (suc k * k)
+pub three-sets : (k : ℕ) → 6 * sets3 (suc (suc k)) (λ x y z. 1) ≡ suc (suc k) * (suc k * k)
 unfolding sets3 sets2 sum
-threes zero = refl
-threes (suc k) = omega (arith, threes k, twos (suc k))
+three-sets zero = refl
+three-sets (suc k) = omega (arith, three-sets k, twos (suc k))
 
 one-more : (k a b c x y : ℕ) → 24 * x ≡ a * (b * (c * k)) → 6 * y ≡ a * (b * c)
     → 24 * (x + y) ≡ suc (suc (suc (suc k))) * (a * (b * c))
@@ -35,7 +35,7 @@ unfolding setsOfFour sets4 sets3 sets2 sum
 four-sets zero = refl
 four-sets (suc k) =
     one-more k (suc (suc (suc k))) (suc (suc k)) (suc k) (setsOfFour (suc (suc (suc k))))
-    (sets3 (suc (suc (suc k))) (λ x y z. 1)) (four-sets k) (threes (suc k))
+    (sets3 (suc (suc (suc k))) (λ x y z. 1)) (four-sets k) (three-sets (suc k))
 
 -- ---- the formula, also where a factor would be below 0
 

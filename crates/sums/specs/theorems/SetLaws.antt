@@ -5,7 +5,7 @@ use mathlib.Core.Logic.{_↔_}
 use Prim.Native.Nat.{ℕ, zero, suc, _+_, _*_, _<_}
 use native.Mathlib.Omega.{arith}
 use Rattle.sums.specs.Sum.{sum}
-use Rattle.sums.specs.theorems.SumLaws.{sum-suc, sum-ext, sum-cong, sum-add, sum-none, sum-ge, sum-swap}
+use Rattle.sums.specs.theorems.SumLaws.{sum-suc, sum-first, sum-ext, sum-cong, sum-add, sum-none, sum-ge, sum-swap}
 use Rattle.sums.specs.SetsOfFour.{sets2, sets3, sets4}
 
 -- ---- tuples, whose members need not differ
@@ -24,7 +24,7 @@ tuples4 n f = sum n (λ a. tuples3 n (f a))
 pub tuples2-cong : (n : ℕ) {f g : ℕ → ℕ → ℕ} → ((a b : ℕ) → f a b ≡ g a b) → tuples2 n f ≡ tuples2 n g
 tuples2-cong n h = ap (tuples2 n) (fun-ext (λ a. fun-ext (h a)))
 
-tuples3-cong : (n : ℕ) {f g : ℕ → ℕ → ℕ → ℕ} → ((a b c : ℕ) → f a b c ≡ g a b c)
+pub tuples3-cong : (n : ℕ) {f g : ℕ → ℕ → ℕ → ℕ} → ((a b c : ℕ) → f a b c ≡ g a b c)
     → tuples3 n f ≡ tuples3 n g
 tuples3-cong n h = ap (tuples3 n) (fun-ext (λ a. fun-ext (λ b. fun-ext (h a b))))
 
@@ -47,6 +47,12 @@ pub sets4-ext : (n : ℕ) (f g : ℕ → ℕ → ℕ → ℕ → ℕ)
 unfolding sets4 sets3 sets2
 sets4-ext n f g h = sum-ext n _ _ (λ z lz. sum-ext z _ _ (λ y ly.
     sum-ext y _ _ (λ x lx. sum-ext x _ _ (λ w lw. h w x y z lw lx ly lz))))
+
+pub sets3-ext : (n : ℕ) (f g : ℕ → ℕ → ℕ → ℕ)
+    → ((x y z : ℕ) → x < y → y < z → z < n → f x y z ≡ g x y z) → sets3 n f ≡ sets3 n g
+unfolding sets3 sets2
+sets3-ext n f g h =
+    sum-ext n _ _ (λ z lz. sum-ext z _ _ (λ y ly. sum-ext y _ _ (λ x lx. h x y z lx ly lz)))
 
 -- a sum over the sets is 0 exactly if each term is
 pub sets4-none : (n : ℕ) (f : ℕ → ℕ → ℕ → ℕ → ℕ)
@@ -73,6 +79,10 @@ pub sets4-add : (n : ℕ) (f g : ℕ → ℕ → ℕ → ℕ → ℕ)
     → sets4 n (λ w x y z. f w x y z + g w x y z) ≡ sets4 n f + sets4 n g
 unfolding sets4 sets3 sets2
 sets4-add n f g = simp sum-add
+
+pub sets3-add : (n : ℕ) (f g : ℕ → ℕ → ℕ → ℕ) → sets3 n (λ x y z. f x y z + g x y z) ≡ sets3 n f + sets3 n g
+unfolding sets3 sets2
+sets3-add n f g = simp sum-add
 
 pub tuples4-swap-middle : (n : ℕ) (f : ℕ → ℕ → ℕ → ℕ → ℕ) → tuples4 n (λ a b c d. f a c b d) ≡ tuples4 n f
 unfolding tuples4 tuples3 tuples2
@@ -134,6 +144,70 @@ six-times (suc n) f s t d = rw tuples3-suc (omega (
   sum-none n (λ a. f n n a) (λ a l. d n a),
   d n n,
 ))
+
+-- ---- any function that is 0 where two members are equal, by the orders of each set
+
+-- both orders of a set of two
+either-order : (n : ℕ) (f : ℕ → ℕ → ℕ) → ((a : ℕ) → f a a ≡ 0) → tuples2 n f ≡ sets2 n (λ x y. f x y + f y x)
+unfolding tuples2 sets2 sum
+either-order zero f d = refl
+either-order (suc n) f d =
+    rw tuples2-suc (omega (arith, either-order n f d, sum-add n (λ x. f x n) (f n), d n))
+
+-- the six orders of a set of three
+abbrev pub sixWays : (ℕ → ℕ → ℕ → ℕ) → ℕ → ℕ → ℕ → ℕ
+sixWays f a b c = f a b c + f a c b + f b a c + f b c a + f c a b + f c b a
+
+pub every-order : (n : ℕ) (f : ℕ → ℕ → ℕ → ℕ) → ((a b : ℕ) → f a a b ≡ 0) → ((a b : ℕ) → f a b a ≡ 0)
+    → ((a b : ℕ) → f a b b ≡ 0) → tuples3 n f ≡ sets3 n (sixWays f)
+unfolding tuples3 sets3 sum
+every-order zero f p q r = refl
+every-order (suc n) f p q r = rw tuples3-suc (omega (
+  arith,
+  every-order n f p q r,
+  either-order n (λ a b. f a b n) (λ a. p a n),
+  either-order n (λ a b. f a n b) (λ a. q a n),
+  either-order n (f n) (λ a. r n a),
+  last-three,
+  sum-none n (λ a. f a n n) (λ a l. r a n),
+  sum-none n (λ a. f n a n) (λ a l. q n a),
+  sum-none n (f n n) (λ a l. p n a),
+  p n n,
+))
+  where
+    last-three : sets2 n (λ x y. sixWays f x y n)
+        ≡ sets2 n (λ x y. f x y n + f y x n) + sets2 n (λ x y. f x n y + f y n x) + sets2 n (λ x y. f n x y + f n y x)
+    last-three = unfold sets2 in simp sum-add (omega arith)
+
+-- ---- the sets that hold 0, and the others
+
+sets2-first : (n : ℕ) (f : ℕ → ℕ → ℕ)
+    → sets2 (suc n) f ≡ sets2 n (λ x y. f (suc x) (suc y)) + sum n (λ y. f 0 (suc y))
+unfolding sets2 sum
+sets2-first n f =
+    sum-first n (λ y. sum y (λ x. f x y))
+    ∙ ap (λ (z : ℕ). 0 + z) (sum-cong n (λ y. sum-first y (λ x. f x (suc y)))
+    ∙ sum-add n (λ y. f 0 (suc y)) (λ y. sum y (λ x. f (suc x) (suc y))))
+    ∙ omega arith
+
+pub sets3-first : (n : ℕ) (f : ℕ → ℕ → ℕ → ℕ)
+    → sets3 (suc n) f ≡ sets3 n (λ x y z. f (suc x) (suc y) (suc z)) + sets2 n (λ y z. f 0 (suc y) (suc z))
+unfolding sets3 sets2 sum
+sets3-first n f =
+    sum-first n (λ z. sets2 z (λ x y. f x y z))
+    ∙ ap (λ (w : ℕ). 0 + w) (sum-cong n (λ z. sets2-first z (λ x y. f x y (suc z)))
+    ∙ sum-add n _ _)
+    ∙ omega arith
+
+pub sets4-first : (n : ℕ) (f : ℕ → ℕ → ℕ → ℕ → ℕ)
+    → sets4 (suc n) f
+    ≡ sets4 n (λ w x y z. f (suc w) (suc x) (suc y) (suc z)) + sets3 n (λ x y z. f 0 (suc x) (suc y) (suc z))
+unfolding sets4 sets3 sets2 sum
+sets4-first n f =
+    sum-first n (λ z. sets3 z (λ w x y. f w x y z))
+    ∙ ap (λ (w : ℕ). 0 + w) (sum-cong n (λ z. sets3-first z (λ w x y. f w x y (suc z)))
+    ∙ sum-add n _ _)
+    ∙ omega arith
 
 -- no exchange of neighbours changes f, and f is 0 where two members are equal
 pub record Symmetric (f : ℕ → ℕ → ℕ → ℕ → ℕ) : Type 0 where
