@@ -7,21 +7,33 @@ use borrow.Author.Needs.{needs}
 use Rattle.claims.proofs.blocks.block_terms.Statement.{statement}
 use Rattle.claims.proofs.blocks.block_terms.Tie as tie
 
+-- ---- the points of the program
+
+-- at the test of the rows, the start
+abbrev start : tie.After-slice-known5 → tie.Start
+start c = c .before .before .before .before .before .before
+
+-- where what was lent is back, the terms of a large block
+abbrev large : tie.After-slice-known10 → tie.After-large-block
+large c = c .before .before .before .before .before .before .before .before .before .before
+
+-- ---- the needs
+
 three-lines-requires : tie.Need-three-lines-requires
-three-lines-requires c κs = three-rows _ _ _ (c .before .before .before .before .before .before .before .pre .0) (c .if1 .taken)
+three-lines-requires c κs = three-rows _ _ _ (start (c .before) .pre .0) (c .if1 .taken)
 
 returns : tie.Need-returns
 returns c =
-    let b = c .before .before .before .before .before .before .before .before .pre .0 in
+    let b = start (c .before .before) .pre .0 in
     let three = c .before .if1 .taken in
     (c .three-lines .ensures .0 ∙ three-rows-S2 _ _ _ b three, c .three-lines .ensures .1 ∙ three-rows-S3 _ _ _ b three)
 
 three-lines-requires-2 : tie.Need-three-lines-requires-2
-three-lines-requires-2 c κs = three-columns _ _ _ (c .before .before .before .before .before .before .before .before .pre .0) (c .if2 .taken)
+three-lines-requires-2 c κs = three-columns _ _ _ (start (c .before .before) .pre .0) (c .if2 .taken)
 
 returns-2 : tie.Need-returns-2
 returns-2 c =
-    let b = c .before .before .before .before .before .before .before .before .before .pre .0 in
+    let b = start (c .before .before .before) .pre .0 in
     let three = c .before .if2 .taken in (
       c .three-lines2 .ensures .0 ∙ three-columns-S2 _ _ _ b three,
       c .three-lines2 .ensures .1 ∙ three-columns-S3 _ _ _ b three,
@@ -46,7 +58,7 @@ same-length-5 : tie.Need-same-length-5
 same-length-5 c = search needs
 
 returns-3 : tie.Need-returns-3
-returns-3 c = c .before .before .before .before .before .before .before .before .before .before .large-block .ensures
+returns-3 c = large c .large-block .ensures
 
 pub block-terms-spec : {M : Type 1} → statement M
 block-terms-spec =

@@ -25,8 +25,16 @@ Inv-loop cells rows columns i _ _ _ _ _ _ _ _ _ _ _ _ _ _ pairs plus minus k j =
 abbrev μ-loop : tie.MeasureT-loop
 μ-loop cells rows columns i _ _ _ _ _ _ _ _ _ _ _ _ _ _ pairs plus minus k j = columns - j
 
+-- ---- the points of the program
+
 abbrev start : tie.At-loop Inv-loop μ-loop → tie.Start Inv-loop μ-loop
 start c = c .before .before .before .before .before .before .before .before
+
+-- after the terms of a cell, the turn's head
+abbrev head : tie.After-cell-terms Inv-loop μ-loop → tie.At-loop Inv-loop μ-loop
+head c = c .before .before .before .before .before .before .before
+
+-- ---- what is known there
 
 in-cells : (c : tie.In-loop Inv-loop μ-loop) → c .before .loop .k < length (start (c .before) .args .cells .now)
 in-cells c =
@@ -41,6 +49,8 @@ cell : (c : tie.After-cell-count Inv-loop μ-loop)
 cell c =
     let l = c .before .before .before in
     c .cell-count .ensures .0 ∙ ap (λ (k : ℕ). word (start l .args .cells .now) k) (l .loop .inv .1)
+
+-- ---- the needs
 
 mul-row : tie.Need-mul-row Inv-loop μ-loop
 mul-row c = omega (arith, c .before .before .before .before .before .pre .0 .0 .sums-long)
@@ -97,32 +107,35 @@ cell-terms-requires c κs =
 
 add-pairs : tie.Need-add-pairs Inv-loop μ-loop
 add-pairs c =
-    let l = c .before .before .before .before .before .before .before .before in
+    let t = c .before in
+    let l = head t in
     omega (
       arith,
       start l .pre .0 .0 .block .columns-few,
       l .loop .inv .2 .pairs-le,
-      c .before .cell-terms .ensures .pairs-le,
+      t .cell-terms .ensures .pairs-le,
     )
 
 add-plus : tie.Need-add-plus Inv-loop μ-loop
 add-plus c =
-    let l = c .before .before .before .before .before .before .before .before .before in
+    let t = c .before .before in
+    let l = head t in
     omega (
       arith,
       start l .pre .0 .0 .block .columns-few,
       l .loop .inv .2 .plus-le,
-      c .before .before .cell-terms .ensures .plus-le,
+      t .cell-terms .ensures .plus-le,
     )
 
 add-minus : tie.Need-add-minus Inv-loop μ-loop
 add-minus c =
-    let l = c .before .before .before .before .before .before .before .before .before .before in
+    let t = c .before .before .before in
+    let l = head t in
     omega (
       arith,
       start l .pre .0 .0 .block .columns-few,
       l .loop .inv .2 .minus-le,
-      c .before .before .before .cell-terms .ensures .minus-le,
+      t .cell-terms .ensures .minus-le,
     )
 
 add-k : tie.Need-add-k Inv-loop μ-loop

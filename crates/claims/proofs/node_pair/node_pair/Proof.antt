@@ -3,27 +3,53 @@
 use mathlib.Core.Path.{sym, _∙_, ap₂}
 use Prim.Native.Nat.{ℕ}
 use native.Mathlib.Omega.{arith}
+use lib.ListN.{length}
 use Rattle.node_pairs.specs.theorems.Cells.{pairS2, pairS3}
 use Rattle.tree_check.specs.Table.{word}
 use Rattle.claims.specs.lemmas.CodeCells.{codeCell}
-use Rattle.claims.specs.lemmas.PairLoops.{few-S2, few-S3, block-room, filled-block, filled-S2, filled-S3}
+use Rattle.claims.specs.lemmas.PairLoops.{NodePair, few-S2, few-S3, block-room, filled-block, filled-S2, filled-S3}
 use borrow.Author.Needs.{needs}
 use Rattle.claims.proofs.node_pair.node_pair.Statement.{statement}
 use Rattle.claims.proofs.node_pair.node_pair.Tie as tie
+
+-- ---- the points of the program
+
+-- past the test of the second node's codes, the start
+abbrev start : tie.Else1 → tie.Start
+start c = c .before .before .before .before .before .before .before .before .before .before
+
+-- once the block is filled, that test
+abbrev counted : tie.After-fill-block → tie.Else1
+counted c = c .before .before .before
+
+-- where all is lent for the block's terms, the filled block
+abbrev filled : tie.After-block-terms-arg6 → tie.After-fill-block
+filled c = c .before .before .before .before .before .before .before .before
+
+-- where what was lent is back, the block's terms
+abbrev summed : tie.After-slice-known12 → tie.After-block-terms
+summed c = c .before .before .before .before .before .before .before .before .before .before
+
+-- ---- what is known there
+
+-- two nodes with three codes or more into the second, and room for their block
+pair : (c : tie.Else1)
+    → (let a = start c .args in
+    NodePair (a .work .now) (a .width) (a .n) (a .rows .now) (a .columns .now) (length (a .block .now)))
+pair c = start c .pre .0 .pair (omega (arith, c .if1 .left))
+
+-- ---- the needs
 
 returns : tie.Need-returns
 returns c = (sym (few-S2 _ _ _ (c .if1 .taken)), sym (few-S3 _ _ _ (c .if1 .taken)))
 
 nine-cells-requires : tie.Need-nine-cells-requires
 nine-cells-requires c κs =
-    let o = c .before .before in
-    let s = o .before .before .before .before .before .before .before .before .before .before in
-    (s .pre .0 .pair (omega (arith, o .if1 .left)) .edges, (c .before .if2 .taken, c .if3 .taken))
+    (pair (c .before .before) .edges, (c .before .if2 .taken, c .if3 .taken))
 
 returns-2 : tie.Need-returns-2
 returns-2 c =
-    let o = c .before .before .before in
-    let s = o .before .before .before .before .before .before .before .before .before .before in
+    let s = start (c .before .before .before) in
     let three = c .before .before .if2 .taken in
     let three' = c .before .if3 .taken in
     let cells = codeCell (s .args .work .now) (s .args .width) (s .args .n) (word (s .args .rows .now))
@@ -34,21 +60,17 @@ returns-2 c =
 
 fill-block-requires : tie.Need-fill-block-requires
 fill-block-requires c κs =
-    let o = c .before .before in
-    let s = o .before .before .before .before .before .before .before .before .before .before in
-    let p = s .pre .0 .pair (omega (arith, o .if1 .left)) in
+    let p = pair (c .before .before) in
     (p .edges, block-room _ _ _ _ _ _ p)
 
 block-terms-requires : tie.Need-block-terms-requires
 block-terms-requires c κs =
-    let a = c .before .before .before .before .before in
-    let f = a .before .before .before in
-    let o = f .before .before .before in
-    let s = o .before .before .before .before .before .before .before .before .before .before in
-    let p = s .pre .0 .pair (omega (arith, o .if1 .left)) in (
+    let f = filled c in
+    let o = counted f in
+    let p = pair o in (
       filled-block _ _ _ _ _ _ p _ (f .fill-block .ensures)
           (omega (arith, f .fill-block .kept .1 .1 .1 .1 .1 .0)),
-      s .pre .1,
+      start o .pre .1,
     )
 
 same-length : tie.Need-same-length
@@ -71,12 +93,9 @@ same-length-6 c = search needs
 
 returns-3 : tie.Need-returns-3
 returns-3 c =
-    let b = c .before .before .before .before .before .before .before .before .before .before in
-    let a = b .before .before .before .before .before .before in
-    let f = a .before .before .before in
-    let o = f .before .before .before in
-    let s = o .before .before .before .before .before .before .before .before .before .before in
-    let p = s .pre .0 .pair (omega (arith, o .if1 .left)) in (
+    let b = summed c in
+    let f = filled (b .before) in
+    let p = pair (counted f) in (
       b .block-terms .ensures .0 ∙ filled-S2 _ _ _ _ _ _ p _ (f .fill-block .ensures),
       b .block-terms .ensures .1 ∙ filled-S3 _ _ _ _ _ _ p _ (f .fill-block .ensures),
     )

@@ -31,12 +31,27 @@ abbrev μ-loop : tie.MeasureT-loop
 
 -- ---- the points of the program
 
+-- where the first tree's node has its codes counted, the start
+abbrev counted : tie.After-slice-known6 Inv-loop μ-loop → tie.Start Inv-loop μ-loop
+counted c = c .before .before .before .before .before .before .before .before .before .before .before .before
+
+-- in a turn, the start
 abbrev start : tie.In-loop Inv-loop μ-loop → tie.Start Inv-loop μ-loop
-start c = c .before .before .before .before .before .before .before .before .before .before .before .before .before .before .before
+start c = counted (c .before .before .before)
+
+-- where all is lent to a pair of nodes, the turn
+abbrev lent : tie.After-node-pair-arg7 Inv-loop μ-loop → tie.In-loop Inv-loop μ-loop
+lent c = c .before .before .before .before .before .before .before .before .before .before
 
 -- after a pair of nodes, the turn
 abbrev turn : tie.After-node-pair Inv-loop μ-loop → tie.In-loop Inv-loop μ-loop
-turn c = c .before .before .before .before .before .before .before .before .before .before .before
+turn c = lent (c .before)
+
+-- where what was lent is back and the pair's terms are added, the pair of nodes
+abbrev paired : tie.After-struct-known Inv-loop μ-loop → tie.After-node-pair Inv-loop μ-loop
+paired c = c .before .before .before .before .before .before .before .before .before .before .before .before .before
+
+-- ---- what is known there
 
 -- in a turn the first tree's node has three codes or more into it, ..
 row : (c : tie.In-loop Inv-loop μ-loop)
@@ -88,7 +103,7 @@ module _ (c : tie.After-node-pair Inv-loop μ-loop) where
 
 returns : tie.Need-returns Inv-loop μ-loop
 returns c =
-    let a = c .before .before .before .before .before .before .before .before .before .before .before .before .before .args in
+    let a = counted (c .before) .args in
     let q = few-row (a .work .now) (a .width) (a .n) (a .rows .now) (a .second-parents .now) (c .if1 .taken) in
     (sym (q .0), sym (q .1))
 
@@ -138,7 +153,7 @@ part-node-pair-end c =
 
 node-pair-requires : tie.Need-node-pair-requires Inv-loop μ-loop
 node-pair-requires c κs =
-    let l = c .before .before .before .before .before .before .before .before .before .before in
+    let l = lent c in
     let s = start l .pre .1 .0 in
     let i = l .before .loop .inv in (
       rw (i .2) (row-room _ _ _ _ _ _ _ _ (row l) _ (node l)),
@@ -152,22 +167,22 @@ node-pair-requires c κs =
     )
 
 add-s2 : tie.Need-add-s2 Inv-loop μ-loop
-add-s2 c = omega (arith, sums-low (c .before .before .before .before .before .before .before .before .before .before .before .before .before))
+add-s2 c = omega (arith, sums-low (paired c))
 
 add-s3 : tie.Need-add-s3 Inv-loop μ-loop
-add-s3 c = omega (arith, sums-low (c .before .before .before .before .before .before .before .before .before .before .before .before .before .before))
+add-s3 c = omega (arith, sums-low (paired (c .before)))
 
 add-i : tie.Need-add-i Inv-loop μ-loop
 add-i c =
-    let l = turn (c .before .before .before .before .before .before .before .before .before .before .before .before .before .before) in
+    let l = turn (paired (c .before)) in
     omega (arith, low l, l .loop-test .taken)
 
 loop-less : tie.Need-loop-less Inv-loop μ-loop
-loop-less c = omega (arith, turn (c .before .before .before .before .before .before .before .before .before .before .before .before .before .before) .loop-test .taken)
+loop-less c = omega (arith, turn (paired (c .before)) .loop-test .taken)
 
 loop-again : tie.Need-loop-again Inv-loop μ-loop
 loop-again c =
-    let p = c .before .before .before .before .before .before .before .before .before .before .before .before .before .before in
+    let p = paired (c .before) in
     let l = turn p in
     let i = l .before .loop .inv in
     let lasts = p .node-pair .kept .1 .1 .1 .1 .1 in (
@@ -201,7 +216,7 @@ same-length-6 c = c .before .loop .inv .7
 
 returns-2 : tie.Need-returns-2 Inv-loop μ-loop
 returns-2 c =
-    let s = c .before .before .before .before .before .before .before .before .before .before .before .before .before .before .before in
+    let s = counted (c .before .before .before) in
     let i = c .before .loop .inv in
     let a = s .args in
     let n = s .pre .1 .1 .0 in

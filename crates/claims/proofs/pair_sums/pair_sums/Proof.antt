@@ -40,9 +40,19 @@ start c = c .before .before .before .before .before .before .before .before .bef
 abbrev listed : tie.In-loop Inv-loop μ-loop → tie.After-inner-nodes Inv-loop μ-loop
 listed c = c .before .before .before
 
+-- where the block is lent to a node's row, the turn
+abbrev lent : tie.After-block Inv-loop μ-loop → tie.In-loop Inv-loop μ-loop
+lent c = c .before .before .before .before .before
+
+-- where all is lent to it, the turn
+abbrev all-lent : tie.After-dots Inv-loop μ-loop → tie.In-loop Inv-loop μ-loop
+all-lent c = lent (c .before .before .before .before .before)
+
 -- after a node's row, the turn
 abbrev turn : tie.After-node-row Inv-loop μ-loop → tie.In-loop Inv-loop μ-loop
-turn c = c .before .before .before .before .before .before .before .before .before .before .before
+turn c = all-lent (c .before)
+
+-- ---- what is known there
 
 -- the second tree's inner nodes
 inner : (c : tie.After-inner-nodes Inv-loop μ-loop)
@@ -150,26 +160,26 @@ slice-aggregate-node-row : tie.Need-slice-aggregate-node-row Inv-loop μ-loop
 slice-aggregate-node-row c = sym (listed (c .before .before .before .before) .inner-nodes .kept .1 .0)
 
 slice-aggregate-node-row-2 : tie.Need-slice-aggregate-node-row-2 Inv-loop μ-loop
-slice-aggregate-node-row-2 c = sym (c .before .before .before .before .before .before .loop .inv .2)
+slice-aggregate-node-row-2 c = sym (lent c .before .loop .inv .2)
 
 slice-aggregate-node-row-3 : tie.Need-slice-aggregate-node-row-3 Inv-loop μ-loop
-slice-aggregate-node-row-3 c = sym (c .before .before .before .before .before .before .before .loop .inv .3)
+slice-aggregate-node-row-3 c = sym (lent (c .before) .before .loop .inv .3)
 
 slice-aggregate-node-row-4 : tie.Need-slice-aggregate-node-row-4 Inv-loop μ-loop
-slice-aggregate-node-row-4 c = sym (c .before .before .before .before .before .before .before .before .loop .inv .4)
+slice-aggregate-node-row-4 c = sym (lent (c .before .before) .before .loop .inv .4)
 
 slice-aggregate-node-row-5 : tie.Need-slice-aggregate-node-row-5 Inv-loop μ-loop
-slice-aggregate-node-row-5 c = sym (c .before .before .before .before .before .before .before .before .before .loop .inv .5)
+slice-aggregate-node-row-5 c = sym (lent (c .before .before .before) .before .loop .inv .5)
 
 slice-aggregate-node-row-6 : tie.Need-slice-aggregate-node-row-6 Inv-loop μ-loop
-slice-aggregate-node-row-6 c = sym (c .before .before .before .before .before .before .before .before .before .before .loop .inv .6)
+slice-aggregate-node-row-6 c = sym (lent (c .before .before .before .before) .before .loop .inv .6)
 
 slice-aggregate-node-row-7 : tie.Need-slice-aggregate-node-row-7 Inv-loop μ-loop
-slice-aggregate-node-row-7 c = sym (c .before .before .before .before .before .before .before .before .before .before .before .loop .inv .7)
+slice-aggregate-node-row-7 c = sym (all-lent c .before .loop .inv .7)
 
 node-row-requires : tie.Need-node-row-requires Inv-loop μ-loop
 node-row-requires c κs =
-    let l = c .before .before .before .before .before .before .before .before .before .before in
+    let l = all-lent c in
     let h = start (listed l) .pre in
     let n = inner (listed l) in
     let i = l .before .loop .inv in (
