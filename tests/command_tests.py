@@ -319,8 +319,22 @@ class Usage(TreesTest):
         for command in ("compare", "matrix", "against"):
             self.assert_message(self.here(command, "feathers.nwk", "absent"), 2, "cannot read absent: No such file")
             self.assert_message(self.here(command, "feathers.nwk", "."), 2, "cannot read .: Is a directory")
+        for arguments in (["absent"], ["absent", "--tables"], ["absent", "feathers.nwk"]):
+            self.assert_message(self.here("compare", "--listing", *arguments), 2, "cannot read absent: No such file")
+        self.assert_message(self.here("compare", "--listing", "."), 2, "cannot read .: Is a directory")
+        if os.path.exists("/proc/self/mem"):
+            self.assert_message(self.here("compare", "--listing", "/proc/self/mem"), 2, "cannot read /proc/self/mem: ")
         self.assert_message(self.here("compare", "feathers.nwk", "-", stdin="(Möwe,B);".encode("latin-1")), 1,
                             "standard input: not UTF-8 text, at byte 2 (line 1), 0xf6; save the file as UTF-8")
+
+    def test_names_of_files(self) -> None:
+        """With blanks and signs, and with bytes that are no UTF-8."""
+        for name in ("two words.bin", " ", "a*b", "$HOME", "'", "\u00e9t\u00e9", "line\nbreak", "-x", os.fsdecode(b"\xff.bin")):
+            self.assert_message(self.here("compare", "--listing", "--", name), 2, "cannot read ")
+            (self.folder / name).write_bytes(packed(P, Q))
+            done = self.here("compare", "--listing", "--", name)
+            self.assertEqual((done.returncode, done.stdout[:9], done.stderr), (0, b"leaves 5\n", b""), name)
+            self.assertEqual(self.here("compare", "--", name).stdout.count(b"\n"), 18, name)
 
     def test_help_and_version(self) -> None:
         version = f"leskwyn (Leskwyn) {leskwyn.__version__}\n".encode()
@@ -337,7 +351,8 @@ class Usage(TreesTest):
 class Surroundings(TreesTest):
     """Output that cannot be written, input that is closed, no library, an old Python: a sentence and status 2."""
 
-    WRITERS = [["compare", "both.nwk"], ["matrix", "both.nwk"], ["against", "feathers.nwk", "wings.nwk"], ["--help"],
+    WRITERS = [["compare", "both.nwk"], ["compare", "--listing", "both.nwk"], ["compare", "--listing", "--tables", "both.nwk"],
+               ["matrix", "both.nwk"], ["against", "feathers.nwk", "wings.nwk"], ["--help"],
                ["compare", "--help"], ["--version"], ["show", "--version"], ["table", "both.nwk"]]
 
     def assert_one_sentence(self, done: Done, status: int, *words: bytes) -> None:
@@ -369,6 +384,10 @@ class Surroundings(TreesTest):
         self.assert_one_sentence(closed, 2, b"cannot write standard output")
         closed = self.run_with(["compare", "-"], stdout=subprocess.PIPE, preexec_fn=lambda: os.close(0))
         self.assert_one_sentence(closed, 2, b"cannot read standard input: it is closed")
+        with open(os.devnull, "wb") as unreadable:
+            failed = self.run_with(["compare", "--listing", "-"], stdout=subprocess.PIPE, stdin=unreadable)
+        self.assert_one_sentence(failed, 2, b"cannot read standard input: Bad file descriptor")
+        self.assertEqual(failed.stdout, b"")
         closed = self.run_with(["compare", "absent"], stdout=subprocess.PIPE, stderr=None, preexec_fn=lambda: os.close(2))
         self.assertEqual((closed.returncode, closed.stdout), (2, b""))
 

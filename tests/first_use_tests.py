@@ -516,6 +516,20 @@ class LeskwynBuilding(LeskwynDoor, Building):
         self.assertEqual(done.returncode, 0, done.stderr)
         self.assertIn(str(self.house / "python"), done.stdout.decode())
 
+    def test_from_elsewhere_and_through_a_link(self) -> None:
+        self.assert_used(1)
+        (self.folder / "linked").symlink_to(self.house / "bin" / "leskwyn")
+        for cwd, command in (("/", None), (self.folder, "./linked"), (self.house, "bin/leskwyn")):
+            self.assert_done(self.run_door(*self.words, cwd=cwd, command=command), 0, self.printed())
+        self.assertEqual(self.built(), 1)
+
+    def test_standard_input_that_is_a_folder(self) -> None:
+        folder = os.open(self.folder, os.O_RDONLY)
+        self.addCleanup(os.close, folder)
+        done = self.run_door(*self.words, stdin=folder)
+        self.assert_trouble(done)
+        self.assertEqual((done.stderr, self.built()), (b"leskwyn: standard input is a folder, not a file\n", 0))
+
     def test_no_package(self) -> None:
         self.where["LESKWYN_PYTHON"] = str(self.folder)
         self.assert_trouble(self.run_door(*self.words), f"no Python package leskwyn in {self.folder}")

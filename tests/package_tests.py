@@ -29,6 +29,7 @@ import unittest.mock
 sys.dont_write_bytecode = True
 ROOT = pathlib.Path(__file__).resolve().parent.parent
 sys.path.insert(0, str(ROOT / "python"))
+from command_runs import CommandTest
 from cases.newick import Tree, random_names, random_tree, star_text, written_tree
 from cases.pairs import split_counts
 from cases.quartets import cases_by_pairs
@@ -148,8 +149,9 @@ class Figures(unittest.TestCase):
                              leskwyn.compare(*texts).as_dict() | {"first": "", "second": ""})
 
 
-class Listings(unittest.TestCase):
-    """The proved program's listing, on files that both take; beyond them, the counts of cases/."""
+class Listings(CommandTest):
+    """The proved program's listing, on files that both take, of the command and of the package; beyond them, the counts of
+    cases/."""
 
     def program(self, content: bytes) -> str:
         done = subprocess.run([PROGRAM], input=content, capture_output=True, check=True, timeout=20)
@@ -157,17 +159,36 @@ class Listings(unittest.TestCase):
         return done.stdout.decode()
 
     def listing(self, content: bytes) -> str:
+        """What the command prints, with its status; of a refused file standard error has the reason."""
+        done = self.run_here("-", "--listing", "--tables", command="compare", stdin=content)
         try:
-            return api.compare_file("file", content).listing()
+            printed, status, told = api.compare_file("standard input", content).listing(), 0, ""
         except leskwyn.Refusal as refusal:
-            self.assertTrue(refusal.reason.startswith("file: "))
-            return f"refused {refusal.number}\n"
+            self.assertTrue(refusal.reason.startswith("standard input: "))
+            printed, status, told = f"refused {refusal.number}\n", 1, f"leskwyn: {refusal}\n"
+        self.assertEqual((done.stdout.decode(), done.returncode, done.stderr.decode()), (printed, status, told))
+        if status == 0 or sources.is_comparison_file(content):
+            again = self.run_here("-", "--listing", command="compare", stdin=content)
+            self.assertEqual((again.stdout, again.returncode), (done.stdout, status))
+        return printed
 
     def assert_same_listing(self, content: bytes) -> str:
         self.assertLessEqual(len(content), MOST_BYTES)
         listing = self.listing(content)
         self.assertEqual(listing, self.program(content))
         return listing
+
+    def test_every_beginning_of_a_file(self) -> None:
+        content = packed(P, Q)
+        for length in range(len(content)):
+            self.assertRegex(self.assert_same_listing(content[:length]), r"^refused \d+\n$")
+        self.assertTrue(self.assert_same_listing(content).startswith("leaves 5\n"))
+        self.assertEqual(self.assert_same_listing(content + bytes(2)), "refused 104\n")
+
+    def test_every_word_of_a_file_changed(self) -> None:
+        for at in range(len(P + Q)):
+            for word in (0, 1, 2, 7, 65535):
+                self.assert_same_listing(packed([*(P + Q)[:at], word, *(P + Q)[at + 1:]]))
 
     def test_reference_pairs(self) -> None:
         for t, u in itertools.product(REFERENCE + OUTSIDE, repeat=2):
@@ -205,6 +226,16 @@ class Listings(unittest.TestCase):
                              cases_by_pairs(*pair))
             self.assertEqual([found.first_splits, found.second_splits, found.common_splits, found.robinson_foulds],
                              split_counts(*pair))
+
+    def test_large_files(self) -> None:
+        """Too long for the program. The number tells what is wrong inside: never 9, never 14."""
+        table = caterpillar(256)
+        whole = packed(table, table)
+        self.assertEqual(self.listing(whole), "leaves 256\nclaims 349585280 349585280 349585280 0\n"
+                                              "quartets 174792640 0 0 0 0\ndistance 0\nsplits 253 253 253 0\n")
+        for content, number in ((whole[1:], 15), (whole[:-2], 104), (whole + bytes(2), 104), (whole + bytes(2000000), 104),
+                                (packed(table, caterpillar(255)), 8), (b"\xff" * 300000, 2)):
+            self.assertEqual(self.listing(content), f"refused {number}\n")
 
     def test_work(self) -> None:
         """(m - 1)(m' - 1) cells, and never more than the header's number, whatever the words say."""
