@@ -8,6 +8,7 @@ examples of the pages are run.
 """
 import contextlib
 import doctest
+import importlib.util
 import io
 import itertools
 import json
@@ -15,6 +16,7 @@ import os
 import pathlib
 import re
 import shlex
+import shutil
 import signal
 import subprocess
 import sys
@@ -399,6 +401,36 @@ class Surroundings(TreesTest):
         done = self.run_with(["compare", "both.nwk"], stdout=subprocess.PIPE, env=env)
         self.assert_one_sentence(done, 2, b"cannot load the library ")
         self.assertEqual(self.run_with(["table", "both.nwk", "-o", "x"], stdout=subprocess.PIPE, env=env).returncode, 0)
+
+    def assert_wants_its_library_named(self, folder: pathlib.Path) -> None:
+        """The package in a folder that is no checkout."""
+        env = {**ENVIRONMENT, "PYTHONPATH": str(folder)}
+        named = env.pop("LESKWYN_LIBRARY", str(ROOT / "target" / "libleskwyn.so"))
+        done = self.run_with(["compare", "both.nwk"], stdout=subprocess.PIPE, env=env)
+        self.assert_one_sentence(done, 2, b"outside its checkout, so LESKWYN_LIBRARY must name the library: target/libleskwyn.so")
+        done = self.run_with(["compare"], stdout=subprocess.PIPE, env=env)
+        self.assert_one_sentence(done, 2, b"the example trees ", b": name two files")
+        self.assertEqual(self.run_with(["table", "both.nwk", "-o", "x"], stdout=subprocess.PIPE, env=env).returncode, 0)
+        done = self.run_with(["compare", "both.nwk", "--listing"], stdout=subprocess.PIPE, env={**env, "LESKWYN_LIBRARY": named})
+        self.assertEqual((done.returncode, done.stdout, done.stderr), (0, LISTING, b""))
+
+    def test_a_package_outside_its_checkout(self) -> None:
+        shutil.copytree(ROOT / "python" / "leskwyn", self.folder / "site" / "leskwyn")
+        self.assert_wants_its_library_named(self.folder / "site")
+
+    @unittest.skipUnless(all(map(importlib.util.find_spec, ("pip", "setuptools", "wheel"))), "no pip, setuptools or wheel")
+    def test_a_package_that_pip_installs(self) -> None:
+        source, site = self.folder / "python", self.folder / "site"
+        source.mkdir()
+        shutil.copy(ROOT / "python" / "pyproject.toml", source)
+        shutil.copytree(ROOT / "python" / "leskwyn", source / "leskwyn")
+        done = subprocess.run([sys.executable, "-m", "pip", "install", "--no-index", "--no-build-isolation", "--no-deps",
+                               "--target", site, source], capture_output=True, text=True, timeout=60)
+        self.assertEqual(done.returncode, 0, done.stdout + done.stderr)
+        self.assert_wants_its_library_named(site)
+        told = subprocess.run([site / "bin" / "leskwyn", "--version"], capture_output=True, timeout=20,
+                              env={**ENVIRONMENT, "PYTHONPATH": str(site)})
+        self.assertEqual((told.returncode, told.stdout.decode()), (0, f"leskwyn (Leskwyn) {leskwyn.__version__}\n"), told.stderr)
 
     def test_interrupted(self) -> None:
         """While standard input is waited for."""
