@@ -27,6 +27,7 @@ import unittest.mock
 
 sys.dont_write_bytecode = True
 from command_runs import ENVIRONMENT, LESKWYN, ROOT, CommandTest, Done, inside
+from cases import skips
 from cases.newick import star_text
 from cases.pairs import pair_refusal, split_counts
 from cases.shapes import balanced, caterpillar
@@ -504,4 +505,4 @@ class Pages(unittest.TestCase):
 
 
 if __name__ == "__main__":
-    unittest.main()
+    skips.main()

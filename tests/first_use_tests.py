@@ -19,6 +19,7 @@ from collections.abc import Callable
 from typing import Any
 
 sys.dont_write_bytecode = True
+from cases import skips
 from cases.house import CRATES, LIBRARY, PROGRAM, ROOT, SECONDS, Done, House
 from cases.shapes import caterpillar
 from cases.tables import P, Q
@@ -656,4 +657,4 @@ def load_tests(loader: unittest.TestLoader, _: unittest.TestSuite, __: str | Non
 
 
 if __name__ == "__main__":
-    unittest.main()
+    skips.main()

@@ -30,6 +30,7 @@ sys.dont_write_bytecode = True
 ROOT = pathlib.Path(__file__).resolve().parent.parent
 sys.path.insert(0, str(ROOT / "python"))
 from command_runs import CommandTest
+from cases import skips
 from cases.newick import Tree, random_names, random_tree, star_text, written_tree
 from cases.pairs import split_counts
 from cases.quartets import cases_by_pairs
@@ -561,4 +562,4 @@ class Answers(unittest.TestCase):
 
 
 if __name__ == "__main__":
-    unittest.main()
+    skips.main()
