@@ -8,6 +8,7 @@ examples of the pages are run.
 """
 import contextlib
 import doctest
+import importlib.util
 import io
 import itertools
 import json
@@ -15,6 +16,7 @@ import os
 import pathlib
 import re
 import shlex
+import shutil
 import signal
 import subprocess
 import sys
@@ -25,6 +27,7 @@ import unittest.mock
 
 sys.dont_write_bytecode = True
 from command_runs import ENVIRONMENT, LESKWYN, ROOT, CommandTest, Done, inside
+from cases import skips
 from cases.newick import star_text
 from cases.pairs import pair_refusal, split_counts
 from cases.shapes import balanced, caterpillar
@@ -319,8 +322,22 @@ class Usage(TreesTest):
         for command in ("compare", "matrix", "against"):
             self.assert_message(self.here(command, "feathers.nwk", "absent"), 2, "cannot read absent: No such file")
             self.assert_message(self.here(command, "feathers.nwk", "."), 2, "cannot read .: Is a directory")
+        for arguments in (["absent"], ["absent", "--tables"], ["absent", "feathers.nwk"]):
+            self.assert_message(self.here("compare", "--listing", *arguments), 2, "cannot read absent: No such file")
+        self.assert_message(self.here("compare", "--listing", "."), 2, "cannot read .: Is a directory")
+        if os.path.exists("/proc/self/mem"):
+            self.assert_message(self.here("compare", "--listing", "/proc/self/mem"), 2, "cannot read /proc/self/mem: ")
         self.assert_message(self.here("compare", "feathers.nwk", "-", stdin="(Möwe,B);".encode("latin-1")), 1,
                             "standard input: not UTF-8 text, at byte 2 (line 1), 0xf6; save the file as UTF-8")
+
+    def test_names_of_files(self) -> None:
+        """With blanks and signs, and with bytes that are no UTF-8."""
+        for name in ("two words.bin", " ", "a*b", "$HOME", "'", "\u00e9t\u00e9", "line\nbreak", "-x", os.fsdecode(b"\xff.bin")):
+            self.assert_message(self.here("compare", "--listing", "--", name), 2, "cannot read ")
+            (self.folder / name).write_bytes(packed(P, Q))
+            done = self.here("compare", "--listing", "--", name)
+            self.assertEqual((done.returncode, done.stdout[:9], done.stderr), (0, b"leaves 5\n", b""), name)
+            self.assertEqual(self.here("compare", "--", name).stdout.count(b"\n"), 18, name)
 
     def test_help_and_version(self) -> None:
         version = f"leskwyn (Leskwyn) {leskwyn.__version__}\n".encode()
@@ -337,7 +354,8 @@ class Usage(TreesTest):
 class Surroundings(TreesTest):
     """Output that cannot be written, input that is closed, no library, an old Python: a sentence and status 2."""
 
-    WRITERS = [["compare", "both.nwk"], ["matrix", "both.nwk"], ["against", "feathers.nwk", "wings.nwk"], ["--help"],
+    WRITERS = [["compare", "both.nwk"], ["compare", "--listing", "both.nwk"], ["compare", "--listing", "--tables", "both.nwk"],
+               ["matrix", "both.nwk"], ["against", "feathers.nwk", "wings.nwk"], ["--help"],
                ["compare", "--help"], ["--version"], ["show", "--version"], ["table", "both.nwk"]]
 
     def assert_one_sentence(self, done: Done, status: int, *words: bytes) -> None:
@@ -369,6 +387,10 @@ class Surroundings(TreesTest):
         self.assert_one_sentence(closed, 2, b"cannot write standard output")
         closed = self.run_with(["compare", "-"], stdout=subprocess.PIPE, preexec_fn=lambda: os.close(0))
         self.assert_one_sentence(closed, 2, b"cannot read standard input: it is closed")
+        with open(os.devnull, "wb") as unreadable:
+            failed = self.run_with(["compare", "--listing", "-"], stdout=subprocess.PIPE, stdin=unreadable)
+        self.assert_one_sentence(failed, 2, b"cannot read standard input: Bad file descriptor")
+        self.assertEqual(failed.stdout, b"")
         closed = self.run_with(["compare", "absent"], stdout=subprocess.PIPE, stderr=None, preexec_fn=lambda: os.close(2))
         self.assertEqual((closed.returncode, closed.stdout), (2, b""))
 
@@ -380,6 +402,36 @@ class Surroundings(TreesTest):
         done = self.run_with(["compare", "both.nwk"], stdout=subprocess.PIPE, env=env)
         self.assert_one_sentence(done, 2, b"cannot load the library ")
         self.assertEqual(self.run_with(["table", "both.nwk", "-o", "x"], stdout=subprocess.PIPE, env=env).returncode, 0)
+
+    def assert_wants_its_library_named(self, folder: pathlib.Path) -> None:
+        """The package in a folder that is no checkout."""
+        env = {**ENVIRONMENT, "PYTHONPATH": str(folder)}
+        named = env.pop("LESKWYN_LIBRARY", str(ROOT / "target" / "libleskwyn.so"))
+        done = self.run_with(["compare", "both.nwk"], stdout=subprocess.PIPE, env=env)
+        self.assert_one_sentence(done, 2, b"outside its checkout, so LESKWYN_LIBRARY must name the library: target/libleskwyn.so")
+        done = self.run_with(["compare"], stdout=subprocess.PIPE, env=env)
+        self.assert_one_sentence(done, 2, b"the example trees ", b": name two files")
+        self.assertEqual(self.run_with(["table", "both.nwk", "-o", "x"], stdout=subprocess.PIPE, env=env).returncode, 0)
+        done = self.run_with(["compare", "both.nwk", "--listing"], stdout=subprocess.PIPE, env={**env, "LESKWYN_LIBRARY": named})
+        self.assertEqual((done.returncode, done.stdout, done.stderr), (0, LISTING, b""))
+
+    def test_a_package_outside_its_checkout(self) -> None:
+        shutil.copytree(ROOT / "python" / "leskwyn", self.folder / "site" / "leskwyn")
+        self.assert_wants_its_library_named(self.folder / "site")
+
+    @unittest.skipUnless(all(map(importlib.util.find_spec, ("pip", "setuptools", "wheel"))), "no pip, setuptools or wheel")
+    def test_a_package_that_pip_installs(self) -> None:
+        source, site = self.folder / "python", self.folder / "site"
+        source.mkdir()
+        shutil.copy(ROOT / "python" / "pyproject.toml", source)
+        shutil.copytree(ROOT / "python" / "leskwyn", source / "leskwyn")
+        done = subprocess.run([sys.executable, "-m", "pip", "install", "--no-index", "--no-build-isolation", "--no-deps",
+                               "--target", site, source], capture_output=True, text=True, timeout=60)
+        self.assertEqual(done.returncode, 0, done.stdout + done.stderr)
+        self.assert_wants_its_library_named(site)
+        told = subprocess.run([site / "bin" / "leskwyn", "--version"], capture_output=True, timeout=20,
+                              env={**ENVIRONMENT, "PYTHONPATH": str(site)})
+        self.assertEqual((told.returncode, told.stdout.decode()), (0, f"leskwyn (Leskwyn) {leskwyn.__version__}\n"), told.stderr)
 
     def test_interrupted(self) -> None:
         """While standard input is waited for."""
@@ -453,4 +505,4 @@ class Pages(unittest.TestCase):
 
 
 if __name__ == "__main__":
-    unittest.main()
+    skips.main()

@@ -25,6 +25,7 @@ from math import comb
 from typing import Any
 
 sys.dont_write_bytecode = True
+from cases import skips
 from cases.house import PROGRAM, ROOT, SECONDS, Done, House
 from cases.quartets import cases_by_pairs
 from cases.shapes import balanced, caterpillar, related_pair, star, unrelated_pair, with_labels_exchanged
@@ -701,4 +702,4 @@ class Readme(unittest.TestCase):
 
 
 if __name__ == "__main__":
-    unittest.main()
+    skips.main()

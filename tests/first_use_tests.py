@@ -4,7 +4,8 @@
     python3 tests/first_use_tests.py
 
 Needs target/bin/compare, target/staticlib/libcapi.a and a C compiler. Nothing is proved here: the doors stand in cases/house, with
-a script in the place of rt, and bin/leskwyn runs a package of two lines that asks the library for its version.
+a script in the place of rt, and bin/leskwyn runs a package of a few lines that asks the library for its version; what is told
+before anything is built is told by the package of the repository.
 """
 import contextlib
 import os
@@ -18,17 +19,19 @@ from collections.abc import Callable
 from typing import Any
 
 sys.dont_write_bytecode = True
+from cases import skips
 from cases.house import CRATES, LIBRARY, PROGRAM, ROOT, SECONDS, Done, House
 from cases.shapes import caterpillar
 from cases.tables import P, Q
 
 # docs/SPECIFICATION.md, 'The listing of P and Q'.
 P_AND_Q = b"leaves 5\nclaims 10 6 6 0\nquartets 3 0 2 0 0\ndistance 2\nsplits 2 1 1 1\n"
+P_AND_Q_TREES = b"(0,(1,(2,(3,4))));(0,1,(2,3,4));"
 PACKAGE = """\
 import ctypes, os, sys
 print(ctypes.CDLL(os.environ["LESKWYN_LIBRARY"]).leskwyn_version(), sys.argv[1:], sys.path[:2])
 """
-USAGE = "import sys\nprint('usage', *sys.argv[1:])\n"
+BEFORE = "def run(has_library):\n    raise SystemExit(9 if has_library else 3)\n"
 OLDER_PYTHON = """\
 #!/bin/sh
 shift
@@ -229,7 +232,7 @@ class Building(Door):
         self.assertEqual(self.built(), 1)
 
     def test_help_and_version_build_nothing(self) -> None:
-        (self.path / "rt").unlink()
+        (self.path / "rt").unlink(missing_ok=True)
         for option in ("-h", "--help"):
             done = self.run_door(option)
             self.assertEqual((done.returncode, done.stderr, done.stdout[:5]), (0, b"", b"usage"))
@@ -390,6 +393,7 @@ class LeskwynDoor(Door):
         self.package = self.folder / "packages" / "leskwyn"
         self.package.mkdir(parents=True)
         (self.package / "__main__.py").write_text(PACKAGE)
+        (self.package / "commands.py").write_text(BEFORE)
         self.where |= {"LESKWYN_PYTHON": str(self.package.parent), "PYTHONPATH": "/elsewhere", "PYTHONDONTWRITEBYTECODE": "1"}
 
     def printed(self) -> bytes:
@@ -431,12 +435,69 @@ class CompareProgress(CompareDoor, Progress):
 
 
 class LeskwynBuilding(LeskwynDoor, Building):
+    def with_nothing_to_build_with(self) -> None:
+        """The package of the repository, no rt and no C compiler."""
+        self.where |= {"LESKWYN_PYTHON": str(ROOT / "python"), "CC": "no-such-compiler"}
+        (self.path / "rt").unlink(missing_ok=True)
+
+    def assert_nothing_begun(self) -> None:
+        self.assertEqual((self.built(), self.target.exists()), (0, False))
+
     def test_help_and_version_build_nothing(self) -> None:
-        (self.package / "__main__.py").write_text(USAGE)
+        self.with_nothing_to_build_with()
         super().test_help_and_version_build_nothing()
-        self.assert_done(self.run_door("compare", "--help"), 0, b"usage compare --help\n")
-        for words in ([], ["compare", "--", "-h"]):
-            self.assert_trouble(self.run_door(*words), "no rt on the path")
+        for command in ("compare", "against", "matrix", "table", "show"):
+            for words in (["-h"], ["--help"], ["a", "--help"]):
+                done = self.run_door(command, *words)
+                self.assertEqual((done.returncode, done.stderr), (0, b""))
+                self.assertTrue(done.stdout.startswith(b"usage: leskwyn " + command.encode()), done.stdout)
+            self.assertTrue(self.run_door(command, "--version").stdout.startswith(b"leskwyn (Leskwyn) "))
+        self.assert_nothing_begun()
+
+    def test_wrong_usage_is_told_before_anything_is_built(self) -> None:
+        self.with_nothing_to_build_with()
+        for words, told in ((["comprae", "a", "b"], "no command 'comprae'; the commands are compare, "),
+                            (["a.nwk", "b.nwk"], "no command 'a.nwk'"), (["--listing"], "no command '--listing'"),
+                            (["compare", "--lisitng", "a"], "unrecognized arguments: --lisitng"),
+                            (["compare", "--format", "xml", "a"], "invalid choice: 'xml'"),
+                            (["compare", "a", "b", "c"], "3 files; one or two are needed"), (["matrix"], "no files;"),
+                            (["matrix", "a", "--jobs", "0"], "not a number of threads"), (["against", "a"], "REF and one file"),
+                            (["table"], "0 tree files;"), (["show", "a", "--nmaes", "b"], "--nmaes"),
+                            (["compare", "a.nwk", "-"], "cannot read a.nwk: No such file"),
+                            (["matrix", "-", "the house"], "cannot read the house: Is a directory"),
+                            (["against", "--", "-h", "a"], "cannot read -h: No such file")):
+            done = self.run_door(*words)
+            self.assert_trouble(done, "leskwyn: ", told)
+            self.assertEqual(done.stderr.count(b"\n"), 1, done.stderr)
+        self.assert_trouble(self.run_door("compare", "-", preexec_fn=lambda: os.close(0)), "standard input: it is closed")
+        self.assert_nothing_begun()
+
+    def test_what_needs_no_library_builds_none(self) -> None:
+        self.with_nothing_to_build_with()
+        trees = self.file("trees", P_AND_Q_TREES)
+        self.assert_done(self.run_door("table", trees, "-o", "pair"), 0, b"")
+        self.assertEqual((self.folder / "pair").read_bytes(), (ROOT / "examples" / "p-q.bin").read_bytes())
+        self.assertIn(b"(0,1,(2,(3,4)));\n", self.run_door("show", "-", input=(self.folder / "pair").read_bytes()).stdout)
+        self.assert_nothing_begun()
+
+    def test_what_needs_the_library_wants_it(self) -> None:
+        self.with_nothing_to_build_with()
+        self.file("-h", b"")
+        for words in ([], ["compare"], ["compare", "-"], ["compare", "--", "-h"], ["matrix", "/dev/stdin"]):
+            self.assert_trouble(self.run_door(*words), "still to be built, and there is no C compiler no-such-compiler")
+
+    def test_standard_input_and_pipes_are_left_to_the_command(self) -> None:
+        self.where["LESKWYN_PYTHON"] = str(ROOT / "python")
+        self.assert_done(self.run_door("compare", "-", "--listing", input=P_AND_Q_TREES), 0, P_AND_Q)
+        self.assertEqual(self.built(), 1)
+        (self.target / "leskwyn.mark").unlink()
+        pipe = self.folder / "pipe"
+        os.mkfifo(pipe)
+        self.words = ["compare", "pipe", "--listing"]
+        use = self.start()
+        pipe.write_bytes(P_AND_Q_TREES)
+        self.assert_done(self.ended(use), 0, P_AND_Q)
+        self.assertEqual(self.built(), 2)
 
     def test_the_status_and_standard_input_are_those_of_the_package(self) -> None:
         (self.package / "__main__.py").write_text("import sys\nprint(sys.stdin.read())\nsys.exit(1)\n")
@@ -455,6 +516,20 @@ class LeskwynBuilding(LeskwynDoor, Building):
         done = self.run_door(*self.words)
         self.assertEqual(done.returncode, 0, done.stderr)
         self.assertIn(str(self.house / "python"), done.stdout.decode())
+
+    def test_from_elsewhere_and_through_a_link(self) -> None:
+        self.assert_used(1)
+        (self.folder / "linked").symlink_to(self.house / "bin" / "leskwyn")
+        for cwd, command in (("/", None), (self.folder, "./linked"), (self.house, "bin/leskwyn")):
+            self.assert_done(self.run_door(*self.words, cwd=cwd, command=command), 0, self.printed())
+        self.assertEqual(self.built(), 1)
+
+    def test_standard_input_that_is_a_folder(self) -> None:
+        folder = os.open(self.folder, os.O_RDONLY)
+        self.addCleanup(os.close, folder)
+        done = self.run_door(*self.words, stdin=folder)
+        self.assert_trouble(done)
+        self.assertEqual((done.stderr, self.built()), (b"leskwyn: standard input is a folder, not a file\n", 0))
 
     def test_no_package(self) -> None:
         self.where["LESKWYN_PYTHON"] = str(self.folder)
@@ -582,4 +657,4 @@ def load_tests(loader: unittest.TestLoader, _: unittest.TestSuite, __: str | Non
 
 
 if __name__ == "__main__":
-    unittest.main()
+    skips.main()

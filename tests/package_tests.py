@@ -5,8 +5,8 @@
     LESKWYN_COMPARE=FILE python3 tests/package_tests.py       the program is FILE
 
 Needs target/libleskwyn.so, or what LESKWYN_LIBRARY names, and the proved program. Figures are held to the program's listing,
-and to a brute force over sets of four that looks at the edges of named trees; Robinson-Foulds distances to DendroPy where that
-is installed.
+and to a brute force over sets of four that looks at the edges of named trees; Robinson-Foulds distances to DendroPy and to ETE
+where they are installed.
 """
 import dataclasses
 import importlib.util
@@ -29,6 +29,8 @@ import unittest.mock
 sys.dont_write_bytecode = True
 ROOT = pathlib.Path(__file__).resolve().parent.parent
 sys.path.insert(0, str(ROOT / "python"))
+from command_runs import CommandTest
+from cases import skips
 from cases.newick import Tree, random_names, random_tree, star_text, written_tree
 from cases.pairs import split_counts
 from cases.quartets import cases_by_pairs
@@ -40,7 +42,7 @@ from leskwyn import _library, api, counting, sources
 
 PROGRAM = pathlib.Path(os.environ.get("LESKWYN_COMPARE") or ROOT / "target" / "bin" / "compare").absolute()
 MOST_BYTES = 1016
-HAS_DENDROPY = importlib.util.find_spec("dendropy") is not None
+HAS_DENDROPY, HAS_ETE = (importlib.util.find_spec(name) is not None for name in ("dendropy", "ete3"))
 FEATHERS, WINGS = ROOT / "examples" / "feathers.nwk", ROOT / "examples" / "wings.nwk"
 
 
@@ -93,6 +95,30 @@ def random_named_trees(rng: random.Random, n: int, count: int = 2) -> list[Tree]
     return [random_tree(rng, names, rng.choice([0, 0.2, 0.5, 0.9])) for _ in range(count)]
 
 
+# ---- named trees as others read them
+
+def nodes_of(tree: Tree, make: typing.Callable[[str | None], typing.Any]) -> typing.Any:
+    """The tree as nodes of another package, which `make` makes of a tip's name, or of None."""
+    def beyond(node: int, origin: int) -> typing.Any:
+        made = make(tree.name.get(node))
+        for other in sorted(tree.joined[node] - {origin}):
+            made.add_child(beyond(other, node))
+        return made
+    return beyond(min(node for node in tree.joined if node not in tree.name), -1)
+
+
+def in_dendropy(trees: list[Tree]) -> list[typing.Any]:
+    import dendropy
+    taxa = dendropy.TaxonNamespace(is_case_sensitive=True)
+    made = [nodes_of(tree, lambda name: dendropy.Node(taxon=taxa.require_taxon(label=name) if name else None)) for tree in trees]
+    return [dendropy.Tree(seed_node=top, taxon_namespace=taxa, is_rooted=False) for top in made]
+
+
+def in_ete(tree: Tree) -> typing.Any:
+    import ete3
+    return nodes_of(tree, lambda name: ete3.TreeNode(name=name or ""))
+
+
 class Figures(unittest.TestCase):
     """The figures of named trees, by an enumeration that knows nothing of tables."""
 
@@ -134,22 +160,34 @@ class Figures(unittest.TestCase):
 
     @unittest.skipUnless(HAS_DENDROPY, "DendroPy is not installed")
     def test_robinson_foulds_of_dendropy(self) -> None:
-        import dendropy
         from dendropy.calculate import treecompare
-        rng = random.Random(3)
-        for _ in range(20):
-            texts = [written_tree(rng, tree) for tree in random_named_trees(rng, rng.randint(4, 60))]
-            taxa = dendropy.TaxonNamespace()
-            trees = [dendropy.Tree.get(data=text, schema="newick", taxon_namespace=taxa, rooting="force-unrooted")
-                     for text in texts]
+        rng, distances = random.Random(3), set()
+        for case in range(60):
+            pair = random_named_trees(rng, 4 + case)
+            trees = in_dendropy(pair)
             found = leskwyn.compare(*trees)
             self.assertEqual(found.robinson_foulds, treecompare.symmetric_difference(*trees))
-            self.assertEqual(found.as_dict() | {"first": "", "second": ""},
-                             leskwyn.compare(*texts).as_dict() | {"first": "", "second": ""})
+            self.assertEqual(found, leskwyn.compare(*(written_tree(rng, tree) for tree in pair)))
+            distances.add(found.robinson_foulds)
+        self.assertGreater(len(distances), 20)
+
+    @unittest.skipUnless(HAS_ETE, "ETE is not installed")
+    def test_robinson_foulds_of_ete(self) -> None:
+        rng, distances = random.Random(11), set()
+        for case in range(60):
+            names = [name for name in random_names(rng, 10 + case) if "_" not in name and name[0] not in "'\""]
+            pair = [random_tree(rng, names, rng.choice([0, 0.5])) for _ in range(2)]
+            trees = [in_ete(tree) for tree in pair]
+            found = leskwyn.compare(*trees)
+            self.assertEqual(found.robinson_foulds, trees[0].robinson_foulds(trees[1], unrooted_trees=True)[0])
+            self.assertEqual(found, leskwyn.compare(*(written_tree(rng, tree) for tree in pair)))
+            distances.add(found.robinson_foulds)
+        self.assertGreater(len(distances), 20)
 
 
-class Listings(unittest.TestCase):
-    """The proved program's listing, on files that both take; beyond them, the counts of cases/."""
+class Listings(CommandTest):
+    """The proved program's listing, on files that both take, of the command and of the package; beyond them, the counts of
+    cases/."""
 
     def program(self, content: bytes) -> str:
         done = subprocess.run([PROGRAM], input=content, capture_output=True, check=True, timeout=20)
@@ -157,17 +195,36 @@ class Listings(unittest.TestCase):
         return done.stdout.decode()
 
     def listing(self, content: bytes) -> str:
+        """What the command prints, with its status; of a refused file standard error has the reason."""
+        done = self.run_here("-", "--listing", "--tables", command="compare", stdin=content)
         try:
-            return api.compare_file("file", content).listing()
+            printed, status, told = api.compare_file("standard input", content).listing(), 0, ""
         except leskwyn.Refusal as refusal:
-            self.assertTrue(refusal.reason.startswith("file: "))
-            return f"refused {refusal.number}\n"
+            self.assertTrue(refusal.reason.startswith("standard input: "))
+            printed, status, told = f"refused {refusal.number}\n", 1, f"leskwyn: {refusal}\n"
+        self.assertEqual((done.stdout.decode(), done.returncode, done.stderr.decode()), (printed, status, told))
+        if status == 0 or sources.is_comparison_file(content):
+            again = self.run_here("-", "--listing", command="compare", stdin=content)
+            self.assertEqual((again.stdout, again.returncode), (done.stdout, status))
+        return printed
 
     def assert_same_listing(self, content: bytes) -> str:
         self.assertLessEqual(len(content), MOST_BYTES)
         listing = self.listing(content)
         self.assertEqual(listing, self.program(content))
         return listing
+
+    def test_every_beginning_of_a_file(self) -> None:
+        content = packed(P, Q)
+        for length in range(len(content)):
+            self.assertRegex(self.assert_same_listing(content[:length]), r"^refused \d+\n$")
+        self.assertTrue(self.assert_same_listing(content).startswith("leaves 5\n"))
+        self.assertEqual(self.assert_same_listing(content + bytes(2)), "refused 104\n")
+
+    def test_every_word_of_a_file_changed(self) -> None:
+        for at in range(len(P + Q)):
+            for word in (0, 1, 2, 7, 65535):
+                self.assert_same_listing(packed([*(P + Q)[:at], word, *(P + Q)[at + 1:]]))
 
     def test_reference_pairs(self) -> None:
         for t, u in itertools.product(REFERENCE + OUTSIDE, repeat=2):
@@ -205,6 +262,16 @@ class Listings(unittest.TestCase):
                              cases_by_pairs(*pair))
             self.assertEqual([found.first_splits, found.second_splits, found.common_splits, found.robinson_foulds],
                              split_counts(*pair))
+
+    def test_large_files(self) -> None:
+        """Too long for the program. The number tells what is wrong inside: never 9, never 14."""
+        table = caterpillar(256)
+        whole = packed(table, table)
+        self.assertEqual(self.listing(whole), "leaves 256\nclaims 349585280 349585280 349585280 0\n"
+                                              "quartets 174792640 0 0 0 0\ndistance 0\nsplits 253 253 253 0\n")
+        for content, number in ((whole[1:], 15), (whole[:-2], 104), (whole + bytes(2), 104), (whole + bytes(2000000), 104),
+                                (packed(table, caterpillar(255)), 8), (b"\xff" * 300000, 2)):
+            self.assertEqual(self.listing(content), f"refused {number}\n")
 
     def test_work(self) -> None:
         """(m - 1)(m' - 1) cells, and never more than the header's number, whatever the words say."""
@@ -297,33 +364,122 @@ class Given(unittest.TestCase):
         self.assertEqual(leskwyn.compare(ROOT / "examples" / "p-q.bin").listing(),
                          "leaves 5\nclaims 10 6 6 0\nquartets 3 0 2 0 0\ndistance 2\nsplits 2 1 1 1\n")
 
+    def dendropy_like(self, *names: typing.Any) -> types.SimpleNamespace:
+        """A tree with these tips; a name stands for a tip with a taxon, a list for what is inside brackets."""
+        def node(name: typing.Any) -> types.SimpleNamespace:
+            below = [node(one) for one in name] if isinstance(name, list) else []
+            taxon = types.SimpleNamespace(label=name) if isinstance(name, str) else None
+            return types.SimpleNamespace(child_nodes=lambda: below, taxon=taxon, label=None)
+        return types.SimpleNamespace(seed_node=node(list(names)))
+
+    def ete_like(self, *names: typing.Any) -> types.SimpleNamespace:
+        below = [self.ete_like(*name) if isinstance(name, list) else types.SimpleNamespace(children=[], name=name)
+                 for name in names]
+        return types.SimpleNamespace(children=below, name="")
+
     def test_objects_of_other_packages(self) -> None:
-        """Told by their methods alone: as_string(schema=) is DendroPy's, write() is ETE's."""
-        texts = [FEATHERS.read_text(), WINGS.read_text()]
-        dendropy_like = types.SimpleNamespace(as_string=lambda schema: {"newick": "[&R] " + texts[0]}[schema])
-        ete_like = types.SimpleNamespace(write=lambda: texts[1])
-        self.assertEqual(leskwyn.compare(dendropy_like, ete_like), leskwyn.compare(*texts))
+        """Told by what they have: a seed_node is DendroPy's, children and a name are ETE's."""
+        expected = leskwyn.compare(FEATHERS.read_text(), WINGS.read_text())
+        first = self.dendropy_like("Azores", ["Bute", "Coll"], "Foula", ["Lundy", "Texel"])
+        second = self.ete_like("Azores", "Bute", ["Coll", "Foula"], ["Lundy", "Texel"])
+        self.assertEqual(leskwyn.compare(first, second), expected)
+        self.assertEqual(leskwyn.matrix([first, second, WINGS]), [[0, 7, 7], [7, 0, 0], [7, 0, 0]])
+        for tree in (self.dendropy_like("A", ["B", None]), self.ete_like("A", ["B", ""]), self.ete_like("A", ["B", None])):
+            with self.assertRaisesRegex(leskwyn.Refusal, "the first tree: a tip with an empty name"):
+                leskwyn.compare(tree, "(A,B);")
+        with self.assertRaisesRegex(leskwyn.Refusal, "one tree in the file; two trees are needed"):
+            leskwyn.compare(first)
+
+    def test_names_of_objects(self) -> None:
+        """DendroPy has names as they are, ETE has words as Newick text has them."""
+        names = ["a b", "a,b", "(c)", "it's", "d:1", "[e]", "f\ng", "'h", "\u00a0"]
+        self.assertEqual(leskwyn.compare(self.dendropy_like(*names), self.ete_like(*names)).names, tuple(sorted(names)))
+        words = ["a_b", "'c_d'", "'it''s'", '"e f"', "g", "'h'i'"]
+        self.assertEqual(leskwyn.compare(self.ete_like(*words), self.ete_like(*words)).names,
+                         tuple(sorted(["a b", "c_d", "it's", "e f", "g", "'h'i'"])))
+        self.assertEqual(leskwyn.compare(self.dendropy_like("a_b", "c"), "('a_b',c);").names, ("a_b", "c"))
+
+    @unittest.skipUnless(HAS_ETE, "ETE is not installed")
+    def test_objects_of_ete(self) -> None:
+        import ete3
+        trees = [ete3.Tree(path.read_text()) for path in (FEATHERS, WINGS)]
+        self.assertEqual(leskwyn.compare(*trees), leskwyn.compare(FEATHERS.read_text(), WINGS.read_text()))
+        text = "(a_b:1,('A b',c)0.9:2,(d,(e)));"
+        self.assertEqual(leskwyn.compare(ete3.Tree(text), text).distance, 0)
+        quoted = ete3.Tree("('A,b',(c,d),\"it's\");", quoted_node_names=True)
+        self.assertEqual(leskwyn.compare(quoted, quoted).names, ("A,b", "c", "d", "it's"))
+
+    def with_dendropy(self, trees: list[typing.Any] | Exception) -> typing.Any:
+        """In the place of DendroPy one that reads these trees in any NEXUS text."""
+        def get(data: str, schema: str) -> list[typing.Any]:
+            self.assertEqual((data.strip()[:6].upper(), schema), ("#NEXUS", "nexus"))
+            if isinstance(trees, Exception):
+                raise trees
+            return trees
+        return unittest.mock.patch.dict(sys.modules, {"dendropy": types.SimpleNamespace(TreeList=types.SimpleNamespace(get=get))})
 
     def test_nexus(self) -> None:
-        """Through DendroPy, here one that knows a single text."""
         nexus = "  #nexus\nbegin trees;\n tree a = (x,y);\nend;\n"
-        trees = [types.SimpleNamespace(as_string=lambda schema, text=path.read_text(): text) for path in (FEATHERS, WINGS)]
-        got = types.SimpleNamespace(get=lambda data, schema: {(nexus, "nexus"): trees}[data, schema])
-        with unittest.mock.patch.dict(sys.modules, {"dendropy": types.SimpleNamespace(TreeList=got)}):
+        trees = [self.dendropy_like("Azores", ["Bute", "Coll"], "Foula", ["Lundy", "Texel"]),
+                 self.dendropy_like("Azores", "Bute", ["Coll", "Foula"], ["Lundy", "Texel"])]
+        with self.with_dendropy(trees):
             self.assertEqual(leskwyn.compare(nexus).distance, 7)
-            with self.assertRaisesRegex(leskwyn.Refusal, "DendroPy cannot read it"):
-                leskwyn.compare(nexus + " ")
+            self.assertEqual(leskwyn.matrix([nexus, FEATHERS]), [[0, 7, 0], [7, 0, 7], [0, 7, 0]])
+            with self.assertRaisesRegex(leskwyn.Refusal, "2 trees in the file; one tree is needed here"):
+                leskwyn.compare(nexus, nexus)
+        with self.with_dendropy([]), self.assertRaisesRegex(leskwyn.Refusal, "no tree in the file; two trees are needed"):
+            leskwyn.compare(nexus)
+        with self.with_dendropy(ValueError("line 2")), self.assertRaisesRegex(leskwyn.Refusal, "DendroPy cannot read it: line 2"):
+            leskwyn.compare(nexus)
         with unittest.mock.patch.dict(sys.modules, {"dendropy": None}), self.assertRaises(leskwyn.Trouble) as raised:
             leskwyn.compare(nexus)
         self.assertIn("DendroPy, which is not installed", raised.exception.reason)
 
+    def nexus(self, tree: str, block: str = "begin trees;") -> str:
+        return f"#NEXUS begin x; y:1,2; utree; end;\n{block}\ntree x = {tree};\nend;\n"
+
+    def test_nexus_that_could_be_read_in_two_ways(self) -> None:
+        """Decimal commas, of which DendroPy makes tips, and trees that it passes over."""
+        with self.with_dendropy([self.dendropy_like("A", "B")] * 2):
+            for tree, fraction in (("(A:0,25,B)", "25"), ("(A:0,25,B:0,5)", "25"), ("(A:1,B: -3,5e1)", "5e1"),
+                                   ("(A,B:12,5\n)", "5"), ("((A,B)0,95,C)", "95"), ("((A,B)1,00:0.1,C)", "00")):
+                for block in ("begin trees;", "BEGIN  Trees ;"):
+                    with self.assertRaisesRegex(leskwyn.Refusal, f"line 3: '{fraction}' is the end of a number with a decimal"):
+                        leskwyn.compare(self.nexus(tree, block))
+            for tree in ("(A,B); utree y = (A,B)", "(A,B);\n[a]\n[b] UTREE * y = (A,B)"):
+                with self.assertRaisesRegex(leskwyn.Refusal, "line [35]: a UTREE, which DendroPy passes over: write TREE"):
+                    leskwyn.compare(self.nexus(tree))
+            for tree in ("(1:0,2:1,3:5)", "(1,2,3)", "((1,2)1,2)", "((1,2)95,3)", "(1:0.5,2)", "(1:1, 2)", "(1:1,'2')", "(1:2,3a)",
+                         "(utree,2)"):
+                self.assertEqual(leskwyn.compare(self.nexus(tree)).tips, 2)
+
     @unittest.skipUnless(HAS_DENDROPY, "DendroPy is not installed")
     def test_nexus_of_dendropy(self) -> None:
+        rng = random.Random(12)
+        names = [name for name in random_names(rng, 40) if not set(name) & set("\"';,:()[]")]
+        pair = [random_tree(rng, names, 0.3) for _ in range(2)]
         import dendropy
-        taxa = dendropy.TaxonNamespace()
-        trees = dendropy.TreeList([dendropy.Tree.get(path=str(path), schema="newick", taxon_namespace=taxa)
-                                   for path in (FEATHERS, WINGS)], taxon_namespace=taxa)
-        self.assertEqual(leskwyn.compare(trees.as_string(schema="nexus")).distance, 7)
+        for schema in ("nexus", "newick"):
+            text = dendropy.TreeList(in_dendropy(pair)).as_string(schema=schema)
+            self.assertEqual(leskwyn.compare(text).as_dict() | {"first": "", "second": ""},
+                             leskwyn.compare(*(written_tree(rng, tree) for tree in pair)).as_dict() | {"first": "", "second": ""})
+        nexus = ("#NEXUS\n[a comment]\nbegin taxa;\n dimensions ntax=4;\n taxlabels Bute 'Coll x' Foula_a 'it''s';\nend;\n"
+                 "Begin Trees;\n translate 1 Bute, 2 'Coll x', 3 Foula_a, 4 'it''s';\n tree one = [&U] ((1:0,2:1)1:0.5,3,4);\n"
+                 " tree * two = ((1,3),2,4);\nend;\n")
+        found = leskwyn.compare(nexus)
+        self.assertEqual((found.names, found.different), (("Bute", "Coll x", "Foula a", "it's"), 1))
+        self.assertEqual(leskwyn.compare(nexus.replace("\n", "\r\n")), found)
+
+    @unittest.skipUnless(HAS_DENDROPY, "DendroPy is not installed")
+    def test_nexus_that_dendropy_refuses_or_reads_as_something_else(self) -> None:
+        for tree, words in (("((A,B),(C,D)", "DendroPy cannot read it"), ("(A,A,B)", "DendroPy cannot read it"),
+                            ("(A,a,B)", "DendroPy cannot read it"), ("(,A,B)", "a tip with an empty name"),
+                            ("(A:0,25,B:0,5)", "'25' is the end of a number with a decimal comma"),
+                            ("(\"A,B\",C)", "DendroPy cannot read it"), ("(A,B);utree y = (A,B)", "a UTREE, which DendroPy")):
+            with self.assertRaisesRegex(leskwyn.Refusal, words):
+                leskwyn.compare(f"#NEXUS\nbegin trees;\n tree x = {tree};\nend;\n", "(A,B);")
+        with self.assertRaisesRegex(leskwyn.Refusal, "no tree in the file"):
+            leskwyn.compare("#NEXUS\nbegin data;\nend;\n")
 
     def test_what_is_no_tree(self) -> None:
         for given in (7, None, b"(A,B);", open, io.StringIO("(A,B);"), types.SimpleNamespace(write=lambda: None)):
@@ -406,4 +562,4 @@ class Answers(unittest.TestCase):
 
 
 if __name__ == "__main__":
-    unittest.main()
+    skips.main()

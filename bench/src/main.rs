@@ -21,8 +21,9 @@ fn main() -> ExitCode {
     println!();
     print!("{}", report::ratios(&measured));
     let docs = Path::new(env!("CARGO_MANIFEST_DIR")).join("../docs");
+    let before = fs::read_to_string(docs.join("BENCHMARKS.md")).unwrap_or_default();
     let written = fs::create_dir_all(&docs)
-        .and_then(|()| fs::write(docs.join("BENCHMARKS.md"), report::page(&measured)))
+        .and_then(|()| fs::write(docs.join("BENCHMARKS.md"), report::page(&measured) + report::commands(&before)))
         .and_then(|()| fs::write(docs.join("scaling.svg"), chart::drawn(&measured)));
     if let Err(error) = written {
         eprintln!("docs: {error}");

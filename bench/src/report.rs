@@ -72,7 +72,12 @@ fn processor() -> String {
     format!("{model}, {cores} cores, {} {}", std::env::consts::ARCH, std::env::consts::OS)
 }
 
-/// docs/BENCHMARKS.md.
+/// The last section of the page, which tools/command-times writes.
+pub fn commands(page: &str) -> &str {
+    page.find("\n## The commands\n").map_or("", |at| &page[at..])
+}
+
+/// docs/BENCHMARKS.md but for its last section.
 pub fn page(measured: &[Measured]) -> String {
     let (processor, table, ratios) = (processor(), table(measured), ratios(measured));
     format!(
@@ -104,4 +109,13 @@ within one run, in microseconds: what else the machine does only adds to a time.
 ![Time against the number of tips](scaling.svg)
 "
     )
+}
+
+#[cfg(test)]
+mod tests {
+    #[test]
+    fn the_last_section_is_kept() {
+        assert_eq!(super::commands("# a\n\n## The commands\n\nb\n"), "\n## The commands\n\nb\n");
+        assert_eq!(super::commands("# a\n"), "");
+    }
 }

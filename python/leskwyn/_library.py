@@ -54,11 +54,19 @@ def work(cells: int) -> Cells:
     return (ctypes.c_uint16 * max(1, cells))()
 
 
+def library_path() -> str:
+    named = os.environ.get("LESKWYN_LIBRARY")
+    if not named and not os.path.isfile(os.path.join(TOP, "crates.txt")):
+        raise Trouble("this package stands outside its checkout, so LESKWYN_LIBRARY must name the library: "
+                      "target/libleskwyn.so of the checkout, which bin/leskwyn proves and builds on first use")
+    return named or os.path.join(TOP, "target", "libleskwyn.so")
+
+
 @functools.cache
 def library() -> ctypes.CDLL:
     """The library, with the types of its calls."""
     from leskwyn import __version__
-    path = os.environ.get("LESKWYN_LIBRARY") or os.path.join(TOP, "target", "libleskwyn.so")
+    path = library_path()
     if not os.path.isfile(path):
         raise Trouble(f"there is no library {path}; bin/leskwyn proves and builds it on first use, and LESKWYN_LIBRARY may "
                       "name another")

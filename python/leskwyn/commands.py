@@ -4,8 +4,11 @@
 
 Exit status: 0 done; 1 the trees are refused; 2 wrong usage, a file that cannot be read or written, or no library.
 """
+import argparse
 import os
 import sys
+import typing
+from collections.abc import Callable
 
 from leskwyn import __version__, counting, files, text
 from leskwyn._library import TOP
@@ -35,6 +38,8 @@ exit status: 0 done; 1 the trees are refused; 2 wrong usage, a file that cannot 
 """
 EXAMPLES = ("examples/feathers.nwk", "examples/wings.nwk")
 INTERRUPTED = 130
+# What bin/leskwyn is told where a command line is understood and there is no library yet.
+LIBRARY_WANTED = 3
 STATUS = """
 exit status: 0 done; 1 refused; 2 wrong usage, a file that cannot be read or written, or no library"""
 
@@ -65,13 +70,13 @@ def example_trees() -> Comparison:
     return compare_trees(*trees)
 
 
-def one_file(parser: Parser, path: str, common: bool, tables: bool) -> Comparison:
+def one_file(path: str, common: bool, tables: bool) -> Comparison:
     """The figures of a file that holds both trees."""
     place, content = files.shown_path(path), files.read_bytes(path)
     if not tables and not is_comparison_file(content):
         return compare_trees(*with_common(trees_of_bytes(place, content, 2), common))
     if common:
-        parser.error("--common goes by names, and a comparison file has none")
+        compare_parser().error("--common goes by names, and a comparison file has none")
     return compare_file(place, content)
 
 
@@ -80,15 +85,19 @@ def two_files(paths: list[str], common: bool) -> Comparison:
     return compare_trees(*with_common(trees, common))
 
 
-def compare_command(arguments: list[str]) -> int:
+def compare_options(arguments: list[str]) -> argparse.Namespace:
     parser = compare_parser()
     options = parser.parsed(arguments, "trees")
     if len(options.trees) > 2 or options.tables and len(options.trees) != 1:
         parser.error(f"{len(options.trees)} files; " + ("one comparison file is needed" if options.tables else
                                                         "one or two are needed (leskwyn matrix takes more)"))
+    return options
+
+
+def compare_command(options: argparse.Namespace) -> int:
     try:
         if len(options.trees) == 1:
-            found = one_file(parser, options.trees[0], options.common, options.tables)
+            found = one_file(options.trees[0], options.common, options.tables)
         else:
             found = two_files(options.trees, options.common) if options.trees else example_trees()
     except Refusal as refusal:
@@ -129,11 +138,15 @@ def matrix_parser() -> Parser:
     return parser
 
 
-def matrix_command(arguments: list[str]) -> int:
+def matrix_options(arguments: list[str]) -> argparse.Namespace:
     parser = matrix_parser()
     options = parser.parsed(arguments, "trees")
     if not options.trees:
         parser.error("no files; one or more are needed")
+    return options
+
+
+def matrix_command(options: argparse.Namespace) -> int:
     trees = with_common(read_all(options.trees), options.common)
     labels = labels_of_names(checked(trees))
     tables = [table_of(placed.tree, labels) for placed in trees]
@@ -155,11 +168,15 @@ def against_parser() -> Parser:
     return parser
 
 
-def against_command(arguments: list[str]) -> int:
+def against_options(arguments: list[str]) -> argparse.Namespace:
     parser = against_parser()
     options = parser.parsed(arguments, "trees")
     if len(options.trees) < 2:
         parser.error("REF and one file or more are needed")
+    return options
+
+
+def against_command(options: argparse.Namespace) -> int:
     trees = with_common(trees_of_path(options.trees[0], 1) + read_all(options.trees[1:]), options.common)
     names = checked(trees)
     labels = labels_of_names(names)
@@ -182,27 +199,44 @@ def show_command(arguments: list[str]) -> int:
     return show_command(arguments)
 
 
-COMMANDS = {"compare": compare_command, "matrix": matrix_command, "against": against_command, "table": table_command,
-            "show": show_command}
+class Counting(typing.NamedTuple):
+    """A command that asks the library: its options, of the words after its name, and what it does; the exit status."""
+    options: Callable[[list[str]], argparse.Namespace]
+    run: Callable[[argparse.Namespace], int]
 
 
-def dispatched(arguments: list[str]) -> int:
+COUNTING = {"compare": Counting(compare_options, compare_command), "matrix": Counting(matrix_options, matrix_command),
+            "against": Counting(against_options, against_command)}
+OTHERS = {"table": table_command, "show": show_command}
+
+
+def counted_later(options: argparse.Namespace) -> int:
+    """In the place of a command that has no library yet: a file that is not there is told."""
+    for path in options.trees:
+        files.check_there(path)
+    return LIBRARY_WANTED
+
+
+def dispatched(arguments: list[str], has_library: bool) -> int:
     """Runs the command; the exit status."""
     command, rest = (arguments[0], arguments[1:]) if arguments else ("compare", [])
     if command in ("-h", "--help"):
         files.print_text(HELP)
     elif command == "--version":
         files.print_text(f"leskwyn (Leskwyn) {__version__}\n")
-    elif command in COMMANDS:
-        return COMMANDS[command](rest)
+    elif command in COUNTING:
+        options = COUNTING[command].options(rest)
+        return COUNTING[command].run(options) if has_library else counted_later(options)
+    elif command in OTHERS:
+        return OTHERS[command](rest)
     else:
-        raise Usage(f"no command '{command}'; the commands are {', '.join(COMMANDS)} (leskwyn --help tells the usage)")
+        raise Usage(f"no command '{command}'; the commands are {', '.join([*COUNTING, *OTHERS])} (leskwyn --help tells the usage)")
     return 0
 
 
-def main(arguments: list[str]) -> int:
+def main(arguments: list[str], has_library: bool = True) -> int:
     try:
-        return dispatched(arguments)
+        return dispatched(arguments, has_library)
     except Usage as usage:
         files.say_line(str(usage))
         return 2
@@ -214,8 +248,9 @@ def main(arguments: list[str]) -> int:
         return INTERRUPTED
 
 
-def run() -> None:
-    """The command as a program."""
+def run(has_library: bool = True) -> None:
+    """The command as a program. Without a library it does what needs none, tells wrong usage and files that are not there,
+    and else ends with LIBRARY_WANTED."""
     if sys.stderr is not None:
         sys.stderr.reconfigure(encoding="utf-8", errors="backslashreplace", newline="\n")
-    sys.exit(main(sys.argv[1:]))
+    sys.exit(main(sys.argv[1:], has_library))

@@ -32,18 +32,32 @@ def shown_path(path: str) -> str:
     return "standard input" if path == "-" else path
 
 
+@contextlib.contextmanager
+def reading(path: str) -> typing.Iterator[None]:
+    try:
+        yield
+    except (OSError, ValueError) as error:
+        raise Trouble(f"cannot read {shown_path(path)}: {getattr(error, 'strerror', None) or error}") from None
+
+
+def check_there(path: str) -> None:
+    """Tells of a file that cannot be opened. A pipe is left alone, since what opens it takes something away."""
+    if path == "-" and sys.stdin is None:
+        raise Trouble("cannot read standard input: it is closed")
+    if path != "-" and (os.path.isfile(path) or os.path.isdir(path) or not os.path.exists(path)):
+        with reading(path), open(path, "rb"):
+            pass
+
+
 def read_bytes(path: str) -> bytes:
     """All bytes of a file, or of standard input for `-`."""
-    try:
+    with reading(path):
         if path != "-":
             with open(path, "rb") as file:
                 content = file.read(MOST_BYTES + 1)
-        elif sys.stdin is None:
-            raise Trouble("cannot read standard input: it is closed")
         else:
+            check_there(path)
             content = sys.stdin.buffer.read(MOST_BYTES + 1)
-    except (OSError, ValueError) as error:
-        raise Trouble(f"cannot read {shown_path(path)}: {getattr(error, 'strerror', None) or error}") from None
     if len(content) > MOST_BYTES:
         raise Refusal(f"{shown_path(path)}: more than {MOST_BYTES} bytes, which no file of trees needs")
     return content

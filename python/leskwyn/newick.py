@@ -17,6 +17,7 @@ QUOTES = ("'", '"')
 # character is one of these.
 PIECE = re.compile(r"""[\s\ufeff]+|([(),:;])|([^\s\ufeff()\[\]'",:;]+)|(['"\[\]])""")
 MARK, WORD, OPENING = 1, 2, 3
+QUOTED = re.compile(r"""(['"])((?:(?!\1).|\1\1)*)\1""", re.DOTALL)
 BRACKET = re.compile(r"[\[\]]")
 WHOLE_NUMBER = re.compile(r"[+-]?[0-9]+")
 FRACTION = re.compile(r"[0-9]+(?:[eE][+-]?[0-9]+)?")
@@ -61,6 +62,12 @@ def quote_end(source: Source, start: int) -> int:
     return at + 1
 
 
+def name_of_word(word: str) -> str:
+    """The name that a word stands for: what its quotes hold, or else itself, with a blank for each '_'."""
+    found = QUOTED.fullmatch(word)
+    return found[2].replace(found[1] * 2, found[1]) if found else word.replace("_", " ")
+
+
 def quote_inside(source: Source, start: int, word: str) -> Refusal:
     return source.fault(start, f"a quote inside the name {quoted(word)}; put the whole name in quotes '...' and write a ' "
                                "inside it twice")
@@ -96,6 +103,11 @@ def is_number(text: str) -> bool:
     except ValueError:
         return text == "NA"
     return True
+
+
+def told_comma(fraction: str) -> str:
+    return (f"{quoted(fraction)} is the end of a number with a decimal comma, or a tip's name: write numbers with a point, or "
+            "that name in quotes")
 
 
 class DecimalCommas:
@@ -211,8 +223,7 @@ class TreeReader:
 
     def check_comma(self, fraction: Token | None) -> None:
         if fraction is not None:
-            raise self.fault(fraction.at, f"{quoted(fraction.text)} is the end of a number with a decimal comma, or a tip's "
-                                          "name: write numbers with a point, or that name in quotes")
+            raise self.fault(fraction.at, told_comma(fraction.text))
 
     def unclosed(self) -> Refusal:
         return self.fault(self.open[-1][1], "a ( without its )")

@@ -1,12 +1,14 @@
 """Where trees come from: Newick text, files, NEXUS through DendroPy, and tree objects of DendroPy and ETE."""
 import os
+import re
 import typing
+from collections.abc import Callable, Iterable
 
 from leskwyn import files
 from leskwyn.errors import Refusal, Trouble
-from leskwyn.newick import Source, read_trees
+from leskwyn.newick import Source, check_number, name_of_word, read_trees, told_comma
 from leskwyn.tables import ORDINALS
-from leskwyn.trees import Placed
+from leskwyn.trees import Placed, Tree
 
 # A tree, or a file of trees, as a caller gives it.
 Given = typing.Any
@@ -27,25 +29,52 @@ def is_unmarked(content: bytes) -> bool:
     return False
 
 
-def nexus_as_newick(place: str, text: str) -> str:
-    """The trees of a NEXUS text, one after the other, as DendroPy writes them."""
+# ---- NEXUS
+
+# A length or a support value with a decimal comma, such as :0,25 and )0,95; a tip after a length has a length of its own.
+NEXUS_COMMA = re.compile(r"(?::\s*[+-]?[0-9]+,([0-9]+(?:[eE][+-]?[0-9]+)?)(?!\s*:)|\)(?:0,([0-9]+)|1,(0+)))(?=[\s,()\[:;])")
+TREES_BLOCK = re.compile(r"\bbegin\s+trees\s*;", re.IGNORECASE)
+UTREE = re.compile(r";\s*(?:\[[^\]]*\]\s*)*utree\b", re.IGNORECASE)
+
+
+def check_nexus(source: Source) -> None:
+    """Turns away what DendroPy takes for something else: the end of a number for a tip, and a UTREE for nothing at all."""
+    block = TREES_BLOCK.search(source.text)
+    if block is None:
+        return
+    comma = NEXUS_COMMA.search(source.text, block.end())
+    if comma is not None and comma.lastindex is not None:
+        raise source.fault(comma.start(comma.lastindex), told_comma(comma[comma.lastindex]))
+    utree = UTREE.search(source.text, block.start())
+    if utree is not None:
+        raise source.fault(utree.end(), "a UTREE, which DendroPy passes over: write TREE")
+
+
+def nexus_trees(source: Source) -> list[Tree]:
+    """The trees of a NEXUS text, as DendroPy reads them."""
     try:
         import dendropy
     except ImportError:
-        raise Trouble(f"{place} is a NEXUS file, and reading one needs the Python package DendroPy, which is not installed; "
-                      "or save the trees as Newick") from None
+        raise Trouble(f"{source.place} is a NEXUS file, and reading one needs the Python package DendroPy, which is not "
+                      "installed; or save the trees as Newick") from None
     try:
-        trees = dendropy.TreeList.get(data=text, schema="nexus")
-        return "".join(tree.as_string(schema="newick") for tree in trees)
+        trees = list(dendropy.TreeList.get(data=source.text, schema="nexus"))
     except Exception as error:  # whatever DendroPy raises, the text is turned away
-        raise Refusal(f"{place}: DendroPy cannot read it: {error}") from None
+        raise Refusal(f"{source.place}: DendroPy cannot read it: {error}") from None
+    check_nexus(source)
+    return [tree_of_object(source.place, tree) for tree in trees]
 
+
+# ---- texts and files
 
 def trees_of_text(place: str, text: str, wanted: int | None) -> list[Placed]:
     """The trees of a text; where there are several, each has its place."""
+    source = Source(place, text)
     if text[:1000].lstrip()[:6].upper() == "#NEXUS":
-        text = nexus_as_newick(place, text)
-    trees = read_trees(Source(place, text), wanted)
+        trees = nexus_trees(source)
+        check_number(place, len(trees), wanted)
+    else:
+        trees = read_trees(source, wanted)
     if len(trees) == 1:
         return [Placed(place, trees[0])]
     told = [f", {ordinal} tree" for ordinal in ORDINALS] if wanted == 2 else [f"#{at + 1}" for at in range(len(trees))]
@@ -81,16 +110,39 @@ def trees_given(given: Given, place: str, wanted: int | None) -> list[Placed]:
         if not any(mark in given for mark in "(;"):
             raise Trouble(f"{place}: '{given[:60]}' is neither Newick text nor the name of a file")
         return trees_of_text(place, given, wanted)
-    text = text_of_object(given)
-    if not isinstance(text, str):
+    if not is_dendropy(given) and not is_ete(given):
         raise TypeError(f"{place}: a tree is Newick text, a path, or a DendroPy or ETE tree, not {type(given).__name__}")
-    return trees_of_text(place, text, wanted)
+    check_number(place, 1, wanted)
+    return [Placed(place, tree_of_object(place, given))]
 
 
-def text_of_object(given: Given) -> typing.Any:
-    """The Newick text of a tree object: DendroPy's have as_string, ETE's have write. Files are no trees."""
-    if callable(getattr(given, "as_string", None)):
-        return given.as_string(schema="newick")
-    if callable(getattr(given, "write", None)) and not hasattr(given, "read"):
-        return given.write()
-    return None
+# ---- tree objects
+
+def is_dendropy(given: Given) -> bool:
+    return hasattr(given, "seed_node")
+
+
+def is_ete(given: Given) -> bool:
+    return hasattr(given, "children") and hasattr(given, "name")
+
+
+def tree_of_object(place: str, given: Given) -> Tree:
+    """The tree of an object, told by what its nodes have. A name in ETE is a word as it stands in Newick text."""
+    if is_dendropy(given):
+        return tree_of_nodes(place, given.seed_node, lambda node: node.child_nodes(),
+                             lambda node: node.label if node.taxon is None else node.taxon.label)
+    return tree_of_nodes(place, given, lambda node: node.children, lambda node: name_of_word(str(node.name or "")))
+
+
+def tree_of_nodes(place: str, root: Given, below: Callable[[Given], Iterable[Given]], name: Callable[[Given], str | None]) -> Tree:
+    """The tree of nodes, each with those below it; what has none is a tip."""
+    tree, ahead = Tree(), [(root, -1)]
+    while ahead:
+        node, parent = ahead.pop()
+        children = list(below(node))
+        tip = None if children else name(node)
+        if not children and not tip:
+            raise Refusal(f"{place}: a tip with an empty name")
+        number = tree.add(parent, tip)
+        ahead += [(child, number) for child in reversed(children)]
+    return tree
