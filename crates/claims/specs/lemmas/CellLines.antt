@@ -1,13 +1,10 @@
 -- Cells on a line, evenly spaced in a slice: what is summed over them, and the bounds that keep the sums in 64 bits.
 -- Assumes nothing.
-use mathlib.Core.Path.{_≡_, sym, _∙_, ap₂}
 use mathlib.Core.List.{List}
 use Prim.Native.Nat.{ℕ, _+_, _*_, _-_, _≤_, _<_}
-use native.Mathlib.Numerals.{add-one}
 use lib.ListN.{length}
 use Rattle.table_words.specs.Sizes.{tipsMost}
 use Rattle.sums.specs.Sum.{sum}
-use Rattle.sums.specs.theorems.SumLaws.{sum-suc}
 use Rattle.tree_check.specs.Table.{word}
 
 -- ---- lines
@@ -62,13 +59,3 @@ pub record Low (xs : List ℕ) (len : ℕ) : Type 0 where
   pub inside : len ≤ length xs
   pub few : len ≤ tipsMost
   pub low : (a : ℕ) → a < len → word xs a ≤ 65536
-
--- ---- sums, as a loop finds them
-
--- one more term ..
-pub sum-next : (n : ℕ) (f : ℕ → ℕ) → sum (n + 1) f ≡ sum n f + f n
-sum-next n f = rw add-one (sum-suc n f)
-
--- .. added to what there is
-pub sum-step : (n : ℕ) (f : ℕ → ℕ) (s x : ℕ) → s ≡ sum n f → x ≡ f n → s + x ≡ sum (n + 1) f
-sum-step n f s x e d = ap₂ (λ (y z : ℕ). y + z) e d ∙ sym (sum-next n f)

@@ -3,12 +3,12 @@
 use mathlib.Core.Path.{_≡_, refl, _∙_}
 use Prim.Native.Nat.{ℕ, _+_, _*_, _≤_}
 use native.Mathlib.Omega.{arith}
+use Rattle.sums.specs.theorems.SumLaws.{sum-next, sum-step}
 use Rattle.table_words.specs.Sizes.{tipsMost}
 use Rattle.sums.specs.Sum.{sum}
 use Rattle.shapes.specs.Claims.{choose2}
 use Rattle.node_pairs.specs.theorems.CellForms.{pairsOff}
 use Rattle.node_pairs.specs.theorems.Hooks.{hooksPlus, hooksMinus}
-use Rattle.claims.specs.lemmas.CellLines.{sum-next, sum-step}
 
 module _ (d d' : ℕ) (I : ℕ → ℕ → ℕ) where
   -- what cell i, j gives to twice S2, ..

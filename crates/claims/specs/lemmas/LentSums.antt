@@ -2,30 +2,16 @@
 -- Assumes nothing.
 use mathlib.Core.Path.{_≡_, refl, sym, _∙_, subst}
 use mathlib.Core.List.{List}
-use Prim.Native.Nat.{ℕ, _+_, _-_, _≤_}
-use native.Mathlib.Omega.{arith}
+use Prim.Native.Nat.{ℕ}
 use lib.ListN.{length}
 use Rattle.tree_check.specs.Table.{Table, tips, nodes, parents}
 use Rattle.tree_check.specs.lemmas.TableParts.{to-parts, of-parts}
 use Rattle.pair_check.specs.PairOrder.{PairWithCells}
-use Rattle.pair_check.specs.lemmas.PairOutcomes.{edges-some}
 use Rattle.tree_pairs.specs.Crossings.{crossed, afterCrossings}
 use Rattle.tree_pairs.specs.lemmas.LentTables.{lentParents, crossings-are}
 use Rattle.claims.specs.declared.totals.ClaimSums.{ClaimSums}
 use Rattle.claims.specs.lemmas.SumsOf.{Summable, summed, summable, claims-accepted}
 use Rattle.claims.specs.ClaimAnswer.{claimAnswer}
-
--- the nodes of a table, from its edges
-pub nodes-are : (t u : Table) (cells : ℕ) → PairWithCells t u cells → (rows columns : ℕ) → rows ≡ nodes t - 1
-    → columns ≡ nodes u - 1 → (rows + 1 ≡ nodes t) × (columns + 1 ≡ nodes u)
-nodes-are t u cells p rows columns er ec =
-    (omega (arith, edges-some t (p .pair .first)), omega (arith, edges-some u (p .pair .second)))
-
--- both tables have their parents
-pub lent-words : (t u : Table) (cells : ℕ) → PairWithCells t u cells → (m k : ℕ) → m ≡ nodes t → k ≡ nodes u
-    → (2 + m ≤ length t) × (2 + k ≤ length u)
-lent-words t u cells p m k em ek =
-    (omega (arith, p .pair .first .words), omega (arith, p .pair .second .words))
 
 -- the cells of a pair, after its crossings were written
 module _ (t u : Table) (work new : List ℕ) (p : PairWithCells t u (length work)) (w : new ≡ afterCrossings t u work)

@@ -8,12 +8,12 @@ use native.Mathlib.Omega.{arith}
 use lib.ListN.{length}
 use Rattle.table_words.specs.Sizes.{tipsMost}
 use Rattle.sums.specs.Sum.{sum}
-use Rattle.sums.specs.theorems.SumLaws.{sum-ext, sum-cong, sum-swap, sum-mono, sum-const, sum-none}
+use Rattle.sums.specs.theorems.SumLaws.{sum-ext, sum-cong, sum-swap, sum-mono, sum-const, sum-none, sum-next, sum-step}
 use Rattle.sums.specs.SetsOfFour.{sets2}
 use Rattle.tree_check.specs.Table.{word}
 use Rattle.node_pairs.specs.theorems.ClosedForms.{dot, dotSquares, termSquares}
 use Rattle.sums.specs.theorems.Products.{product-le}
-use Rattle.claims.specs.lemmas.CellLines.{Line, Low, lineCell, squared, sum-next, sum-step}
+use Rattle.claims.specs.lemmas.CellLines.{Line, Low, lineCell, squared}
 use Rattle.claims.specs.lemmas.Filled.{filled, filled-at}
 use Rattle.claims.specs.lemmas.MatrixBounds.{products-le}
 

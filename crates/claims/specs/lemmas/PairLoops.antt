@@ -9,7 +9,7 @@ use native.Mathlib.Omega.{arith}
 use lib.ListN.{length}
 use Rattle.table_words.specs.Sizes.{tipsMost}
 use Rattle.sums.specs.Sum.{sum}
-use Rattle.sums.specs.theorems.SumLaws.{sum-suc, sum-ext, sum-cong, sum-none, sum-ge, sum-part}
+use Rattle.sums.specs.theorems.SumLaws.{sum-next, sum-ext, sum-cong, sum-none, sum-ge, sum-part}
 use Rattle.sums.specs.theorems.Products.{product-le}
 use Rattle.node_pairs.specs.theorems.Cells.{pairS2, pairS3}
 use Rattle.node_pairs.specs.theorems.CellTotals.{pairS2-few, pairS3-few}
@@ -34,14 +34,11 @@ pub summed-none : (f g : ℕ → ℕ) → Summed f g 0 0 0
 unfolding sum
 summed-none f g = record { s2-is = refl; s3-is = refl }
 
-sum-more : (i : ℕ) (f : ℕ → ℕ) → sum (i + 1) f ≡ sum i f + f i
-sum-more i f = ap (λ (k : ℕ). sum k f) (add-one i) ∙ sum-suc i f
-
 module _ (f g : ℕ → ℕ) (i s2 s3 : ℕ) (h : Summed f g i s2 s3) where
   pub summed-next : (a b : ℕ) → a ≡ f i → b ≡ g i → Summed f g (i + 1) (s2 + a) (s3 + b)
   summed-next a b ea eb = record {
-    s2-is = omega (arith, h .s2-is, ea, sum-more i f);
-    s3-is = omega (arith, h .s3-is, eb, sum-more i g);
+    s2-is = omega (arith, h .s2-is, ea, sum-next i f);
+    s3-is = omega (arith, h .s3-is, eb, sum-next i g);
   }
 
   -- a part is no more than the whole

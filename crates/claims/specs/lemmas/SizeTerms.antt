@@ -7,12 +7,12 @@ use native.Mathlib.Omega.{arith}
 use lib.ListN.{length}
 use Rattle.table_words.specs.Sizes.{tipsMost}
 use Rattle.sums.specs.Sum.{sum}
-use Rattle.sums.specs.theorems.SumLaws.{sum-cong, sum-ge, sum-mul-right}
+use Rattle.sums.specs.theorems.SumLaws.{sum-cong, sum-ge, sum-mul-right, sum-next}
 use Rattle.sums.specs.theorems.Products.{product-le}
 use Rattle.shapes.specs.Claims.{choose2}
 use Rattle.node_pairs.specs.theorems.NodeSums.{others, others-and-own, node-closed}
 use Rattle.tree_check.specs.Table.{word}
-use Rattle.claims.specs.lemmas.CellLines.{Line, lineCell, squared, sum-next}
+use Rattle.claims.specs.lemmas.CellLines.{Line, lineCell, squared}
 use Rattle.claims.specs.lemmas.SumsByNode.{sizesApart}
 
 -- `count` sizes that add up to 256 at most

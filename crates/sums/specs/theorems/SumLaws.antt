@@ -1,16 +1,25 @@
 -- Laws of finite sums: equal terms, constants, sums and products, order of summation, few terms that count.
 -- Assumes nothing.
-use mathlib.Core.Path.{_≡_, refl, sym, _∙_, ap, fun-ext}
+use mathlib.Core.Path.{_≡_, refl, sym, _∙_, ap, ap₂, fun-ext}
 use mathlib.Core.Logic.{inl, inr, _≢_}
 use Prim.Native.Nat.{ℕ, zero, suc, _+_, _*_, _≤_, _<_}
 use native.Mathlib.Nat.{eq-or-lt-of-le, le-of-suc-le-suc, eq-zero-or-pos}
 use native.Mathlib.Decide.{ℕ-discrete}
+use native.Mathlib.Numerals.{add-one}
 use native.Mathlib.Omega.{arith}
 use Rattle.sums.specs.Sum.{sum}
 
 pub sum-suc : (n : ℕ) (f : ℕ → ℕ) → sum (suc n) f ≡ sum n f + f n
 unfolding sum
 sum-suc n f = refl
+
+-- one more term, as a loop finds it ..
+pub sum-next : (n : ℕ) (f : ℕ → ℕ) → sum (n + 1) f ≡ sum n f + f n
+sum-next n f = rw add-one (sum-suc n f)
+
+-- .. added to what there is
+pub sum-step : (n : ℕ) (f : ℕ → ℕ) (s x : ℕ) → s ≡ sum n f → x ≡ f n → s + x ≡ sum (n + 1) f
+sum-step n f s x e d = ap₂ (λ (y z : ℕ). y + z) e d ∙ sym (sum-next n f)
 
 -- the first term, and the others
 pub sum-first : (n : ℕ) (f : ℕ → ℕ) → sum (suc n) f ≡ f 0 + sum n (λ i. f (suc i))

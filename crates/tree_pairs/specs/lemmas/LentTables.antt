@@ -3,7 +3,7 @@
 use mathlib.Core.Path.{_≡_, sym, _∙_, ap₂, subst}
 use mathlib.Core.Logic.{_≢_}
 use mathlib.Core.List.{List}
-use Prim.Native.Nat.{ℕ, _+_, _*_, _-_}
+use Prim.Native.Nat.{ℕ, _+_, _*_, _-_, _≤_}
 use native.Mathlib.Omega.{arith}
 use lib.ListN.{length, take, drop}
 use Rattle.tree_check.specs.Table.{Table, word, tips, nodes, parents, labels}
@@ -14,6 +14,7 @@ use Rattle.tree_check.specs.theorems.RefusalLaws.{if-accepted, if-refused}
 use Rattle.walks.specs.lemmas.TreeArrays.{TreeArrays, tree-arrays}
 use Rattle.pair_check.specs.PairOrder.{PairWithCells, pairOrder}
 use Rattle.pair_check.specs.theorems.PairCheck.{pair-check}
+use Rattle.pair_check.specs.lemmas.PairOutcomes.{edges-some}
 use Rattle.tree_pairs.specs.Crossings.{crossed, afterCrossings}
 use Rattle.tree_pairs.specs.lemmas.Filling.{PairArrays}
 
@@ -64,6 +65,20 @@ module _ (t u : Table) (work : List ℕ) (h : PairWithCells t u (length work)) (
       t n m (h .pair .first .words) (lent-tips t n en) (lent-nodes t m em) e)
       ∙ ap₂ (λ (x y : Table). crossed x y work)
       (table-of-parts t (h .pair .first .words)) (table-of-parts u (h .pair .second .words))
+
+-- ---- a pair that was checked, as its answer tells it
+
+-- the nodes of a table, from its edges
+pub nodes-are : (t u : Table) (cells : ℕ) → PairWithCells t u cells → (rows columns : ℕ) → rows ≡ nodes t - 1
+    → columns ≡ nodes u - 1 → (rows + 1 ≡ nodes t) × (columns + 1 ≡ nodes u)
+nodes-are t u cells p rows columns er ec =
+    (omega (arith, edges-some t (p .pair .first)), omega (arith, edges-some u (p .pair .second)))
+
+-- both tables have their parents
+pub lent-words : (t u : Table) (cells : ℕ) → PairWithCells t u cells → (m k : ℕ) → m ≡ nodes t → k ≡ nodes u
+    → (2 + m ≤ length t) × (2 + k ≤ length u)
+lent-words t u cells p m k em ek =
+    (omega (arith, p .pair .first .words), omega (arith, p .pair .second .words))
 
 -- ---- the lent cells afterwards
 

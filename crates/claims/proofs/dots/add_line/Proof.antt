@@ -6,11 +6,12 @@ use mathlib.Core.List.{List}
 use Prim.Native.Nat.{ℕ, _+_, _*_, _-_, _≤_}
 use native.Mathlib.Omega.{arith}
 use lib.ListN.{length, length-set}
+use Rattle.sums.specs.theorems.SumLaws.{sum-step}
 use Rattle.table_words.specs.Sizes.{tipsMost}
 use Rattle.sums.specs.Sum.{sum}
 use Rattle.tree_check.specs.Table.{word}
 use Rattle.sums.specs.theorems.Products.{product-le}
-use Rattle.claims.specs.lemmas.CellLines.{lineCell, squared, sum-step}
+use Rattle.claims.specs.lemmas.CellLines.{lineCell, squared}
 use Rattle.claims.specs.lemmas.Filled.{filled, filled-next, filled-later}
 use Rattle.claims.specs.lemmas.LineDots.{scaled, added}
 use borrow.Author.Needs.{needs}

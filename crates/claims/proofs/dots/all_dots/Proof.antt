@@ -4,9 +4,9 @@ use mathlib.Core.Path.{_≡_, refl, _∙_}
 use Prim.Native.Nat.{_*_, _-_, _≤_}
 use native.Mathlib.Omega.{arith}
 use lib.ListN.{length}
+use Rattle.sums.specs.theorems.SumLaws.{sum-step}
 use Rattle.sums.specs.Sum.{sum}
 use Rattle.node_pairs.specs.theorems.Aggregates.{squares}
-use Rattle.claims.specs.lemmas.CellLines.{sum-step}
 use Rattle.claims.specs.lemmas.LineDots.{dotSquaresOf, termSquaresOf, fewer-lines, dot-squares-lines}
 use Rattle.claims.specs.lemmas.LineDots.{term-squares-lines}
 use borrow.Author.Needs.{needs}

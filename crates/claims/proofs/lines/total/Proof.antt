@@ -3,9 +3,9 @@
 use mathlib.Core.Path.{_≡_, refl}
 use Prim.Native.Nat.{_*_, _-_, _≤_}
 use native.Mathlib.Omega.{arith}
+use Rattle.sums.specs.theorems.SumLaws.{sum-step}
 use Rattle.sums.specs.Sum.{sum}
 use Rattle.tree_check.specs.Table.{word}
-use Rattle.claims.specs.lemmas.CellLines.{sum-step}
 use borrow.Author.Needs.{needs}
 use Rattle.claims.proofs.lines.total.Statement.{statement}
 use Rattle.claims.proofs.lines.total.Tie as tie

@@ -3,10 +3,11 @@
 use mathlib.Core.Path.{_≡_, refl}
 use Prim.Native.Nat.{_*_, _-_, _≤_}
 use native.Mathlib.Omega.{arith}
+use Rattle.sums.specs.theorems.SumLaws.{sum-step}
 use Rattle.sums.specs.Sum.{sum}
 use Rattle.tree_check.specs.Table.{word}
 use Rattle.sums.specs.theorems.Products.{product-le}
-use Rattle.claims.specs.lemmas.CellLines.{squared, sum-step}
+use Rattle.claims.specs.lemmas.CellLines.{squared}
 use borrow.Author.Needs.{needs}
 use Rattle.claims.proofs.lines.total_squares.Statement.{statement}
 use Rattle.claims.proofs.lines.total_squares.Tie as tie

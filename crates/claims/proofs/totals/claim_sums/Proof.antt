@@ -7,7 +7,8 @@ use lib.ListN.{length}
 use Rattle.tree_check.specs.Table.{tips, nodes}
 use Rattle.pair_check.specs.PairOrder.{PairWithCells}
 use Rattle.pair_check.specs.lemmas.PairOutcomes.{work-says, work-passed, edges-some}
-use Rattle.claims.specs.lemmas.LentSums.{nodes-are, lent-words, lent-summable, lent-claims}
+use Rattle.tree_pairs.specs.lemmas.LentTables.{nodes-are, lent-words}
+use Rattle.claims.specs.lemmas.LentSums.{lent-summable, lent-claims}
 use Rattle.claims.specs.lemmas.SumsOf.{claims-refused}
 use borrow.Author.Needs.{needs}
 use Rattle.claims.proofs.totals.claim_sums.Statement.{statement}

@@ -1,0 +1,4 @@
+pub mod EdgeSums
+pub mod ListedColumns
+pub mod ListedRows
+pub mod PairCells
