@@ -1,4 +1,4 @@
-"""Cases of claim sums and quartet tables.
+"""Cases of claim sums, quartet tables and triplet tables.
 
 A tree is a graph in which each edge parts the labels into two sets. The claim sums go through the claims one by one, as
 docs/SPECIFICATION.md, 'Claims', defines them. The five cases are counted apart from the claims, by the subtrees that hang on
@@ -16,27 +16,28 @@ from cases.pairs import REFUSED, climb, needed, pair_refusal
 from cases.shapes import (balanced, bushy, caterpillar, exchanged, related_pair, renumbered, shuffled, star, unrelated_pair,
                           with_labels_exchanged)
 from cases.tables import OUTSIDE, P, Q, R, REFERENCE, THREE, TWO, W, X, Table, damaged
+from cases.triplets import triplet_table
 
-# docs/SPECIFICATION.md, 'The figures K1 to K9': S S' S2 S3, A B C D E, distance.
+# docs/SPECIFICATION.md, 'The figures K1 to K9': S S' S2 S3, A B C D E, distance, A B C D E of the triplets.
 REFERENCE_PAIRS = [
-    (P, Q, [10, 6, 6, 0], [3, 0, 2, 0, 0], 2),
-    (P, R, [10, 10, 6, 8], [3, 2, 0, 0, 0], 2),
-    (Q, R, [6, 10, 2, 8], [1, 2, 0, 2, 0], 4),
-    (P, P, [10, 10, 10, 0], [5, 0, 0, 0, 0], 0),
-    (W, W, [0, 0, 0, 0], [0, 0, 0, 0, 5], 0),
-    (P, W, [10, 0, 0, 0], [0, 0, 5, 0, 0], 5),
-    (W, P, [0, 10, 0, 0], [0, 0, 0, 5, 0], 5),
-    (TWO, TWO, [0, 0, 0, 0], [0, 0, 0, 0, 0], 0),
-    (THREE, THREE, [0, 0, 0, 0], [0, 0, 0, 0, 0], 0),
+    (P, Q, [10, 6, 6, 0], [3, 0, 2, 0, 0], 2, [3, 0, 1, 0, 0]),
+    (P, R, [10, 10, 6, 8], [3, 2, 0, 0, 0], 2, [2, 2, 0, 0, 0]),
+    (Q, R, [6, 10, 2, 8], [1, 2, 0, 2, 0], 4, [1, 2, 0, 1, 0]),
+    (P, P, [10, 10, 10, 0], [5, 0, 0, 0, 0], 0, [4, 0, 0, 0, 0]),
+    (W, W, [0, 0, 0, 0], [0, 0, 0, 0, 5], 0, [0, 0, 0, 0, 4]),
+    (P, W, [10, 0, 0, 0], [0, 0, 5, 0, 0], 5, [0, 0, 4, 0, 0]),
+    (W, P, [0, 10, 0, 0], [0, 0, 0, 5, 0], 5, [0, 0, 0, 4, 0]),
+    (TWO, TWO, [0, 0, 0, 0], [0, 0, 0, 0, 0], 0, [0, 0, 0, 0, 0]),
+    (THREE, THREE, [0, 0, 0, 0], [0, 0, 0, 0, 0], 0, [0, 0, 0, 0, 0]),
 ]
 
 # Outside pairs: documents 004 and 000, and trees of mixed shape.
 BALANCED_EIGHT, MIXED_EIGHT = OUTSIDE[4], OUTSIDE[5]
 OUTSIDE_PAIRS = [
-    (OUTSIDE[0], OUTSIDE[1], [30, 30, 16, 28], [8, 7, 0, 0, 0], 7),
-    (OUTSIDE[2], OUTSIDE[3], [140, 140, 70, 140], [35, 35, 0, 0, 0], 35),
-    (BALANCED_EIGHT, with_labels_exchanged(BALANCED_EIGHT, 1, 5), [140, 140, 48, 184], [24, 46, 0, 0, 0], 46),
-    (MIXED_EIGHT, BALANCED_EIGHT, [102, 140, 58, 88], [29, 22, 0, 19, 0], 41),
+    (OUTSIDE[0], OUTSIDE[1], [30, 30, 16, 28], [8, 7, 0, 0, 0], 7, [5, 5, 0, 0, 0]),
+    (OUTSIDE[2], OUTSIDE[3], [140, 140, 70, 140], [35, 35, 0, 0, 0], 35, [20, 15, 0, 0, 0]),
+    (BALANCED_EIGHT, with_labels_exchanged(BALANCED_EIGHT, 1, 5), [140, 140, 48, 184], [24, 46, 0, 0, 0], 46, [12, 23, 0, 0, 0]),
+    (MIXED_EIGHT, BALANCED_EIGHT, [102, 140, 58, 88], [29, 22, 0, 19, 0], 41, [14, 10, 0, 11, 0]),
 ]
 
 PAIRS_OF = [comb(k, 2) for k in range(257)]  # how many pairs k labels make
@@ -235,12 +236,12 @@ def cells_sum(t: Table, u: Table, cells: int) -> int:
 
 def answer(t: Table, u: Table, cells: int) -> Answer:
     number, total = pair_refusal(t, u, cells), cells_sum(t, u, cells)
-    sums, cases, verdict = [0] * 4, [0] * 6, ["refused"]
+    sums, cases, threes, verdict = [0] * 4, [0] * 6, [0] * 6, ["refused"]
     if number == 0:
-        sums, cases = claim_sums(t, u), quartet_table(t, u)
+        sums, cases, threes = claim_sums(t, u), quartet_table(t, u), triplet_table(t, u)
         hold(t[0], sums, cases)
         verdict = ["agrees"] if t[0] <= ENUMERATED else ["large", "agrees"]
-    return ["claims", number, *sums, total, "quartets", number, *cases, total, *verdict]
+    return ["claims", number, *sums, total, "quartets", number, *cases, total, *verdict, "triplets", number, *threes, total]
 
 
 def pair(t: Table, u: Table, cells: int | None = None) -> Case:
@@ -323,8 +324,9 @@ def all_cases() -> Iterator[Case]:
 
 def examples() -> list[Case]:
     """The cases; the published figures, and that every number of a pair is met."""
-    for t, u, sums, cases, distance in REFERENCE_PAIRS + OUTSIDE_PAIRS:
+    for t, u, sums, cases, distance, threes in REFERENCE_PAIRS + OUTSIDE_PAIRS:
         assert claim_sums(t, u) == sums and quartet_table(t, u) == cases + [distance], (t, u)
+        assert triplet_table(t, u) == threes + [sum(threes[1:4])], (t, u)
     found = list(all_cases())
     numbers = {case.answer[1] for case in found if case.answer[0] != "bad"}
     assert numbers == {0, *range(1, 10), *range(101, 108)}, numbers

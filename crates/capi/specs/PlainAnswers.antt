@@ -7,12 +7,14 @@ use Rattle.trees.specs.Topology.{butterflyOf, partnerOf}
 use Rattle.splits.specs.declared.counts.SplitCounts.{SplitCounts}
 use Rattle.claims.specs.declared.totals.ClaimSums.{ClaimSums}
 use Rattle.quartets.specs.declared.tables.QuartetTable.{QuartetTable}
+use Rattle.triplets.specs.declared.tables.TripletTable.{TripletTable}
 use Rattle.capi.specs.declared.answers.BeyondAnswer.{BeyondAnswer}
 use Rattle.capi.specs.declared.answers.CentreAnswer.{CentreAnswer}
 use Rattle.capi.specs.declared.answers.TopologyAnswer.{TopologyAnswer}
 use Rattle.capi.specs.declared.answers.ClaimSumsAnswer.{ClaimSumsAnswer}
 use Rattle.capi.specs.declared.answers.QuartetTableAnswer.{QuartetTableAnswer}
 use Rattle.capi.specs.declared.answers.SplitCountsAnswer.{SplitCountsAnswer}
+use Rattle.capi.specs.declared.answers.TripletTableAnswer.{TripletTableAnswer}
 
 unfoldable pub plainBeyond : PartBeyond → BeyondAnswer
 plainBeyond a = record { refusal = a .refusal; start = a .start; labels = a .count }
@@ -65,5 +67,16 @@ plainSplits a = record {
   first = a .first;
   second = a .second;
   common = a .common;
+  distance = a .distance;
+}
+
+unfoldable pub plainTriplets : TripletTable → TripletTableAnswer
+plainTriplets a = record {
+  refusal = a .refusal;
+  a = a .a;
+  b = a .b;
+  c = a .c;
+  d = a .d;
+  e = a .e;
   distance = a .distance;
 }

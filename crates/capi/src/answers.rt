@@ -54,3 +54,15 @@ pub struct SplitCountsAnswer {
     pub common: u64,
     pub distance: u64,
 }
+
+// The number; A to E and B + C + D of the triplets.
+#[repr(C)]
+pub struct TripletTableAnswer {
+    pub refusal: u16,
+    pub a: u64,
+    pub b: u64,
+    pub c: u64,
+    pub d: u64,
+    pub e: u64,
+    pub distance: u64,
+}

@@ -5,10 +5,12 @@ use super::answers::ClaimSumsAnswer;
 use super::answers::QuartetTableAnswer;
 use super::answers::SplitCountsAnswer;
 use super::answers::TopologyAnswer;
+use super::answers::TripletTableAnswer;
 use quartets::claim_sums;
 use quartets::crossings;
 use quartets::quartet_table;
 use quartets::split_counts;
+use quartets::triplet_table;
 use table_words::Cell;
 use table_words::as_count;
 use trees::Topology;
@@ -31,8 +33,9 @@ ghost use Rattle.tree_pairs.specs.Crossings.{afterCrossings};
 ghost use Rattle.splits.specs.SplitAnswer.{splitAnswer};
 ghost use Rattle.claims.specs.ClaimAnswer.{claimAnswer};
 ghost use Rattle.quartets.specs.QuartetAnswer.{DemandThree, quartetAnswer};
+ghost use Rattle.triplets.specs.TripletAnswer.{tripletAnswer};
 ghost use Rattle.capi.specs.PlainAnswers.{plainBeyond, plainCentre, plainTopology, plainClaims};
-ghost use Rattle.capi.specs.PlainAnswers.{plainTable, libraryTable, plainSplits};
+ghost use Rattle.capi.specs.PlainAnswers.{plainTable, libraryTable, plainSplits, plainTriplets};
 
 // The tree check's number.
 #[no_mangle]
@@ -176,5 +179,29 @@ pub extern "C" fn leskwyn_split_counts(
         second: as_count(counts.second),
         common: as_count(counts.common),
         distance: as_count(counts.distance),
+    }
+}
+
+// The triplet table, and the crossings in the lent cells.
+#[no_mangle]
+pub extern "C" fn leskwyn_triplet_table(
+    first: &[u16],
+    second: &[u16],
+    work: &mut [Cell],
+) -> TripletTableAnswer
+    ensures { λ r. ⌜
+        (r ≡ plainTriplets (tripletAnswer (now (first .entry)) (now (second .entry)) (length (now (work .entry)))))
+        × (now (work .exit) ≡ afterCrossings (now (first .entry)) (now (second .entry)) (now (work .entry)))
+        ⌝ }
+{
+    let table = triplet_table(first, second, work);
+    TripletTableAnswer {
+        refusal: table.refusal,
+        a: table.a,
+        b: table.b,
+        c: table.c,
+        d: table.d,
+        e: table.e,
+        distance: table.distance,
     }
 }

@@ -29,7 +29,22 @@ fn print_table(first: &[u16], second: &[u16], work: &mut [u16]) {
     verdict::print_of(table, first, second);
 }
 
+fn print_triplets(first: &[u16], second: &[u16], work: &mut [u16]) {
+    cells::fill(13, work);
+    let table = quartets::triplet_table(first, second, work);
+    print::name(b" triplets");
+    print::number(table.refusal);
+    print::large(table.a);
+    print::large(table.b);
+    print::large(table.c);
+    print::large(table.d);
+    print::large(table.e);
+    print::large(table.distance);
+    print::large(cells::sum_of(work));
+}
+
 pub(crate) fn quartets_case(first: &[u16], second: &[u16], work: &mut [u16]) {
     print_claims(first, second, work);
     print_table(first, second, work);
+    print_triplets(first, second, work);
 }

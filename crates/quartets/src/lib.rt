@@ -1,5 +1,5 @@
-// Two tree tables: crossings, claim sums, the quartet table and split counts. Every public function takes any words in
-// slices of any length, and answers in full or refuses with one number.
+// Two tree tables: crossings, claim sums, the quartet table, split counts and the triplet table. Every public function takes
+// any words in slices of any length, and answers in full or refuses with one number.
 mod fours; // fours.rt: the number of sets of four
 mod tables; // tables.rt: the quartet table of two trees
 
@@ -14,3 +14,5 @@ pub use splits::split_counts;
 pub use tables::QuartetTable;
 pub use tables::quartet_table;
 pub use tree_pairs::crossings;
+pub use triplets::TripletTable;
+pub use triplets::triplet_table;

@@ -25,7 +25,10 @@ pub(crate) fn edge_terms(work: &[Cell], step: usize, parents: &[u16]) -> u64
     let mut i = 0;
     while i < last {
         let above = as_index(parents[i + 2]) - 1;
-        total += edge_term(cell_count(work[(i + 1) * step]), cell_count(work[above * step]));
+        total += edge_term(
+            cell_count(work[(i + 1) * step]),
+            cell_count(work[above * step]),
+        );
         i += 1;
     }
     total

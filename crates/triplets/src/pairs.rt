@@ -129,7 +129,15 @@ pub(crate) fn pair_terms(
     let mut apart = 0u64;
     let mut i = 0;
     while i < last {
-        let row = row_sums(work, i + 1, first_parents, second_parents, columns, above, count);
+        let row = row_sums(
+            work,
+            i + 1,
+            first_parents,
+            second_parents,
+            columns,
+            above,
+            count,
+        );
         alike += row.alike;
         apart += row.apart;
         i += 1;

@@ -108,11 +108,11 @@ times-zero x y e = rw e (omega arith)
 
 module _ {n : ℕ} (t : Shape n) where
   -- the label a lies beyond edge j + 2
-  abbrev beyondBit : ℕ → ℕ → ℕ
+  abbrev pub beyondBit : ℕ → ℕ → ℕ
   beyondBit j a = bit (beyondIn t (suc (suc j)) a)
 
   -- the label c lies beyond the parent's edge, and not beyond edge j + 2
-  abbrev leavesBit : ℕ → ℕ → ℕ
+  abbrev pub leavesBit : ℕ → ℕ → ℕ
   leavesBit j c = leaves (t .up) (suc (suc j)) (t .node c)
 
   -- the edges from edge 2 on beyond which a and b lie, and where c leaves
@@ -473,7 +473,7 @@ module _ {n : ℕ} (t u : Shape n) (o : Outgroup t) (o' : Outgroup u) where
     q-up : (c : ℕ) → leavesBit u k c + beyondBit u k c ≡ bit (beyondIn u (u .up (suc (suc k))) c)
     q-up c = leaves-once (u .up) (u .tree) (suc (suc k)) (u .node c) (omega arith)
 
-    leave-both : sum n (λ c. leavesBit t j c * leavesBit u k c)
+    pub leave-both : sum n (λ c. leavesBit t j c * leavesBit u k c)
         + beyondBoth t u (t .up (suc (suc j))) (suc (suc k)) + beyondBoth t u (suc (suc j)) (u .up (suc (suc k)))
         ≡ beyondBoth t u (t .up (suc (suc j))) (u .up (suc (suc k))) + beyondBoth t u (suc (suc j)) (suc (suc k))
     leave-both = simp sum-add at (sum-cong n (λ c.
@@ -482,14 +482,14 @@ module _ {n : ℕ} (t u : Shape n) (o : Outgroup t) (o' : Outgroup u) where
         each : (l p p' m q q' : ℕ) → l + p ≡ p' → m + q ≡ q' → l * m + p' * q + p * q' ≡ p' * q' + p * q
         each l p p' m q q' e f = rw (← e, ← f) (omega arith)
 
-    leave-second : sum n (λ b. beyondBit t j b * leavesBit u k b) + beyondBoth t u (suc (suc j)) (suc (suc k))
+    pub leave-second : sum n (λ b. beyondBit t j b * leavesBit u k b) + beyondBoth t u (suc (suc j)) (suc (suc k))
         ≡ beyondBoth t u (suc (suc j)) (u .up (suc (suc k)))
     leave-second = simp sum-add at (sum-cong n (λ b. each (beyondBit t j b) (leavesBit u k b) (beyondBit u k b) _ (q-up b)))
       where
         each : (p m q q' : ℕ) → m + q ≡ q' → p * m + p * q ≡ p * q'
         each p m q q' f = rw (← f) (omega arith)
 
-    leave-first : sum n (λ c. leavesBit t j c * beyondBit u k c) + beyondBoth t u (suc (suc j)) (suc (suc k))
+    pub leave-first : sum n (λ c. leavesBit t j c * beyondBit u k c) + beyondBoth t u (suc (suc j)) (suc (suc k))
         ≡ beyondBoth t u (t .up (suc (suc j))) (suc (suc k))
     leave-first = simp sum-add at (sum-cong n (λ c. each (leavesBit t j c) (beyondBit t j c) _ (beyondBit u k c) (p-up c)))
       where

@@ -1,9 +1,11 @@
 -- The five counts, as the code forms them from its sums.
 -- Assumes nothing.
-use mathlib.Core.Path.{_≡_, refl}
-use Prim.Native.Nat.{ℕ, _+_, _-_, _/_, _≤_}
+use mathlib.Core.Path.{_≡_, refl, sym, _∙_, ap, ap₂}
+use Prim.Native.Nat.{ℕ, _+_, _*_, _-_, _/_, _≤_, _<_}
 use native.Mathlib.Omega.{arith}
+use Rattle.sums.specs.theorems.Products.{product-le}
 use Rattle.sums.specs.Threes.{threes}
+use Rattle.sums.specs.theorems.ThreesLaws.{threes-none}
 use Rattle.triplets.specs.declared.tables.TripletTable.{TripletTable}
 
 -- A is half of what is summed over pairs of edges that agree, B what is summed over those that differ; half of a tree's sum
@@ -49,3 +51,41 @@ pub table-formed : (n first second alike apart all : ℕ) → all ≡ threes (n 
     ≡ formed n first second alike apart
 unfolding formed
 table-formed n first second alike apart all e = rw e refl
+
+-- the five counts, from what the sums count
+pub formed-is : (n first second alike apart a b c d e : ℕ) → first ≡ 2 * (a + b + c) → second ≡ 2 * (a + b + d)
+    → alike ≡ 2 * a → apart ≡ b → a + b + c + d + e ≡ threes (n - 1)
+    → formed n first second alike apart
+    ≡ record { refusal = 0; a = a; b = b; c = c; d = d; e = e; distance = b + c + d }
+unfolding formed
+formed-is n first second alike apart a b c d e hf hs ha hb all =
+    rw (half alike a ha, hb, rest first a b c hf, rest second a b d hs, left (threes (n - 1)) a b c d e all) refl
+  where
+    half : (x a : ℕ) → x ≡ 2 * a → x / 2 ≡ a
+    half x a h = omega arith
+
+    rest : (x a b c : ℕ) → x ≡ 2 * (a + b + c) → x / 2 - a - b ≡ c
+    rest x a b c h = omega arith
+
+    left : (x a b c d e : ℕ) → a + b + c + d + e ≡ x → x - a - b - c - d ≡ e
+    left x a b c d e h = omega arith
+
+-- ---- how many sets of three there are, as the code computes it
+
+pub few-tips : (n : ℕ) → n < 4 → 0 ≡ threes (n - 1)
+few-tips n l = sym (threes-none (n - 1) (omega arith))
+
+pub products-low : (n : ℕ) → n ≤ 256 → ((n - 1) * (n - 2) ≤ 65536) × ((n - 1) * (n - 2) * (n - 3) ≤ 16777216)
+products-low n l =
+    let a : (n - 1) * (n - 2) ≤ 65536 = omega (arith, product-le 256 256 (n - 1) (n - 2) (omega arith) (omega arith)) in
+    (a, omega (arith, product-le 65536 256 ((n - 1) * (n - 2)) (n - 3) a (omega arith)))
+
+pub many-tips : (n : ℕ) → (n - 1) * (n - 2) * (n - 3) / 6 ≡ threes (n - 1)
+unfolding threes
+many-tips n = ap₂ (λ (x y : ℕ). (n - 1) * x * y / 6) (less n) (less-still n)
+  where
+    less : (n : ℕ) → n - 2 ≡ n - 1 - 1
+    less n = omega arith
+
+    less-still : (n : ℕ) → n - 3 ≡ n - 1 - 2
+    less-still n = omega arith

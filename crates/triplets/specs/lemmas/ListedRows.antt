@@ -133,13 +133,13 @@ module _ (work ps qs : List ℕ) (h : CrossedCells work ps qs) (row : ℕ) (l1 :
     omega (
       arith,
       sum-most (length qs - 2) 16777216 _ (λ l m.
-      alike-most _ _ _ _ (h .nested row (l + 1) l1 l2 (omega arith) (omega arith))),
+          alike-most _ _ _ _ (h .nested row (l + 1) l1 l2 (omega arith) (omega arith))),
       mul-le-mul-right 16777216 few,
     ),
     omega (
       arith,
       sum-most (length qs - 2) 16777216 _ (λ l m.
-      apart-most _ _ _ _ (h .nested row (l + 1) l1 l2 (omega arith) (omega arith))),
+          apart-most _ _ _ _ (h .nested row (l + 1) l1 l2 (omega arith) (omega arith))),
       mul-le-mul-right 16777216 few,
     ),
   )

@@ -38,8 +38,11 @@ module _ (i r c w : ℕ) (h : Nested i r c w) where
       omega (
         arith,
         product-le 256 65536 i ((r - i) * (c - i)) l
-            (omega (arith, product-le 256 256 (r - i) (c - i)
-            (omega (arith, h .in-column, h .in-whole, h .few)) (omega (arith, h .in-row, h .in-whole, h .few)))),
+            (omega (
+              arith,
+              product-le 256 256 (r - i) (c - i)
+                  (omega (arith, h .in-column, h .in-whole, h .few)) (omega (arith, h .in-row, h .in-whole, h .few)),
+            )),
       )
 
 -- ---- rows of cells
