@@ -17,6 +17,7 @@ ofRefusal number = record {
   quartets = record { a = 0; b = 0; c = 0; d = 0; e = 0 };
   distance = 0;
   splits = record { first = 0; second = 0; common = 0; distance = 0 };
+  triplets = record { a = 0; b = 0; c = 0; d = 0; e = 0 };
 }
 
 -- ---- the words of the lines, in ASCII
@@ -36,6 +37,9 @@ distanceWord = 100 ∷ 105 ∷ 115 ∷ 116 ∷ 97 ∷ 110 ∷ 99 ∷ 101 ∷ []
 abbrev pub splitsWord : List ℕ
 splitsWord = 115 ∷ 112 ∷ 108 ∷ 105 ∷ 116 ∷ 115 ∷ []
 
+abbrev pub tripletsWord : List ℕ
+tripletsWord = 116 ∷ 114 ∷ 105 ∷ 112 ∷ 108 ∷ 101 ∷ 116 ∷ 115 ∷ []
+
 abbrev pub refusedWord : List ℕ
 refusedWord = 114 ∷ 101 ∷ 102 ∷ 117 ∷ 115 ∷ 101 ∷ 100 ∷ []
 
@@ -47,7 +51,7 @@ firstLines f =
     line leavesWord (f .tips ∷ [])
     ++ line claimsWord (f .claims .first ∷ f .claims .second ∷ f .claims .same ∷ f .claims .different ∷ [])
 
--- A to E; the distance
+-- A to E of the quartets; the distance
 unfoldable pub quartetLines : Figures → List ℕ
 quartetLines f =
     line quartetsWord
@@ -59,10 +63,16 @@ unfoldable pub splitLine : Figures → List ℕ
 splitLine f =
     line splitsWord (f .splits .first ∷ f .splits .second ∷ f .splits .common ∷ f .splits .distance ∷ [])
 
-unfoldable pub lines : Figures → List ℕ
-lines f = firstLines f ++ quartetLines f ++ splitLine f
+-- A to E of the triplets
+unfoldable pub tripletLine : Figures → List ℕ
+tripletLine f =
+    line tripletsWord
+    (f .triplets .a ∷ f .triplets .b ∷ f .triplets .c ∷ f .triplets .d ∷ f .triplets .e ∷ [])
 
--- five lines, or one line for a refusal, as `refused 4`
+unfoldable pub lines : Figures → List ℕ
+lines f = firstLines f ++ quartetLines f ++ splitLine f ++ tripletLine f
+
+-- six lines, or one line for a refusal, as `refused 4`
 unfoldable pub listed : Figures → List ℕ
 listed f = elim (eqb (f .refusal) 0) [ true ↦ lines f | false ↦ line refusedWord (f .refusal ∷ []) ]
 

@@ -1,1 +1,2 @@
+pub mod FirstFive
 pub mod ListingExamples

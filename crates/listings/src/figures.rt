@@ -8,7 +8,7 @@ pub struct Claims {
     pub different: u64,
 }
 
-// The five cases, A to E.
+// The five cases of quartets, A to E.
 pub struct Quartets {
     pub a: u64,
     pub b: u64,
@@ -25,6 +25,15 @@ pub struct Splits {
     pub distance: u16,
 }
 
+// The five cases of triplets, A to E.
+pub struct Triplets {
+    pub a: u64,
+    pub b: u64,
+    pub c: u64,
+    pub d: u64,
+    pub e: u64,
+}
+
 // The refusal, or 0; and what a comparison that is not refused gives.
 pub struct Figures {
     pub refusal: u16,
@@ -33,4 +42,5 @@ pub struct Figures {
     pub quartets: Quartets,
     pub distance: u64,
     pub splits: Splits,
+    pub triplets: Triplets,
 }

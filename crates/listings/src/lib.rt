@@ -7,5 +7,6 @@ pub use figures::Claims;
 pub use figures::Figures;
 pub use figures::Quartets;
 pub use figures::Splits;
+pub use figures::Triplets;
 pub use printed::TEXT;
 pub use printed::listing;

@@ -1,14 +1,15 @@
-// The listing of a comparison: five lines, or one line for a refusal.
+// The listing of a comparison: six lines, or one line for a refusal.
 use super::figures::Figures;
 use super::text::copy;
 use super::text::put_line;
 use table_words::as_count;
 ghost use mathlib.Core.Path.{_≡_};
+ghost use mathlib.Core.List.{_++_};
 ghost use Prim.Native.Nat.{_≤_, _+_};
 ghost use lib.ListN.{length};
 ghost use Rattle.io.specs.Counts.{Counts};
 ghost use Rattle.listings.specs.lemmas.Written.{Written};
-ghost use Rattle.listings.specs.Listing.{firstLines, quartetLines, splitLine, lines, listed};
+ghost use Rattle.listings.specs.Listing.{firstLines, quartetLines, splitLine, tripletLine, lines, listed};
 ghost use Rattle.listings.specs.Listing.{textRoom, bytesListed, afterListing};
 
 // The length of a text that is always enough for a listing.
@@ -26,7 +27,7 @@ fn put_first_lines(figures: Figures, out: &mut [u8]) -> usize
     put_line(b"claims", &claims, end, out)
 }
 
-// The lines of the five cases and of the distance.
+// The lines of the five cases of quartets and of the distance.
 fn put_quartet_lines(figures: Figures, at: usize, out: &mut [u8]) -> usize
     requires { ⌜ at + 144 ≤ length (now out) ⌝ }
     ensures { λ r. ⌜ Written at (now (out .entry)) (quartetLines figures) r (now (out .exit)) × (r ≤ at + 144) ⌝ }
@@ -38,10 +39,13 @@ fn put_quartet_lines(figures: Figures, at: usize, out: &mut [u8]) -> usize
     put_line(b"distance", &distance, end, out)
 }
 
-// The line of the split counts.
-fn put_split_line(figures: Figures, at: usize, out: &mut [u8]) -> usize
-    requires { ⌜ at + 91 ≤ length (now out) ⌝ }
-    ensures { λ r. ⌜ Written at (now (out .entry)) (splitLine figures) r (now (out .exit)) × (r ≤ at + 91) ⌝ }
+// The lines of the split counts and of the five cases of triplets.
+fn put_last_lines(figures: Figures, at: usize, out: &mut [u8]) -> usize
+    requires { ⌜ at + 205 ≤ length (now out) ⌝ }
+    ensures { λ r. ⌜
+        Written at (now (out .entry)) (splitLine figures ++ tripletLine figures) r (now (out .exit))
+        × (r ≤ at + 205)
+        ⌝ }
 {
     let counts = figures.splits;
     let splits = [
@@ -50,23 +54,26 @@ fn put_split_line(figures: Figures, at: usize, out: &mut [u8]) -> usize
         as_count(counts.common),
         as_count(counts.distance),
     ];
-    put_line(b"splits", &splits, at, out)
+    let cases = figures.triplets;
+    let triplets = [cases.a, cases.b, cases.c, cases.d, cases.e];
+    let end = put_line(b"splits", &splits, at, out);
+    put_line(b"triplets", &triplets, end, out)
 }
 
-// The five lines.
+// The six lines.
 fn put_lines(figures: Figures, out: &mut [u8]) -> usize
-    requires { ⌜ 354 ≤ length (now out) ⌝ }
-    ensures { λ r. ⌜ Written 0 (now (out .entry)) (lines figures) r (now (out .exit)) × (r ≤ 354) ⌝ }
+    requires { ⌜ 468 ≤ length (now out) ⌝ }
+    ensures { λ r. ⌜ Written 0 (now (out .entry)) (lines figures) r (now (out .exit)) × (r ≤ 468) ⌝ }
 {
     let middle = put_first_lines(figures, out);
     let end = put_quartet_lines(figures, middle, out);
-    put_split_line(figures, end, out)
+    put_last_lines(figures, end, out)
 }
 
-// The five lines, or the line of a refusal.
+// The six lines, or the line of a refusal.
 fn put_listing(figures: Figures, out: &mut [u8]) -> usize
-    requires { ⌜ 354 ≤ length (now out) ⌝ }
-    ensures { λ r. ⌜ Written 0 (now (out .entry)) (listed figures) r (now (out .exit)) × (r ≤ 354) ⌝ }
+    requires { ⌜ 468 ≤ length (now out) ⌝ }
+    ensures { λ r. ⌜ Written 0 (now (out .entry)) (listed figures) r (now (out .exit)) × (r ≤ 468) ⌝ }
 {
     if figures.refusal == 0 {
         return put_lines(figures, out);

@@ -10,12 +10,12 @@ use borrow.Author.Tests.{lt-ltb, le-ltb}
 use Rattle.io.specs.Digits.{digits, Fewest}
 use Rattle.listings.specs.Decimal.{lastDigit, decimalIn, decimalOf}
 
-few-digits : (k n : ℕ) → n < 10 → decimalIn k n ≡ lastDigit n
+pub few-digits : (k n : ℕ) → n < 10 → decimalIn k n ≡ lastDigit n
 unfolding decimalIn
 few-digits zero n l = refl
 few-digits (suc k) n l = rw (lt-ltb n 10 l, decimalIn)
 
-more-digits : (k n : ℕ) → 10 ≤ n → decimalIn (suc k) n ≡ decimalIn k (n / 10) ++ lastDigit n
+pub more-digits : (k n : ℕ) → 10 ≤ n → decimalIn (suc k) n ≡ decimalIn k (n / 10) ++ lastDigit n
 unfolding decimalIn
 more-digits k n l = rw (le-ltb n 10 l, decimalIn)
 

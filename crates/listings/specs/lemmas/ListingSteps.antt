@@ -3,7 +3,7 @@
 use mathlib.Core.Path.{_≡_, sym, _∙_, ap, subst}
 use mathlib.Core.Logic.{_≢_}
 use mathlib.Core.Bool.{true, false}
-use mathlib.Core.List.{List, [], _∷_, _++_}
+use mathlib.Core.List.{List, [], _∷_, _++_, append-assoc}
 use Prim.Native.Nat.{ℕ, _+_, _≤_, _<_}
 use native.Mathlib.Nat.{zero-add}
 use native.Mathlib.Decide.{decLe}
@@ -16,8 +16,9 @@ use Rattle.io.specs.Counts.{Counts}
 use Rattle.listings.specs.declared.figures.Figures.{Figures}
 use Rattle.listings.specs.Lines.{line}
 use Rattle.listings.specs.lemmas.Written.{Written, written, written-both}
-use Rattle.listings.specs.Listing.{leavesWord, claimsWord, quartetsWord, distanceWord, splitsWord, refusedWord}
-use Rattle.listings.specs.Listing.{firstLines, quartetLines, splitLine, lines, listed}
+use Rattle.listings.specs.Listing.{leavesWord, claimsWord, quartetsWord, distanceWord}
+use Rattle.listings.specs.Listing.{splitsWord, tripletsWord, refusedWord}
+use Rattle.listings.specs.Listing.{firstLines, quartetLines, splitLine, tripletLine, lines, listed}
 use Rattle.listings.specs.Listing.{afterListing, bytesListed}
 use Rattle.listings.specs.Listing.{textRoom}
 
@@ -41,18 +42,25 @@ module _ (f : Figures) (at : ℕ) (old : List ℕ) (middle : ℕ) (new : List �
   unfolding quartetLines
   quartet-lines-written h g = written-both at old _ middle new _ end last h g
 
-pub split-line-written : (f : Figures) (at : ℕ) (old : List ℕ) (end : ℕ) (last : List ℕ) (a b c d : ℕ)
-    → a ≡ f .splits .first → b ≡ f .splits .second → c ≡ f .splits .common → d ≡ f .splits .distance
-    → Written at old (line splitsWord (a ∷ b ∷ c ∷ d ∷ [])) end last → Written at old (splitLine f) end last
-unfolding splitLine
-split-line-written f at old end last a b c d ea eb ec ed h = rw (← ea, ← eb, ← ec, ← ed) h
+  pub last-lines-written : (a b c d : ℕ)
+      → a ≡ f .splits .first → b ≡ f .splits .second → c ≡ f .splits .common → d ≡ f .splits .distance
+      → Written at old (line splitsWord (a ∷ b ∷ c ∷ d ∷ [])) middle new
+      → Written middle new
+      (line tripletsWord (f .triplets .a ∷ f .triplets .b ∷ f .triplets .c ∷ f .triplets .d ∷ f .triplets .e ∷ []))
+      end last
+      → Written at old (splitLine f ++ tripletLine f) end last
+  unfolding splitLine tripletLine
+  last-lines-written a b c d ea eb ec ed h g =
+      written-both at old (splitLine f) middle new (tripletLine f) end last (rw (← ea, ← eb, ← ec, ← ed) h) g
 
 pub lines-written : (f : Figures) (old : List ℕ) (i j k : ℕ) (one two three : List ℕ)
-    → Written 0 old (firstLines f) i one → Written i one (quartetLines f) j two → Written j two (splitLine f) k three
-    → Written 0 old (lines f) k three
+    → Written 0 old (firstLines f) i one → Written i one (quartetLines f) j two
+    → Written j two (splitLine f ++ tripletLine f) k three → Written 0 old (lines f) k three
 unfolding lines
 lines-written f old i j k one two three a b c =
-    written-both 0 old _ j two _ k three (written-both 0 old _ i one _ j two a b) c
+    subst (λ (x : List ℕ). Written 0 old x k three)
+    (sym (append-assoc (firstLines f ++ quartetLines f) (splitLine f) (tripletLine f)))
+    (written-both 0 old _ j two _ k three (written-both 0 old _ i one _ j two a b) c)
 
 pub listed-accepted : (f : Figures) (old : List ℕ) (end : ℕ) (new : List ℕ) → f .refusal ≡ 0
     → Written 0 old (lines f) end new → Written 0 old (listed f) end new

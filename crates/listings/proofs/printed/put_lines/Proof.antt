@@ -16,8 +16,8 @@ start c = c .before .before .before
 abbrev first-put : tie.After-put-quartet-lines → tie.After-put-first-lines
 first-put c = c .before .before .before .before
 
--- .. and that of the splits
-abbrev quartets-put : tie.After-put-split-line → tie.After-put-quartet-lines
+-- .. and the last lines
+abbrev quartets-put : tie.After-put-last-lines → tie.After-put-quartet-lines
 quartets-put c = c .before .before .before .before
 
 -- ---- the needs
@@ -28,15 +28,15 @@ put-first-lines-requires c κs = search needs
 put-quartet-lines-requires : tie.Need-put-quartet-lines-requires
 put-quartet-lines-requires c κs = search needs
 
-put-split-line-requires : tie.Need-put-split-line-requires
-put-split-line-requires c κs = search needs
+put-last-lines-requires : tie.Need-put-last-lines-requires
+put-last-lines-requires c κs = search needs
 
 same-length : tie.Need-same-length
 same-length c = search needs
 
 returns : tie.Need-returns
 returns c =
-    let r = c .before .before .put-split-line in
+    let r = c .before .before .put-last-lines in
     let d = quartets-put (c .before .before) in
     let q = d .put-quartet-lines in
     let e = first-put d in
@@ -53,6 +53,6 @@ put-lines-spec =
     (tie.spec
     put-first-lines-requires
     put-quartet-lines-requires
-    put-split-line-requires
+    put-last-lines-requires
     same-length
     returns)
