@@ -10,6 +10,7 @@ use Rattle.tree_check.specs.Refusals.{Rule, refusal, ifAccepted}
 use Rattle.counting.specs.ClaimSums.{S, S2, S3}
 use Rattle.counting.specs.Cases.{A, B, C, D, E, quartets}
 use Rattle.counting.specs.SplitCounts.{splits, commonSplits, robinsonFoulds}
+use Rattle.counting.specs.Triplets.{triplets}
 use Rattle.pair_check.specs.PairOrder.{pairOrder}
 use Rattle.listings.specs.declared.figures.Figures.{Figures}
 use Rattle.listings.specs.Listing.{ofRefusal}
@@ -79,6 +80,13 @@ figuresOfPair t u = record {
     second = splits u;
     common = commonSplits t u;
     distance = robinsonFoulds t u;
+  };
+  triplets = record {
+    a = triplets t u A;
+    b = triplets t u B;
+    c = triplets t u C;
+    d = triplets t u D;
+    e = triplets t u E;
   };
 }
 

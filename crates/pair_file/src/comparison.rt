@@ -1,22 +1,26 @@
-// One comparison file, compared: its bytes cut into two tables, and the three counts of the pair.
+// One comparison file, compared: its bytes cut into two tables, and the four counts of the pair.
 use super::words::decode;
 use super::words::first_length;
 use listings::Claims;
 use listings::Figures;
 use listings::Quartets;
 use listings::Splits;
+use listings::Triplets;
 use pair_check::CheckedPair;
 use pair_check::check_work;
 use pair_check::pair_refusal;
 use quartets::ClaimSums;
 use quartets::QuartetTable;
 use quartets::SplitCounts;
+use quartets::TripletTable;
 use quartets::claim_sums;
 use quartets::quartet_table;
 use quartets::split_counts;
+use quartets::triplet_table;
 use table_words::Cell;
 ghost use mathlib.Core.Path.{_≡_};
 ghost use Rattle.splits.specs.SplitAnswer.{splitAnswer};
+ghost use Rattle.triplets.specs.TripletAnswer.{tripletAnswer};
 ghost use Rattle.claims.specs.ClaimAnswer.{claimAnswer};
 ghost use Rattle.quartets.specs.QuartetAnswer.{quartetAnswer};
 ghost use Rattle.listings.specs.Listing.{ofRefusal};
@@ -55,6 +59,14 @@ fn splits_of(first: &[u16], second: &[u16]) -> SplitCounts
     split_counts(first, second, &mut work)
 }
 
+// The triplet table, with work of its own.
+fn triplets_of(first: &[u16], second: &[u16]) -> TripletTable
+    ensures { λ r. ⌜ r ≡ tripletAnswer (now (first .entry)) (now (second .entry)) cellsLent ⌝ }
+{
+    let mut work: [Cell; CELLS] = [0; CELLS];
+    triplet_table(first, second, &mut work)
+}
+
 // The number of a refusal, and zeros.
 fn refused(number: u16) -> Figures
     ensures { λ r. ⌜ r ≡ ofRefusal number ⌝ }
@@ -82,6 +94,13 @@ fn refused(number: u16) -> Figures
             common: 0,
             distance: 0,
         },
+        triplets: Triplets {
+            a: 0,
+            b: 0,
+            c: 0,
+            d: 0,
+            e: 0,
+        },
     }
 }
 
@@ -101,6 +120,7 @@ fn compare_tables(first: &[u16], second: &[u16]) -> Figures
     let sums = claims_of(first, second);
     let cases = quartets_of(first, second);
     let counts = splits_of(first, second);
+    let threes = triplets_of(first, second);
     Figures {
         refusal: 0,
         tips,
@@ -123,6 +143,13 @@ fn compare_tables(first: &[u16], second: &[u16]) -> Figures
             second: counts.second,
             common: counts.common,
             distance: counts.distance,
+        },
+        triplets: Triplets {
+            a: threes.a,
+            b: threes.b,
+            c: threes.c,
+            d: threes.d,
+            e: threes.e,
         },
     }
 }

@@ -7,4 +7,5 @@ pub use listings::Claims;
 pub use listings::Figures;
 pub use listings::Quartets;
 pub use listings::Splits;
+pub use listings::Triplets;
 pub use listings::listing;

@@ -14,6 +14,8 @@ use Rattle.pair_check.specs.PairOrder.{PairWithCells, pairOrder}
 use Rattle.pair_check.specs.theorems.PairCheck.{pair-check}
 use Rattle.splits.specs.SplitAnswer.{splitAnswer}
 use Rattle.splits.specs.declared.counts.SplitCounts.{SplitCounts}
+use Rattle.triplets.specs.TripletAnswer.{tripletAnswer}
+use Rattle.triplets.specs.declared.tables.TripletTable.{TripletTable}
 use Rattle.claims.specs.ClaimAnswer.{claimAnswer}
 use Rattle.claims.specs.declared.totals.ClaimSums.{ClaimSums}
 use Rattle.quartets.specs.QuartetAnswer.{quartetAnswer}
@@ -34,9 +36,9 @@ pairFigures t u = figuresOf (refusal (pairOrder t u cellsLent)) t u
 unfoldable pub wordFigures : List ℕ → Figures
 wordFigures words = pairFigures (firstTable words) (secondTable words)
 
--- the figures of three answers that are no refusals
-abbrev pub answered : ℕ → ClaimSums → QuartetTable → SplitCounts → Figures
-answered n sums cases counts = record {
+-- the figures of four answers that are no refusals
+abbrev pub answered : ℕ → ClaimSums → QuartetTable → SplitCounts → TripletTable → Figures
+answered n sums cases counts threes = record {
   refusal = 0;
   tips = n;
   claims = record {
@@ -53,6 +55,7 @@ answered n sums cases counts = record {
     common = counts .common;
     distance = counts .distance;
   };
+  triplets = record { a = threes .a; b = threes .b; c = threes .c; d = threes .d; e = threes .e };
 }
 
 -- ---- as the code finds them
@@ -66,10 +69,12 @@ unfolding pairFigures
 pair-refused t u k e d = figures-refused k t u d ∙ ap (λ (j : ℕ). figuresOf j t u) e
 
 pub pair-accepted : (t u : Table) → PairWithCells t u cellsLent → (n : ℕ) (sums : ClaimSums) (cases : QuartetTable)
-    (counts : SplitCounts) → n ≡ tips t → sums ≡ claimAnswer t u cellsLent → cases ≡ quartetAnswer t u cellsLent
-    → counts ≡ splitAnswer t u cellsLent → answered n sums cases counts ≡ pairFigures t u
-unfolding pairFigures claimAnswer quartetAnswer splitAnswer ifAccepted
-pair-accepted t u p n sums cases counts en e ec es = rw (en, e, ec, es, pair-check t u cellsLent .1 p) refl
+    (counts : SplitCounts) (threes : TripletTable) → n ≡ tips t → sums ≡ claimAnswer t u cellsLent
+    → cases ≡ quartetAnswer t u cellsLent → counts ≡ splitAnswer t u cellsLent → threes ≡ tripletAnswer t u cellsLent
+    → answered n sums cases counts threes ≡ pairFigures t u
+unfolding pairFigures claimAnswer quartetAnswer splitAnswer tripletAnswer ifAccepted
+pair-accepted t u p n sums cases counts threes en e ec es et =
+    rw (en, e, ec, es, et, pair-check t u cellsLent .1 p) refl
 
 -- ---- a whole file
 

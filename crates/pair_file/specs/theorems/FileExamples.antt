@@ -12,6 +12,7 @@ use Rattle.shapes.specs.Ancestors.{ancIn, anc}
 use Rattle.shapes.specs.Directions.{edge, rising, head, behind}
 use Rattle.shapes.specs.Quartets.{parts, parted}
 use Rattle.shapes.specs.Claims.{sumIf, meet, sumClaimsOf, sumClaims, choose2}
+use Rattle.shapes.specs.Triplets.{lastBelow, lowest, resolved}
 use Rattle.shapes.specs.Splits.{isSplit, sameSides, occurs, splitsOf, commonOf}
 use Rattle.tree_check.specs.Table.{tips, nodes, parents, labels, parent, label, nodeBelow, nodeOf, beyond}
 use Rattle.tree_check.specs.Refusals.{refusal, ifAccepted}
@@ -21,6 +22,7 @@ use Rattle.trees.specs.Topology.{butterfly, partner, named, topology}
 use Rattle.counting.specs.ClaimSums.{codes, behindEdge, size, crossing, S, S2, S3}
 use Rattle.counting.specs.Cases.{caseOf, caseNumber, isCase, quartets}
 use Rattle.counting.specs.SplitCounts.{splits, commonSplits, robinsonFoulds}
+use Rattle.counting.specs.Triplets.{together, triplet, triplets}
 use Rattle.pair_check.specs.PairOrder.{plus, tipsOrder, tablesOrder, workOrder, pairOrder}
 use Rattle.pair_file.specs.PairFile.{fileWords, firstLength, firstTable, secondTable, wordsOrder, fileOrder}
 use Rattle.pair_file.specs.PairFile.{figuresOf, comparison}
@@ -49,6 +51,7 @@ unfolding
     isChild children misplaced
     S S2 S3 codes behindEdge size crossing sumClaims sumClaimsOf sumIf meet choose2 quartets isCase caseNumber
     caseOf splits commonSplits robinsonFoulds splitsOf commonOf isSplit sameSides occurs
+    triplets triplet together resolved lowest lastBelow
     topology named partner butterfly parts parted sets2 sets3 sets4 sum bit some every
     ancIn anc edge rising head behind tips nodes parents labels parent label nodeBelow nodeOf beyond
 comparison-of-P-and-Q = refl

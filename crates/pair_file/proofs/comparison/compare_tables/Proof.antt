@@ -1,4 +1,4 @@
--- The pair's number decides; the three answers of an accepted pair are its figures.
+-- The pair's number decides; the four answers of an accepted pair are its figures.
 -- Assumes nothing.
 use mathlib.Core.Path.{sym, _∙_}
 use Rattle.pair_check.specs.lemmas.PairOutcomes.{work-says, work-passed}
@@ -38,13 +38,16 @@ quartets-of-requires c κs = search needs
 splits-of-requires : tie.Need-splits-of-requires
 splits-of-requires c κs = search needs
 
+triplets-of-requires : tie.Need-triplets-of-requires
+triplets-of-requires c κs = search needs
+
 returns-2 : tie.Need-returns-2
 returns-2 c =
-    let k = c .before .before .before in
+    let k = c .before .before .before .before in
     let w = k .before .before .before .check-work in
     let p = work-says _ _ _ _ _ _ (sym (w .ensures .0) ∙ k .before .answer .given .1) in
-    pair-accepted _ _ (p .0) _ _ _ _ (p .1) (c .before .before .claims-of .ensures) (c .before .quartets-of .ensures)
-    (c .splits-of .ensures)
+    pair-accepted _ _ (p .0) _ _ _ _ _ (p .1) (c .before .before .before .claims-of .ensures)
+    (c .before .before .quartets-of .ensures) (c .before .splits-of .ensures) (c .triplets-of .ensures)
 
 pub compare-tables-spec : {M : Type 1} → statement M
 compare-tables-spec =
@@ -59,4 +62,5 @@ compare-tables-spec =
     claims-of-requires
     quartets-of-requires
     splits-of-requires
+    triplets-of-requires
     returns-2)
