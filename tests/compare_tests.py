@@ -5,9 +5,10 @@
     LESKWYN_COMPARE=FILE python3 tests/compare_tests.py       the program is FILE
 
 Nothing is built here: `rt check compare` does that. Nothing here knows how the program works: every file is cut and
-checked rule by rule, every set of four is looked up edge by edge, claims are listed one by one, and splits are sets of
-labels. The refusal of one table, and above 16 tips the count of the sets of four by pairs, are those of cases/. bin/compare
-is tried in cases/house, with an rt that proves nothing; its first use is for tests/first_use_tests.py.
+checked rule by rule, every set of four is looked up edge by edge, claims are listed one by one, splits are sets of
+labels, and of every set of three the lowest common ancestors are looked up. The refusal of one table, and above 16 tips
+the count of the sets of four by pairs, are those of cases/. bin/compare is tried in cases/house, with an rt that proves
+nothing; its first use is for tests/first_use_tests.py.
 """
 import itertools
 import os
@@ -34,30 +35,31 @@ from cases.tables import OUTSIDE, P, Q, R, THREE, TWO, W, X, damaged, table, tre
 MOST_BYTES = 1016
 ENUMERATED = 16  # the most tips for which every set of four and every claim is looked at
 
-# docs/SPECIFICATION.md, 'Reference pairs': S S' S2 S3, A B C D E, distance, splits.
+# docs/SPECIFICATION.md, 'Reference pairs': S S' S2 S3, A B C D E, distance, splits, triplets.
 REFERENCE_PAIRS = {
-    "K1": (P, Q, "10 6 6 0", "3 0 2 0 0", "2", "2 1 1 1"),
-    "K2": (P, R, "10 10 6 8", "3 2 0 0 0", "2", "2 2 1 2"),
-    "K3": (Q, R, "6 10 2 8", "1 2 0 2 0", "4", "1 2 0 3"),
-    "K4": (P, P, "10 10 10 0", "5 0 0 0 0", "0", "2 2 2 0"),
-    "K5": (W, W, "0 0 0 0", "0 0 0 0 5", "0", "0 0 0 0"),
-    "K6": (P, W, "10 0 0 0", "0 0 5 0 0", "5", "2 0 0 2"),
-    "K7": (W, P, "0 10 0 0", "0 0 0 5 0", "5", "0 2 0 2"),
-    "K8": (TWO, TWO, "0 0 0 0", "0 0 0 0 0", "0", "0 0 0 0"),
-    "K9": (THREE, THREE, "0 0 0 0", "0 0 0 0 0", "0", "0 0 0 0"),
+    "K1": (P, Q, "10 6 6 0", "3 0 2 0 0", "2", "2 1 1 1", "3 0 1 0 0"),
+    "K2": (P, R, "10 10 6 8", "3 2 0 0 0", "2", "2 2 1 2", "2 2 0 0 0"),
+    "K3": (Q, R, "6 10 2 8", "1 2 0 2 0", "4", "1 2 0 3", "1 2 0 1 0"),
+    "K4": (P, P, "10 10 10 0", "5 0 0 0 0", "0", "2 2 2 0", "4 0 0 0 0"),
+    "K5": (W, W, "0 0 0 0", "0 0 0 0 5", "0", "0 0 0 0", "0 0 0 0 4"),
+    "K6": (P, W, "10 0 0 0", "0 0 5 0 0", "5", "2 0 0 2", "0 0 4 0 0"),
+    "K7": (W, P, "0 10 0 0", "0 0 0 5 0", "5", "0 2 0 2", "0 0 0 4 0"),
+    "K8": (TWO, TWO, "0 0 0 0", "0 0 0 0 0", "0", "0 0 0 0", "0 0 0 0 0"),
+    "K9": (THREE, THREE, "0 0 0 0", "0 0 0 0 0", "0", "0 0 0 0", "0 0 0 0 0"),
 }
 
 # Documents 004 and 000, and trees of mixed shape.
 MIXED, EVEN = OUTSIDE[5], OUTSIDE[4]
 OUTSIDE_PAIRS = {
-    "document 004": (*OUTSIDE[0:2], "30 30 16 28", "8 7 0 0 0", "7", "3 3 1 4"),
-    "document 000": (*OUTSIDE[2:4], "140 140 70 140", "35 35 0 0 0", "35", "5 5 0 10"),
-    "1 and 5 exchanged": (EVEN, with_labels_exchanged(EVEN, 1, 5), "140 140 48 184", "24 46 0 0 0", "46", "5 5 1 8"),
-    "mixed degrees": (MIXED, EVEN, "102 140 58 88", "29 22 0 19 0", "41", "2 5 0 7"),
+    "document 004": (*OUTSIDE[0:2], "30 30 16 28", "8 7 0 0 0", "7", "3 3 1 4", "5 5 0 0 0"),
+    "document 000": (*OUTSIDE[2:4], "140 140 70 140", "35 35 0 0 0", "35", "5 5 0 10", "20 15 0 0 0"),
+    "1 and 5 exchanged": (EVEN, with_labels_exchanged(EVEN, 1, 5), "140 140 48 184", "24 46 0 0 0", "46", "5 5 1 8",
+                          "12 23 0 0 0"),
+    "mixed degrees": (MIXED, EVEN, "102 140 58 88", "29 22 0 19 0", "41", "2 5 0 7", "14 10 0 11 0"),
 }
 
 # docs/SPECIFICATION.md, 'The listing of P and Q'.
-P_AND_Q = b"leaves 5\nclaims 10 6 6 0\nquartets 3 0 2 0 0\ndistance 2\nsplits 2 1 1 1\n"
+P_AND_Q = b"leaves 5\nclaims 10 6 6 0\nquartets 3 0 2 0 0\ndistance 2\nsplits 2 1 1 1\ntriplets 3 0 1 0 0\n"
 
 
 def packed(*tables: list[int]) -> bytes:
@@ -171,6 +173,40 @@ def splits(t: list[int]) -> set[frozenset[int]]:
     return {frozenset(sides) for sides in parted if min(side.bit_count() for side in sides) >= 2}
 
 
+def lowest_ancestors(t: list[int]) -> dict[tuple[int, int], int]:
+    """The lowest common ancestor of every two labels of the rooted tree below tip 0."""
+    m, climbs = t[1], {}
+    for tip in range(1, m):
+        if t[2 + m + tip] != X:
+            climb = [tip]
+            while climb[-1]:
+                climb.append(t[2 + climb[-1]])
+            climbs[t[2 + m + tip]] = climb
+    pairs = itertools.combinations(range(1, t[0]), 2)
+    return {(a, b): next(node for node in climbs[a] if node in climbs[b]) for a, b in pairs}
+
+
+def label_apart(lowest: dict[tuple[int, int], int], below: list[int], a: int, b: int, c: int) -> int | None:
+    """Of three labels the one that is not below the lowest common ancestor of the other two; None if there is none."""
+    for pair, third in (((a, b), c), ((a, c), b), ((b, c), a)):
+        if not below[lowest[pair]] >> third & 1:
+            return third
+    return None
+
+
+def triplets(t: list[int], u: list[int]) -> list[int]:
+    """A B C D E, by every set of three of the labels but 0."""
+    counts = [0] * 5
+    first, second = (lowest_ancestors(t), beyond(t)), (lowest_ancestors(u), beyond(u))
+    for three in itertools.combinations(range(1, t[0]), 3):
+        one, other = label_apart(*first, *three), label_apart(*second, *three)
+        if one and other:
+            counts[0 if one == other else 1] += 1
+        else:
+            counts[2 if one else 3 if other else 4] += 1
+    return counts
+
+
 def listing(content: bytes) -> bytes:
     """The bytes that the program prints."""
     number = refusal(content)
@@ -180,7 +216,8 @@ def listing(content: bytes) -> bytes:
     five = cases(t, u) if t[0] <= ENUMERATED else cases_by_pairs(t, u)
     one, other = splits(t), splits(u)
     lines = {"leaves": [t[0]], "claims": [claim_sum(t), claim_sum(u), *pair_sums(t, u)], "quartets": five,
-             "distance": [sum(five[1:4])], "splits": [len(one), len(other), len(one & other), len(one ^ other)]}
+             "distance": [sum(five[1:4])], "splits": [len(one), len(other), len(one & other), len(one ^ other)],
+             "triplets": triplets(t, u)}
     return "".join(" ".join([word, *map(str, numbers)]) + "\n" for word, numbers in lines.items()).encode()
 
 
@@ -253,7 +290,7 @@ class ProgramTest(unittest.TestCase):
 class Figures(ProgramTest):
     def assert_figures(self, pairs: dict[str, tuple]) -> None:
         for mark, (t, u, *figures) in pairs.items():
-            words = ["claims", "quartets", "distance", "splits"]
+            words = ["claims", "quartets", "distance", "splits", "triplets"]
             lines = [f"leaves {t[0]}"] + [f"{word} {numbers}" for word, numbers in zip(words, figures)]
             expected = ("\n".join(lines) + "\n").encode()
             self.assertEqual(listing(packed(t, u)), expected, mark)
@@ -298,7 +335,8 @@ class Largest(ProgramTest):
     def test_most_tips(self) -> None:
         fan = star(125)
         self.assert_largest(fan, with_labels_exchanged(fan, 1, 124))
-        expected = f"leaves 125\nclaims 0 0 0 0\nquartets 0 0 0 0 {comb(125, 4)}\ndistance 0\nsplits 0 0 0 0\n"
+        expected = (f"leaves 125\nclaims 0 0 0 0\nquartets 0 0 0 0 {comb(125, 4)}\ndistance 0\nsplits 0 0 0 0\n"
+                    f"triplets 0 0 0 0 {comb(124, 3)}\n")
         self.assert_prints(expected.encode(), packed(fan, fan))
 
     def test_a_large_and_a_small_table(self) -> None:
@@ -667,7 +705,8 @@ class Wrapper(House):
         self.run_door()
         program = self.house / "target" / "bin" / "compare"
         program.unlink()
-        for body in ("exit 3", "echo leaf 5", "exit 0", "printf 'leaves 5\\nclaims 10 6'", "printf 'refused 1'"):
+        for body in ("exit 3", "echo leaf 5", "exit 0", "printf 'leaves 5\\nclaims 10 6'", "printf 'refused 1'",
+                     "printf 'leaves 5\\nsplits 2 1 1 1\\n'"):
             program.write_text("#!/bin/sh\n" + body + "\n")
             program.chmod(0o755)
             self.assert_trouble(self.run_door(), "the program")

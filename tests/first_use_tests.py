@@ -25,7 +25,7 @@ from cases.shapes import caterpillar
 from cases.tables import P, Q
 
 # docs/SPECIFICATION.md, 'The listing of P and Q'.
-P_AND_Q = b"leaves 5\nclaims 10 6 6 0\nquartets 3 0 2 0 0\ndistance 2\nsplits 2 1 1 1\n"
+P_AND_Q = b"leaves 5\nclaims 10 6 6 0\nquartets 3 0 2 0 0\ndistance 2\nsplits 2 1 1 1\ntriplets 3 0 1 0 0\n"
 P_AND_Q_TREES = b"(0,(1,(2,(3,4))));(0,1,(2,3,4));"
 PACKAGE = """\
 import ctypes, os, sys
