@@ -40,7 +40,7 @@ from leskwyn.tables import newick_text
 
 FEATHERS, WINGS = "(Azores,(Bute,Coll),Foula,(Lundy,Texel));\n", "(Azores,Bute,(Coll,Foula),(Lundy,Texel));\n"
 # README.md, 'What the figures mean', by hand.
-LISTING = b"leaves 6\nclaims 22 22 12 12\nquartets 6 3 2 2 2\ndistance 7\nsplits 2 2 1 2\n"
+LISTING = b"leaves 6\nclaims 22 22 12 12\nquartets 6 3 2 2 2\ndistance 7\nsplits 2 2 1 2\ntriplets 3 1 2 2 2\n"
 FIGURES = {"tips": 6, "sets_of_four": 15, "same": 6, "different": 3, "first_only": 2, "second_only": 2, "neither": 2,
            "distance": 7, "normalised_distance": 7 / 15, "first_splits": 2, "second_splits": 2, "common_splits": 1,
            "robinson_foulds": 2, "normalised_robinson_foulds": 2 / 4, "first_claims": 22, "second_claims": 22,

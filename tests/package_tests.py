@@ -268,7 +268,8 @@ class Listings(CommandTest):
         table = caterpillar(256)
         whole = packed(table, table)
         self.assertEqual(self.listing(whole), "leaves 256\nclaims 349585280 349585280 349585280 0\n"
-                                              "quartets 174792640 0 0 0 0\ndistance 0\nsplits 253 253 253 0\n")
+                                              "quartets 174792640 0 0 0 0\ndistance 0\nsplits 253 253 253 0\n"
+                                              "triplets 2731135 0 0 0 0\n")
         for content, number in ((whole[1:], 15), (whole[:-2], 104), (whole + bytes(2), 104), (whole + bytes(2000000), 104),
                                 (packed(table, caterpillar(255)), 8), (b"\xff" * 300000, 2)):
             self.assertEqual(self.listing(content), f"refused {number}\n")
@@ -362,7 +363,7 @@ class Given(unittest.TestCase):
             self.assertEqual(dataclasses.replace(found, first=expected.first, second=expected.second), expected)
         self.assertEqual(leskwyn.compare(FEATHERS, WINGS).first, str(FEATHERS))
         self.assertEqual(leskwyn.compare(ROOT / "examples" / "p-q.bin").listing(),
-                         "leaves 5\nclaims 10 6 6 0\nquartets 3 0 2 0 0\ndistance 2\nsplits 2 1 1 1\n")
+                         "leaves 5\nclaims 10 6 6 0\nquartets 3 0 2 0 0\ndistance 2\nsplits 2 1 1 1\ntriplets 3 0 1 0 0\n")
 
     def dendropy_like(self, *names: typing.Any) -> types.SimpleNamespace:
         """A tree with these tips; a name stands for a tip with a taxon, a list for what is inside brackets."""
