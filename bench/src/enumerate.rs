@@ -1,6 +1,6 @@
 //! The enumerator, written from docs/SPECIFICATION.md alone. Every figure is counted as its sentence there says it:
-//! crossings from sets of labels, topologies by looking at every edge, claims one by one, splits as pairs of tip sets.
-//! It is slow and means to be.
+//! crossings from sets of labels, topologies by looking at every edge, claims one by one, splits as pairs of tip sets,
+//! triplets by lowest common ancestors. It is slow and means to be.
 
 use std::ops::Range;
 
@@ -271,6 +271,28 @@ impl Tree {
         Topology::Star
     }
 
+    fn is_ancestor(&self, node: usize, label: usize) -> bool {
+        node == 0 || self.beyond[node].contains(label)
+    }
+
+    /// The lowest common ancestor of every two labels: of the nodes above the one, the first that is above the other.
+    fn lowest_common_ancestors(&self) -> Vec<Vec<usize>> {
+        let lowest = |climb: &[usize], label: usize| {
+            *climb.iter().find(|&&node| self.is_ancestor(node, label)).expect("node 0 is above both")
+        };
+        let of_label = |climb: Vec<usize>| (0..self.n).map(|label| lowest(&climb, label)).collect();
+        (0..self.n).map(|label| of_label(self.climb(label as u16))).collect()
+    }
+
+    /// Of three labels the one that the lowest common ancestor of the other two is no ancestor of, if there is one.
+    fn apart(&self, ancestors: &[Vec<usize>], [a, b, c]: [usize; 3]) -> Option<usize> {
+        let is_apart = |(x, y, z): &(usize, usize, usize)| !self.is_ancestor(ancestors[*x][*y], *z);
+        let mut found = [(a, b, c), (a, c, b), (b, c, a)].into_iter().filter(is_apart).map(|(_, _, z)| z);
+        let first = found.next();
+        assert_eq!(found.next(), None, "at most one of three labels is apart");
+        first
+    }
+
     /// Every claim in turn. A tree of 256 tips has up to eight million.
     fn each_claim(&self, mut meet: impl FnMut(Claim)) {
         for node in 0..self.m {
@@ -365,6 +387,16 @@ pub fn paired_claim_sums(first: &Tree, second: &Tree, most: usize) -> Option<[u6
 
 /// The five cases A to E, over all sets of four. Up to 64 tips.
 pub fn cases(first: &Tree, second: &Tree) -> [u64; 5] {
+    cases_from(first, second, |_| true)
+}
+
+/// The five cases A to E, over the sets of four that hold tip 0. Up to 64 tips.
+pub fn cases_with_outgroup(first: &Tree, second: &Tree) -> [u64; 5] {
+    cases_from(first, second, |smallest| smallest == 0)
+}
+
+/// The five cases over the sets of four whose smallest label is wanted.
+fn cases_from(first: &Tree, second: &Tree, is_wanted: impl Fn(usize) -> bool) -> [u64; 5] {
     assert!(first.n == second.n && first.n <= 64);
     let masks = |tree: &Tree| -> Vec<u64> { tree.edges().map(|edge| tree.beyond[edge].0[0]).collect() };
     let (ours, theirs) = (masks(first), masks(second));
@@ -372,7 +404,7 @@ pub fn cases(first: &Tree, second: &Tree) -> [u64; 5] {
     for d in 3..first.n {
         for c in 2..d {
             for b in 1..c {
-                for a in 0..b {
+                for a in (0..b).filter(|&a| is_wanted(a)) {
                     let four = 1 << a | 1 << b | 1 << c | 1 << d;
                     counts[case_of(half_with(&ours, four, 1 << a), half_with(&theirs, four, 1 << a))] += 1;
                 }
@@ -393,9 +425,25 @@ fn half_with(edges: &[u64], four: u64, smallest: u64) -> Option<u64> {
     })
 }
 
-fn case_of(ours: Option<u64>, theirs: Option<u64>) -> usize {
+/// The triplet cases A to E, over all sets of three of the labels other than 0.
+pub fn triplet_cases(first: &Tree, second: &Tree) -> [u64; 5] {
+    assert_eq!(first.n, second.n);
+    let (ours, theirs) = (first.lowest_common_ancestors(), second.lowest_common_ancestors());
+    let mut counts = [0; 5];
+    for c in 3..first.n {
+        for b in 2..c {
+            for a in 1..b {
+                counts[case_of(first.apart(&ours, [a, b, c]), second.apart(&theirs, [a, b, c]))] += 1;
+            }
+        }
+    }
+    counts
+}
+
+/// The case of a set that either tree resolves in some way, or leaves open.
+fn case_of<T: PartialEq>(ours: Option<T>, theirs: Option<T>) -> usize {
     match (ours, theirs) {
-        (Some(half), Some(other)) if half == other => 0,
+        (Some(one), Some(other)) if one == other => 0,
         (Some(_), Some(_)) => 1,
         (Some(_), None) => 2,
         (None, Some(_)) => 3,

@@ -123,6 +123,32 @@ impl Graph {
         graph
     }
 
+    /// Every tree with n tips, each once: it comes from one tree with a tip less.
+    #[must_use]
+    pub fn every(n: usize) -> Vec<Graph> {
+        if n == 2 {
+            return vec![Graph::star(2)];
+        }
+        Graph::every(n - 1).iter().flat_map(Graph::with_one_more_tip).collect()
+    }
+
+    /// The trees in which one more tip hangs at an inner node, or from the midst of an edge.
+    fn with_one_more_tip(&self) -> Vec<Graph> {
+        let mut found = Vec::new();
+        for node in self.inner_nodes() {
+            let mut graph = self.clone();
+            graph.tip_at(node);
+            found.push(graph);
+        }
+        for edge in self.edges() {
+            let mut graph = self.clone();
+            let node = graph.midst(edge);
+            graph.tip_at(node);
+            found.push(graph);
+        }
+        found
+    }
+
     fn caterpillar(n: usize) -> Graph {
         if n <= 3 {
             return Graph::star(n);

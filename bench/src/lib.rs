@@ -1,10 +1,12 @@
 //! An independent check of the exported functions, and other methods to time them against.
 //!
-//! `enumerate` is written from docs/SPECIFICATION.md alone: topologies by looking at every edge, claims one by one.
-//! Nothing in it, or in `cubic` and `expanded`, which follow document 001, comes from the library. `straight` is the library's
-//! own algorithm as a Rust programmer would write it, and is there to be timed.
+//! `enumerate` is written from docs/SPECIFICATION.md alone: topologies by looking at every edge, claims one by one, triplets
+//! by climbing to lowest common ancestors. Nothing in it, in `cubic` and `expanded`, which follow document 001, or in
+//! `common_ancestors` comes from the library. `straight` is the library's own algorithm as a Rust programmer would write it,
+//! and is there to be timed.
 
 pub mod agree;
+pub mod common_ancestors;
 pub mod cubic;
 pub mod damage;
 pub mod enumerate;

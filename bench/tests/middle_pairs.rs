@@ -1,9 +1,10 @@
 //! Hundreds of pairs of 13 to 64 tips against the enumerator, every exported function on each.
 
 use bench::agree::{pair_agrees, tree_agrees, Expected};
+use bench::enumerate::Tree;
 use bench::generate::{pair, Partner, Shape};
 use bench::random::Random;
-use bench::{cubic, expanded};
+use bench::{common_ancestors, cubic, enumerate, expanded};
 
 /// Pairs for each shape and kind of partner.
 const PAIRS: usize = 26;
@@ -20,6 +21,10 @@ fn pairs_agree(partner: Partner) {
             pair_agrees(&first, &second, &expected, &mut random);
             assert_eq!(cubic::cases(&first, &second), expected.quartets);
             assert_eq!(expanded::cases(&first, &second), expected.quartets);
+            let (ours, theirs) = (Tree::of(&first), Tree::of(&second));
+            let triplets = enumerate::triplet_cases(&ours, &theirs);
+            assert_eq!(common_ancestors::triplet_cases(&first, &second), triplets);
+            assert_eq!(enumerate::cases_with_outgroup(&ours, &theirs), triplets);
         }
     }
 }

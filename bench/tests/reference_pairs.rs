@@ -1,19 +1,25 @@
 //! The reference pairs and edge cases of docs/SPECIFICATION.md, and further pairs worked out beforehand.
 
 use bench::agree::{centre_agrees, pair_agrees, topology_agrees, tree_agrees, Expected};
-use bench::enumerate::Tree;
+use bench::enumerate::{triplet_cases, Tree};
 use bench::random::Random;
 use bench::reference::{P, PAIRS, Q, R, TABLES, THREE, TWO, X};
-use bench::{cubic, expanded, straight};
+use bench::{common_ancestors, cubic, expanded, straight};
+
+/// The cases A to E, and the distance B + C + D.
+fn with_distance([a, b, c, d, e]: [u64; 5]) -> [u64; 6] {
+    [a, b, c, d, e, b + c + d]
+}
 
 #[test]
 fn the_pairs_have_their_figures() {
     let mut random = Random::seeded(1);
     for pair in &PAIRS {
         let expected = Expected::enumerated(pair.first, pair.second);
-        let figures = (expected.claims, expected.quartets, expected.splits);
+        let figures = (expected.claims, with_distance(expected.quartets), expected.splits);
         assert_eq!(figures, (pair.claims, pair.quartets, pair.splits), "{} by the enumerator", pair.name);
-        assert_eq!(pair.quartets[1..4].iter().sum::<u64>(), pair.distance);
+        let triplets = triplet_cases(&Tree::of(pair.first), &Tree::of(pair.second));
+        assert_eq!(with_distance(triplets), pair.triplets, "triplets of {} by the enumerator", pair.name);
         pair_agrees(pair.first, pair.second, &expected, &mut random);
     }
 }
@@ -21,11 +27,16 @@ fn the_pairs_have_their_figures() {
 #[test]
 fn the_other_methods_have_their_figures() {
     for pair in &PAIRS {
-        assert_eq!(cubic::cases(pair.first, pair.second), pair.quartets, "{} by triples", pair.name);
-        assert_eq!(expanded::cases(pair.first, pair.second), pair.quartets, "{} by expansion", pair.name);
+        let by_triples = cubic::cases(pair.first, pair.second);
+        assert_eq!(with_distance(by_triples), pair.quartets, "{} by triples", pair.name);
+        let by_expansion = expanded::cases(pair.first, pair.second);
+        assert_eq!(with_distance(by_expansion), pair.quartets, "{} by expansion", pair.name);
         let mut work = vec![0; 1000];
         let table = straight::quartet_table(pair.first, pair.second, &mut work).expect("accepted");
-        assert_eq!([table.a, table.b, table.c, table.d, table.e], pair.quartets, "{} straight", pair.name);
+        let figures = [table.a, table.b, table.c, table.d, table.e, table.distance];
+        assert_eq!(figures, pair.quartets, "{} straight", pair.name);
+        let triplets = common_ancestors::triplet_cases(pair.first, pair.second);
+        assert_eq!(with_distance(triplets), pair.triplets, "triplets of {} by common ancestors", pair.name);
     }
 }
 
