@@ -54,7 +54,7 @@ extern "C" {
 #endif
 
 /* The version of this header as one number: major * 1000000 + minor * 1000 + patch. */
-#define LESKWYN_VERSION 2000
+#define LESKWYN_VERSION 3000
 
 /* The label word of an inner node. */
 #define LESKWYN_INNER 65535
@@ -85,6 +85,14 @@ typedef struct { uint16_t refusal; uint64_t a, b, c, d, e, distance; } leskwyn_q
  * first + second - 2 common. A split is an edge with at least two tips on each side.
  */
 typedef struct { uint16_t refusal; uint64_t first, second, common, distance; } leskwyn_split_counts_answer;
+
+/*
+ * The refusal, or 0; with tip 0 as the outgroup, how many sets of three of the labels 1 to n - 1 are: a, resolved alike
+ * in both trees; b, resolved differently; c, resolved in the first tree only; d, in the second only; e, in neither. A
+ * set is resolved if two of its labels have a lowest common ancestor that is not an ancestor of the third. The triplet
+ * distance is b + c + d.
+ */
+typedef struct { uint16_t refusal; uint64_t a, b, c, d, e, distance; } leskwyn_triplet_table_answer;
 
 /* The version of the library that is linked. It is LESKWYN_VERSION where header and library are of one release. */
 uint32_t leskwyn_version(void);
@@ -138,6 +146,11 @@ leskwyn_quartet_table_answer leskwyn_quartet_table(const uint16_t *first, size_t
 leskwyn_split_counts_answer leskwyn_split_counts(const uint16_t *first, size_t first_words,
                                                  const uint16_t *second, size_t second_words,
                                                  uint16_t *work, size_t cells);
+
+/* The triplet table of two trees. Leaves the crossings in the work, as leskwyn_crossings does. */
+leskwyn_triplet_table_answer leskwyn_triplet_table(const uint16_t *first, size_t first_words,
+                                                   const uint16_t *second, size_t second_words,
+                                                   uint16_t *work, size_t cells);
 
 #ifdef __cplusplus
 }

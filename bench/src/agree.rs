@@ -3,40 +3,43 @@
 
 use leskwyn::raw::{
     self, BeyondAnswer, CentreAnswer, ClaimSumsAnswer, PairFunction, QuartetTableAnswer, SplitCountsAnswer,
-    TopologyAnswer,
+    TopologyAnswer, TripletTableAnswer,
 };
-use leskwyn::{ClaimSums, QuartetTable, Refusal, SplitCounts};
+use leskwyn::{ClaimSums, QuartetTable, Refusal, SplitCounts, TripletTable};
 
-use crate::cubic;
 use crate::enumerate::{self, Topology, Tree};
 use crate::random::Random;
 use crate::reference::X;
+use crate::{common_ancestors, cubic};
 
 /// Pairs of claims that are summed one by one; for more, S2 and S3 are read from the cases.
 const MOST_CLAIM_PAIRS: usize = 500_000;
 
 /// What two accepted tables give.
-#[derive(Clone, Debug, PartialEq, Eq)]
+#[derive(Clone, Debug, Default, PartialEq, Eq)]
 pub struct Expected {
     pub crossings: Vec<u16>,
     pub claims: [u64; 4],
     pub quartets: [u64; 5],
     pub splits: [u64; 4],
+    pub triplets: [u64; 5],
 }
 
 impl Expected {
     /// By the enumerator. Up to 64 tips.
     pub fn enumerated(first: &[u16], second: &[u16]) -> Expected {
         let (ours, theirs) = (Tree::of(first), Tree::of(second));
-        Expected::with_cases(&ours, &theirs, enumerate::cases(&ours, &theirs))
+        let triplets = enumerate::triplet_cases(&ours, &theirs);
+        Expected::with_cases(&ours, &theirs, enumerate::cases(&ours, &theirs), triplets)
     }
 
-    /// The five cases by the O(n^3) method, the rest by the enumerator.
+    /// The cases of quartets and of triplets by O(n^3) methods, the rest by the enumerator.
     pub fn by_triples(first: &[u16], second: &[u16]) -> Expected {
-        Expected::with_cases(&Tree::of(first), &Tree::of(second), cubic::cases(first, second))
+        let triplets = common_ancestors::triplet_cases(first, second);
+        Expected::with_cases(&Tree::of(first), &Tree::of(second), cubic::cases(first, second), triplets)
     }
 
-    fn with_cases(first: &Tree, second: &Tree, quartets: [u64; 5]) -> Expected {
+    fn with_cases(first: &Tree, second: &Tree, quartets: [u64; 5], triplets: [u64; 5]) -> Expected {
         let [same, different] =
             enumerate::paired_claim_sums(first, second, MOST_CLAIM_PAIRS).unwrap_or([2 * quartets[0], 4 * quartets[1]]);
         Expected {
@@ -44,11 +47,18 @@ impl Expected {
             claims: [first.claim_sum(), second.claim_sum(), same, different],
             quartets,
             splits: enumerate::split_counts(first, second),
+            triplets,
         }
     }
 
-    fn distance(&self) -> u64 {
-        self.quartets[1] + self.quartets[2] + self.quartets[3]
+    fn quartet_table(&self) -> QuartetTable {
+        let [a, b, c, d, e] = self.quartets;
+        QuartetTable { a, b, c, d, e, distance: b + c + d }
+    }
+
+    fn triplet_table(&self) -> TripletTable {
+        let [a, b, c, d, e] = self.triplets;
+        TripletTable { a, b, c, d, e, distance: b + c + d }
     }
 }
 
@@ -182,33 +192,29 @@ pub fn topology_agrees(table: &[u16], tree: Option<&Tree>, four: [u16; 4]) {
     }
 }
 
-/// The answers of the four functions of a pair.
+/// The answers of the five functions of a pair.
 #[derive(Debug, PartialEq, Eq)]
 struct Answers {
     crossings: u16,
     claims: ClaimSumsAnswer,
     quartets: QuartetTableAnswer,
     splits: SplitCountsAnswer,
+    triplets: TripletTableAnswer,
 }
 
 impl Answers {
+    /// Zeros beside the number of a refused pair.
     fn of(refusal: u16, expected: Option<&Expected>) -> Answers {
-        let [first, second, same, different] = expected.map_or([0; 4], |figures| figures.claims);
-        let [a, b, c, d, e] = expected.map_or([0; 5], |figures| figures.quartets);
-        let distance = expected.map_or(0, Expected::distance);
-        let splits = expected.map_or([0; 4], |figures| figures.splits);
-        Answers {
-            crossings: refusal,
-            claims: ClaimSumsAnswer { refusal, first, second, same, different },
-            quartets: QuartetTableAnswer { refusal, a, b, c, d, e, distance },
-            splits: SplitCountsAnswer {
-                refusal,
-                first: splits[0],
-                second: splits[1],
-                common: splits[2],
-                distance: splits[3],
-            },
-        }
+        let figures = expected.cloned().unwrap_or_default();
+        let [first, second, same, different] = figures.claims;
+        let claims = ClaimSumsAnswer { refusal, first, second, same, different };
+        let QuartetTable { a, b, c, d, e, distance } = figures.quartet_table();
+        let quartets = QuartetTableAnswer { refusal, a, b, c, d, e, distance };
+        let [first, second, common, distance] = figures.splits;
+        let splits = SplitCountsAnswer { refusal, first, second, common, distance };
+        let TripletTable { a, b, c, d, e, distance } = figures.triplet_table();
+        let triplets = TripletTableAnswer { refusal, a, b, c, d, e, distance };
+        Answers { crossings: refusal, claims, quartets, splits, triplets }
     }
 }
 
@@ -230,7 +236,7 @@ fn ask<T>(
     answer
 }
 
-/// The four functions with so many cells. Without figures the pair is one that is refused.
+/// The five functions with so many cells. Without figures the pair is one that is refused.
 fn cells_agree(first: &[u16], second: &[u16], cells: usize, expected: Option<&Expected>, random: &mut Random) {
     let refusal = enumerate::pair_refusal(first, second, cells);
     let expected = expected.filter(|_| refusal == 0);
@@ -241,6 +247,7 @@ fn cells_agree(first: &[u16], second: &[u16], cells: usize, expected: Option<&Ex
         claims: ask(raw::leskwyn_claim_sums, first, second, cells, crossings, random),
         quartets: ask(raw::leskwyn_quartet_table, first, second, cells, crossings, random),
         splits: ask(raw::leskwyn_split_counts, first, second, cells, crossings, random),
+        triplets: ask(raw::leskwyn_triplet_table, first, second, cells, crossings, random),
     };
     assert_eq!(answers, Answers::of(refusal, expected), "{first:?} and {second:?} with {cells} cells");
 }
@@ -252,15 +259,17 @@ fn wrappers_agree(first: &[u16], second: &[u16], cells: usize, expected: Option<
     let claims = leskwyn::claim_sums(first, second, &mut work);
     let quartets = leskwyn::quartet_table(first, second, &mut work);
     let splits = leskwyn::split_counts(first, second, &mut work);
+    let triplets = leskwyn::triplet_table(first, second, &mut work);
     let crossings = leskwyn::crossings(first, second, &mut work);
-    assert_eq!([number(&claims), number(&quartets), number(&splits), number(&crossings)], [refusal; 4]);
+    let numbers = [number(&claims), number(&quartets), number(&splits), number(&triplets), number(&crossings)];
+    assert_eq!(numbers, [refusal; 5]);
     let Some(figures) = expected.filter(|_| refusal == 0) else {
         return;
     };
     let [first_sum, second_sum, same, different] = figures.claims;
     assert_eq!(claims, Ok(ClaimSums { first: first_sum, second: second_sum, same, different }));
-    let [a, b, c, d, e] = figures.quartets;
-    assert_eq!(quartets, Ok(QuartetTable { a, b, c, d, e, distance: figures.distance() }));
+    assert_eq!(quartets, Ok(figures.quartet_table()));
+    assert_eq!(triplets, Ok(figures.triplet_table()));
     let [first_splits, second_splits, common, distance] = figures.splits;
     assert_eq!(splits, Ok(SplitCounts { first: first_splits, second: second_splits, common, distance }));
     assert_eq!(work[..figures.crossings.len()], figures.crossings);

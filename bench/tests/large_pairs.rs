@@ -1,4 +1,4 @@
-//! Pairs of 128 and of 256 tips against the O(n^3) method, every exported function on each.
+//! Pairs of 128 and of 256 tips against the O(n^3) methods, every exported function on each.
 
 use bench::agree::{pair_agrees, tree_agrees, Expected};
 use bench::generate::{pair, table, Graph, Numbering, Partner, Shape};
@@ -30,7 +30,7 @@ fn the_most_tips() {
     pairs_agree(256);
 }
 
-/// Both trees one slice, of each shape and numbering: A is the first tree's butterflies, E the stars.
+/// Both trees one slice, of each shape and numbering: A is what the tree resolves, E what it leaves open.
 #[test]
 fn one_slice() {
     let mut random = Random::seeded(420);
@@ -38,7 +38,7 @@ fn one_slice() {
         for numbering in Numbering::ALL {
             let table = Graph::of(shape, 256, &mut random).table(numbering, &mut random);
             let expected = Expected::by_triples(&table, &table);
-            assert_eq!(expected.quartets[1..4], [0, 0, 0]);
+            assert_eq!((&expected.quartets[1..4], &expected.triplets[1..4]), (&[0; 3][..], &[0; 3][..]));
             pair_agrees(&table, &table, &expected, &mut random);
         }
     }
@@ -51,4 +51,6 @@ fn the_largest_sums() {
     let table = table(Shape::Binary, 256, &mut random);
     let sums = leskwyn::claim_sums(&table, &table, &mut vec![0; leskwyn::WORK_CELLS]).expect("accepted");
     assert_eq!((sums.first, sums.second, sums.same, sums.different), (349_585_280, 349_585_280, 349_585_280, 0));
+    let triplets = leskwyn::triplet_table(&table, &table, &mut vec![0; leskwyn::WORK_CELLS]).expect("accepted");
+    assert_eq!((triplets.a, triplets.e, triplets.distance), (255 * 254 * 253 / 6, 0, 0));
 }

@@ -1,7 +1,7 @@
 //! The reference pairs and edge cases of docs/SPECIFICATION.md, and further pairs worked out beforehand.
 
 use bench::agree::{centre_agrees, pair_agrees, topology_agrees, tree_agrees, Expected};
-use bench::enumerate::{triplet_cases, Tree};
+use bench::enumerate::Tree;
 use bench::random::Random;
 use bench::reference::{P, PAIRS, Q, R, TABLES, THREE, TWO, X};
 use bench::{common_ancestors, cubic, expanded, straight};
@@ -18,8 +18,7 @@ fn the_pairs_have_their_figures() {
         let expected = Expected::enumerated(pair.first, pair.second);
         let figures = (expected.claims, with_distance(expected.quartets), expected.splits);
         assert_eq!(figures, (pair.claims, pair.quartets, pair.splits), "{} by the enumerator", pair.name);
-        let triplets = triplet_cases(&Tree::of(pair.first), &Tree::of(pair.second));
-        assert_eq!(with_distance(triplets), pair.triplets, "triplets of {} by the enumerator", pair.name);
+        assert_eq!(with_distance(expected.triplets), pair.triplets, "triplets of {} by the enumerator", pair.name);
         pair_agrees(pair.first, pair.second, &expected, &mut random);
     }
 }

@@ -88,6 +88,25 @@ pub struct SplitCounts {
     pub distance: u64,
 }
 
+/// How many sets of three tips fall into each of five cases, with tip 0 as the outgroup: it is in none of the sets, and a
+/// tree hangs from it. A tree resolves three tips if two of them have a lowest common ancestor that is not an ancestor of
+/// the third.
+#[derive(Clone, Copy, Debug, PartialEq, Eq, Hash)]
+pub struct TripletTable {
+    /// Resolved by both trees, with the same two tips closer.
+    pub a: u64,
+    /// Resolved by both trees, with different ones closer.
+    pub b: u64,
+    /// Resolved by the first tree only.
+    pub c: u64,
+    /// Resolved by the second tree only.
+    pub d: u64,
+    /// Resolved by neither.
+    pub e: u64,
+    /// The triplet distance, B + C + D.
+    pub distance: u64,
+}
+
 /// Checks a tree table.
 ///
 /// ```
@@ -265,4 +284,27 @@ pub fn split_counts(first: &[u16], second: &[u16], work: &mut [u16]) -> Result<S
     let raw::SplitCountsAnswer { refusal, first, second, common, distance } =
         asked(raw::leskwyn_split_counts, first, second, work);
     Refusal::or(refusal, SplitCounts { first, second, common, distance })
+}
+
+/// The triplet table of two trees. Takes and leaves in the work what [`crossings`] does.
+///
+/// ```
+/// use leskwyn::{triplet_table, work_cells, INNER as X};
+/// // Below tip 0: ((1,2),3) and ((1,3),2).
+/// let first = [4, 6, 0, 0, 1, 2, 2, 1, 0, X, X, 1, 2, 3];
+/// let second = [4, 6, 0, 0, 1, 2, 2, 1, 0, X, X, 1, 3, 2];
+/// let mut work = vec![0; work_cells(&first, &second)?];
+/// assert_eq!(triplet_table(&first, &first, &mut work)?.a, 1);
+/// let table = triplet_table(&first, &second, &mut work)?;
+/// assert_eq!((table.a, table.b, table.distance), (0, 1, 1));
+/// # Ok::<(), leskwyn::Refusal>(())
+/// ```
+///
+/// # Errors
+///
+/// Those of [`crossings`].
+pub fn triplet_table(first: &[u16], second: &[u16], work: &mut [u16]) -> Result<TripletTable, Refusal> {
+    let raw::TripletTableAnswer { refusal, a, b, c, d, e, distance } =
+        asked(raw::leskwyn_triplet_table, first, second, work);
+    Refusal::or(refusal, TripletTable { a, b, c, d, e, distance })
 }

@@ -62,6 +62,19 @@ pub struct SplitCountsAnswer {
     pub distance: u64,
 }
 
+/// The refusal, or 0; A to E of the triplets and B + C + D.
+#[repr(C)]
+#[derive(Clone, Copy, Debug, PartialEq, Eq)]
+pub struct TripletTableAnswer {
+    pub refusal: u16,
+    pub a: u64,
+    pub b: u64,
+    pub c: u64,
+    pub d: u64,
+    pub e: u64,
+    pub distance: u64,
+}
+
 /// A function of two tables and the work: each as a pointer and a number of elements.
 pub type PairFunction<T> = unsafe extern "C" fn(*const u16, usize, *const u16, usize, *mut u16, usize) -> T;
 
@@ -115,4 +128,13 @@ extern "C" {
         work: *mut u16,
         cells: usize,
     ) -> SplitCountsAnswer;
+
+    pub fn leskwyn_triplet_table(
+        first: *const u16,
+        first_words: usize,
+        second: *const u16,
+        second_words: usize,
+        work: *mut u16,
+        cells: usize,
+    ) -> TripletTableAnswer;
 }
