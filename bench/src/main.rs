@@ -1,4 +1,4 @@
-//! `cargo run --release` times this library beside three other methods, prints one table, and writes
+//! `cargo run --release` times this library beside three other methods, prints the tables, and writes
 //! docs/BENCHMARKS.md and docs/scaling.svg.
 
 mod chart;
@@ -20,6 +20,8 @@ fn main() -> ExitCode {
     print!("{}", report::table(&measured));
     println!();
     print!("{}", report::ratios(&measured));
+    println!();
+    print!("{}", report::triplets(&measured));
     let docs = Path::new(env!("CARGO_MANIFEST_DIR")).join("../docs");
     let before = fs::read_to_string(docs.join("BENCHMARKS.md")).unwrap_or_default();
     let written = fs::create_dir_all(&docs)

@@ -31,13 +31,18 @@ pub fn table(measured: &[Measured]) -> String {
          | library ÷ straight | O(n²d²) ÷ library | O(n³) ÷ library |\n\
          |---|---:|---:|---:|---:|---:|---:|---:|---:|\n",
     );
-    for Measured { name, tips, micros: times } in measured {
+    for Measured { name, tips, micros: times, .. } in measured {
         let [library, straight, expanded, cubic] = *times;
         let columns = times.map(micros).join(" | ");
         let ratios = [ratio(library, straight), ratio(expanded, library), ratio(cubic, library)].join(" | ");
         writeln!(text, "| {name} | {tips} | {columns} | {ratios} |").expect("a string takes all");
     }
     text
+}
+
+/// A ratio, with a word where it is not what is asked.
+fn marked(value: f64, is_reached: bool) -> String {
+    format!("{value:.2}{}", if is_reached { "" } else { " (missed)" })
 }
 
 /// What is asked of the library at 256 tips, and what it reaches, as a table in Markdown.
@@ -49,7 +54,6 @@ pub fn ratios(measured: &[Measured]) -> String {
     let of = |name: &str, tips: usize| {
         measured.iter().find(|at| at.name == name && at.tips == tips).map(|at| at.micros).expect("measured")
     };
-    let marked = |value: f64, is_reached: bool| format!("{value:.2}{}", if is_reached { "" } else { " (missed)" });
     for pairing in &PAIRINGS {
         let ([library, straight, expanded, cubic], half) = (of(pairing.name, 256), of(pairing.name, 128)[0]);
         let columns = [
@@ -59,6 +63,20 @@ pub fn ratios(measured: &[Measured]) -> String {
             marked(library / half, library <= 5.0 * half),
         ];
         writeln!(text, "| {} | {} |", pairing.name, columns.join(" | ")).expect("a string takes all");
+    }
+    text
+}
+
+/// The triplet table's time at 256 tips beside the quartet table's, as a table in Markdown.
+pub fn triplets(measured: &[Measured]) -> String {
+    let mut text = String::from(
+        "| trees, n = 256 | triplet table (µs) | quartet table (µs) | triplets ÷ quartets (≤ 0.5) |\n\
+         |---|---:|---:|---:|\n",
+    );
+    for Measured { name, micros: [quartets, ..], triplets, .. } in measured.iter().filter(|at| at.tips == 256) {
+        let columns = [micros(*triplets), micros(*quartets), marked(triplets / quartets, *triplets <= 0.5 * quartets)]
+            .join(" | ");
+        writeln!(text, "| {name} | {columns} |").expect("a string takes all");
     }
     text
 }
@@ -79,7 +97,7 @@ pub fn commands(page: &str) -> &str {
 
 /// docs/BENCHMARKS.md but for its last section.
 pub fn page(measured: &[Measured]) -> String {
-    let (processor, table, ratios) = (processor(), table(measured), ratios(measured));
+    let (processor, table, ratios, triplets) = (processor(), table(measured), ratios(measured), triplets(measured));
     format!(
         "# Benchmarks
 
@@ -107,7 +125,14 @@ within one run, in microseconds: what else the machine does only adds to a time.
 
 {ratios}
 ![Time against the number of tips](scaling.svg)
-"
+
+## The triplet table
+
+`leskwyn_triplet_table`, with the check of both tables and the crossings in the lent work, beside `leskwyn_quartet_table` on the
+same pairs, timed in the same turns. Its five cases agree with those of a method in O(n³), by the lowest common ancestors of
+all two tips (`bench/src/common_ancestors.rs`).
+
+{triplets}"
     )
 }
 

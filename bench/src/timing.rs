@@ -1,11 +1,12 @@
-//! Four methods timed on the same pairs of trees, in turns, so that what else the machine does falls on all of them.
+//! Four methods of counting quartets, and the triplet table, timed on the same pairs of trees, in turns, so that what else
+//! the machine does falls on all of them.
 
 use std::hint::black_box;
 use std::time::{Duration, Instant};
 
 use bench::generate::{Graph, Numbering, Shape};
 use bench::random::Random;
-use bench::{cubic, expanded, straight};
+use bench::{common_ancestors, cubic, expanded, straight};
 
 /// The tips of the trees that are timed.
 pub const TIPS: [usize; 4] = [16, 64, 128, 256];
@@ -36,14 +37,18 @@ pub const PAIRINGS: [Pairing; 12] = [
     pairing("degree four, binary", Shape::Fours, Shape::Binary),
 ];
 
-/// The methods, in the order of the columns.
+/// The methods of counting quartets, in the order of the columns.
 pub const METHODS: [&str; 4] = ["this library", "straight Rust", "O(n²d²)", "O(n³)"];
 
-/// The times of one pairing, in microseconds, one for each method.
+/// What is timed: those methods, and the triplet table.
+const TIMED: usize = METHODS.len() + 1;
+
+/// The times of one pairing, in microseconds: one for each method, and that of the triplet table.
 pub struct Measured {
     pub name: &'static str,
     pub tips: usize,
     pub micros: [f64; 4],
+    pub triplets: f64,
 }
 
 /// A batch of calls takes at least this long, so that the clock is fine enough.
@@ -55,18 +60,20 @@ const ROUNDS: usize = 25;
 const SLOW_ROUNDS: usize = 11;
 const SLOW: Duration = Duration::from_millis(20);
 
-/// One way of getting the five cases.
+/// One way of getting five cases.
 type Method<'a> = Box<dyn FnMut() -> [u64; 5] + 'a>;
 
-fn methods<'a>(first: &'a [u16], second: &'a [u16]) -> [Method<'a>; 4] {
+fn methods<'a>(first: &'a [u16], second: &'a [u16]) -> [Method<'a>; TIMED] {
     let cells = leskwyn::work_cells(first, second).expect("accepted tables");
-    let (mut lent, mut work) = (vec![0; cells], vec![0; cells]);
+    let [mut lent, mut work, mut other] = [0; 3].map(|_| vec![0; cells]);
     let cases = |table: leskwyn::QuartetTable| [table.a, table.b, table.c, table.d, table.e];
+    let triplet_cases = |table: leskwyn::TripletTable| [table.a, table.b, table.c, table.d, table.e];
     [
         Box::new(move || cases(leskwyn::quartet_table(first, second, &mut lent).expect("accepted"))),
         Box::new(move || cases(straight::quartet_table(first, second, &mut work).expect("accepted"))),
         Box::new(move || expanded::cases(first, second)),
         Box::new(move || cubic::cases(first, second)),
+        Box::new(move || triplet_cases(leskwyn::triplet_table(first, second, &mut other).expect("accepted"))),
     ]
 }
 
@@ -85,18 +92,19 @@ fn fastest(times: Vec<Duration>) -> f64 {
 
 /// One pair of trees, its methods, and their batches so far.
 struct Course<'a> {
-    methods: [Method<'a>; 4],
-    single: [Duration; 4],
-    calls: [u32; 4],
-    times: [Vec<Duration>; 4],
+    methods: [Method<'a>; TIMED],
+    single: [Duration; TIMED],
+    calls: [u32; TIMED],
+    times: [Vec<Duration>; TIMED],
 }
 
 impl<'a> Course<'a> {
-    /// All methods agree on the pair before they are timed.
+    /// All methods agree on the pair before they are timed, and the triplet table agrees with the lowest common ancestors.
     fn of(name: &str, first: &'a [u16], second: &'a [u16]) -> Course<'a> {
         let mut methods = methods(first, second);
-        let answers = methods.each_mut().map(|method| method());
-        assert!(answers.iter().all(|answer| *answer == answers[0]), "{name}: {answers:?}");
+        let [quartets @ .., triplets] = methods.each_mut().map(|method| method());
+        assert!(quartets.iter().all(|answer| *answer == quartets[0]), "{name}: {quartets:?}");
+        assert_eq!(triplets, common_ancestors::triplet_cases(first, second), "{name}");
         let single = methods.each_mut().map(|method| batch(method, 1));
         let calls = single.map(|time| (BATCH.as_nanos() / time.as_nanos().max(1)) as u32 + 1);
         Course { methods, single, calls, times: Default::default() }
@@ -124,5 +132,9 @@ pub fn measure(pairing: &Pairing) -> Vec<Measured> {
         courses.iter_mut().for_each(|course| course.round(round));
     }
     let least = courses.map(|course| course.times.map(fastest));
-    TIPS.into_iter().zip(least).map(|(tips, micros)| Measured { name: pairing.name, tips, micros }).collect()
+    let measured = |tips: usize, times: [f64; TIMED]| {
+        let [micros @ .., triplets] = times;
+        Measured { name: pairing.name, tips, micros, triplets }
+    };
+    TIPS.into_iter().zip(least).map(|(tips, times)| measured(tips, times)).collect()
 }
