@@ -32,10 +32,11 @@ from cases.newick import star_text
 from cases.pairs import pair_refusal, split_counts
 from cases.shapes import balanced, caterpillar
 from cases.tables import P, Q, THREE, W, damaged
+from cases.triplets import triplet_table
 
 import leskwyn
 from leskwyn import usage
-from leskwyn.figures import COLUMNS
+from leskwyn.figures import COLUMNS, KEYS
 from leskwyn.tables import newick_text
 
 FEATHERS, WINGS = "(Azores,(Bute,Coll),Foula,(Lundy,Texel));\n", "(Azores,Bute,(Coll,Foula),(Lundy,Texel));\n"
@@ -44,7 +45,12 @@ LISTING = b"leaves 6\nclaims 22 22 12 12\nquartets 6 3 2 2 2\ndistance 7\nsplits
 FIGURES = {"tips": 6, "sets_of_four": 15, "same": 6, "different": 3, "first_only": 2, "second_only": 2, "neither": 2,
            "distance": 7, "normalised_distance": 7 / 15, "first_splits": 2, "second_splits": 2, "common_splits": 1,
            "robinson_foulds": 2, "normalised_robinson_foulds": 2 / 4, "first_claims": 22, "second_claims": 22,
-           "same_claims": 12, "different_claims": 12}
+           "same_claims": 12, "different_claims": 12, "sets_of_three": 10}
+# README.md, 'Five minutes', by hand: under Azores, and under Texel.
+TRIPLET_KEYS = ["same_triplets", "different_triplets", "first_only_triplets", "second_only_triplets", "neither_triplets",
+                "triplet_distance", "normalised_triplet_distance"]
+UNDER_AZORES = {"outgroup": "Azores", **dict(zip(TRIPLET_KEYS, [3, 1, 2, 2, 2, 5, 5 / 10]))}
+UNDER_TEXEL = {"outgroup": "Texel", **dict(zip(TRIPLET_KEYS, [6, 1, 1, 1, 1, 3, 3 / 10]))}
 
 
 def packed(*tables: list[int]) -> bytes:
@@ -86,8 +92,8 @@ class Compare(TreesTest):
         for arguments, stdin in ((["pair.bin"], b""), (["-"], content), (["pair.bin", "--tables"], b"")):
             done = self.here("compare", *arguments, "--listing", stdin=stdin)
             self.assertEqual((done.returncode, done.stdout, done.stderr), (0, LISTING, b""))
-        self.assertEqual(self.figures("pair.bin") | FIGURES, self.figures("pair.bin"))
-        self.assertEqual(self.figures("pair.bin")["names"], [])
+        told = self.figures("pair.bin")
+        self.assertEqual(told | FIGURES | UNDER_AZORES | {"outgroup": "", "names": []}, told)
 
     def test_text(self) -> None:
         done = self.here("compare", "feathers.nwk", "wings.nwk")
@@ -99,16 +105,35 @@ class Compare(TreesTest):
                      "E left open by both trees 2 13.3 %", "distance 7 B + C + D",
                      "normalised distance 0.4667 distance / sets of four", "splits of the first tree 2",
                      "splits of the second tree 2", "splits of both 1", "Robinson-Foulds distance 2 splits of one tree only",
-                     "normalised Robinson-Foulds 0.5000 distance / splits of the first and the second"):
+                     "normalised Robinson-Foulds 0.5000 distance / splits of the first and the second",
+                     "outgroup: Azores, the first of the sorted names; --outgroup NAME takes another",
+                     "sets of three without the outgroup 10", "A parted alike by both trees 3 30.0 %",
+                     "B parted differently 1 10.0 %", "C parted by the first tree only 2 20.0 %",
+                     "D parted by the second tree only 2 20.0 %", "E left open by both trees 2 20.0 %",
+                     "triplet distance 5 B + C + D", "normalised triplet distance 0.5000 distance / sets of three"):
             self.assertIn(line, lines)
+
+    def test_text_under_an_outgroup(self) -> None:
+        done = self.here("compare", "feathers.nwk", "wings.nwk", "--outgroup", "Texel")
+        lines = [" ".join(line.split()) for line in done.stdout.decode().split("\n")]
+        self.assertEqual(lines[lines.index("outgroup: Texel"):],
+                         ["outgroup: Texel", "sets of three without the outgroup 10", "A parted alike by both trees 6 60.0 %",
+                          "B parted differently 1 10.0 %", "C parted by the first tree only 1 10.0 %",
+                          "D parted by the second tree only 1 10.0 %", "E left open by both trees 1 10.0 %",
+                          "triplet distance 3 B + C + D", "normalised triplet distance 0.3000 distance / sets of three", ""])
+        self.assertIn("outgroup: label 0\n", self.here("compare", "-", stdin=packed(P, Q)).stdout.decode())
+        done = self.here("compare", "-", "--outgroup", "b\nc", stdin="(a,'b\nc');" * 2)
+        self.assertIn("\noutgroup: b\\nc\n", done.stdout.decode())
 
     def test_text_of_reference_pairs(self) -> None:
         """docs/SPECIFICATION.md, 'The figures K1 to K9': P with Q, Q with P, and W with itself."""
-        for t, u, five, splits in ((P, Q, [3, 0, 2, 0, 0], [2, 1, 1, 1]), (Q, P, [3, 0, 0, 2, 0], [1, 2, 1, 1]),
-                                   (W, W, [0, 0, 0, 0, 5], [0, 0, 0, 0])):
+        for t, u, five, splits, triplets in ((P, Q, [3, 0, 2, 0, 0], [2, 1, 1, 1], [3, 0, 1, 0, 0]),
+                                             (Q, P, [3, 0, 0, 2, 0], [1, 2, 1, 1], [3, 0, 0, 1, 0]),
+                                             (W, W, [0, 0, 0, 0, 5], [0, 0, 0, 0], [0, 0, 0, 0, 4])):
             lines = [line.split() for line in self.here("compare", "-", stdin=packed(t, u)).stdout.decode().split("\n")]
-            told = {line[0]: line[-3:] for line in lines if line and line[0] in "ABCDE"}
-            self.assertEqual(told, {letter: [str(count), f"{20 * count}.0", "%"] for letter, count in zip("ABCDE", five)})
+            told = [[line[0], *line[-3:]] for line in lines if line and line[0] in "ABCDE"]
+            self.assertEqual(told, [[letter, str(count), f"{part * count}.0", "%"] for part, counts in ((20, five), (25, triplets))
+                                    for letter, count in zip("ABCDE", counts)])
             self.assertEqual([line[-1] for line in lines if line[:2] == ["splits", "of"]], [str(count) for count in splits[:3]])
 
     def test_text_without_sets_of_four(self) -> None:
@@ -116,18 +141,39 @@ class Compare(TreesTest):
         text = " ".join(done.stdout.decode().split())
         self.assertIn("normalised distance 0.0000 there are no sets of four", text)
         self.assertIn("normalised Robinson-Foulds 0.0000 neither tree has a split", text)
-        self.assertIn("A parted alike by both trees 0 none", text)
+        self.assertIn("normalised triplet distance 0.0000 there are no sets of three", text)
+        self.assertEqual(text.count("A parted alike by both trees 0 none"), 2)
 
     def test_json_and_tsv(self) -> None:
         told = self.figures("feathers.nwk", "wings.nwk")
         names = ["Azores", "Bute", "Coll", "Foula", "Lundy", "Texel"]
-        self.assertEqual(told, {"first": "feathers.nwk", "second": "wings.nwk", **FIGURES, "names": names})
-        self.assertEqual(list(told), [*COLUMNS, "names"])
+        self.assertEqual(told, {"first": "feathers.nwk", "second": "wings.nwk", **FIGURES, **UNDER_AZORES, "names": names})
+        self.assertEqual(list(told), list(KEYS))
         done = self.here("compare", "both.nwk", "--format", "tsv")
         header, row = done.stdout.decode().removesuffix("\n").split("\n")
         fields = dict(zip(header.split("\t"), row.split("\t"), strict=True))
         self.assertEqual(fields, {"first": "both.nwk, first tree", "second": "both.nwk, second tree",
-                                  **{key: str(value) for key, value in FIGURES.items()}})
+                                  **{key: str(value) for key, value in (FIGURES | UNDER_AZORES).items()}})
+        self.assertEqual(header.split("\t"), [key for key in KEYS if key != "names"])
+
+    def test_outgroup(self) -> None:
+        """Only the triplets depend on it."""
+        for outgroup, triplets in (("Azores", UNDER_AZORES), ("Texel", UNDER_TEXEL), ("'Texel'", UNDER_TEXEL)):
+            for arguments in (["both.nwk"], ["feathers.nwk", "wings.nwk"], []):
+                told = self.figures(*arguments, "--outgroup", outgroup)
+                self.assertEqual(told | FIGURES | triplets, told)
+                self.assertEqual((told["names"][0], sorted(told["names"])),
+                                 (triplets["outgroup"], ["Azores", "Bute", "Coll", "Foula", "Lundy", "Texel"]))
+        for command in ("compare", "against", "matrix"):
+            done = self.here(command, "feathers.nwk", "wings.nwk", "--outgroup", "Zeist")
+            self.assert_message(done, 1, "the outgroup 'Zeist' is not a tip of every tree")
+        done = self.here("compare", "-", "--outgroup", "0", stdin=packed(P, Q))
+        self.assert_message(done, 2, "--outgroup goes by names, and a comparison file has none: its outgroup is label 0")
+        self.file("more.nwk", "((Azores,Zeist),Bute,(Coll,Foula),(Lundy,Texel));")
+        done = self.here("compare", "feathers.nwk", "more.nwk", "--common", "--outgroup", "Zeist")
+        self.assertEqual((done.returncode, done.stdout), (1, b""))
+        self.assertEqual(done.stderr.decode(), "leskwyn: left out of more.nwk: 'Zeist'\n"
+                                               "leskwyn: the outgroup 'Zeist' is not a tip of every tree\n")
 
     def test_example(self) -> None:
         for arguments in ([], ["compare"]):
@@ -155,6 +201,7 @@ class Compare(TreesTest):
                          [told["sets_of_four"] - told["different"], told["different"], 0, 0, 0])
         self.assertEqual([told[key] for key in ("first_splits", "second_splits", "common_splits", "robinson_foulds")],
                          split_counts(first, second))
+        self.assertEqual([told[key] for key in TRIPLET_KEYS[:6]], triplet_table(first, second))
 
     def test_common(self) -> None:
         self.file("more.nwk", "((Azores,Zeist),Bute,(Coll,(Foula,'Y e')),(Lundy,Texel));")
@@ -259,12 +306,31 @@ class Many(TreesTest):
     def test_measures_and_phylip(self) -> None:
         for arguments, key in (([], "distance"), (["--normalised"], "normalised_distance"),
                                (["--measure", "splits"], "robinson_foulds"),
-                               (["--measure", "splits", "--normalised"], "normalised_robinson_foulds")):
+                               (["--measure", "splits", "--normalised"], "normalised_robinson_foulds"),
+                               (["--measure", "triplets"], "triplet_distance"),
+                               (["--measure", "triplets", "--normalised"], "normalised_triplet_distance")):
             done = self.here("matrix", "all.nwk", "--format", "phylip", *arguments)
             lines = done.stdout.decode().removesuffix("\n").split("\n")
             self.assertEqual((done.returncode, lines[0]), (0, "4"))
             self.assertEqual([line.split() for line in lines[1:]],
                              [[f"all.nwk#{at + 1}", *row] for at, row in enumerate(self.square(key))])
+
+    def test_triplets_under_an_outgroup(self) -> None:
+        """Where none is named, standard error tells which name a square of triplet distances takes."""
+        for arguments, distance, told in (([], "5", "the outgroup is Azores, the first of the sorted names; "
+                                                    "--outgroup NAME takes another"),
+                                          (["--outgroup", "Texel"], "3", ""), (["--outgroup", "Azores"], "5", "")):
+            done = self.here("matrix", "feathers.nwk", "wings.nwk", "--measure", "triplets", *arguments)
+            self.assertEqual(done.stdout.decode(), "tree\tfeathers.nwk\twings.nwk\n"
+                                                   f"feathers.nwk\t0\t{distance}\nwings.nwk\t{distance}\t0\n")
+            self.assertEqual(done.stderr.decode(), f"leskwyn: {told}\n" if told else "")
+        for measure in ("quartet", "splits"):
+            self.assertEqual(self.here("matrix", "all.nwk", "--measure", measure).stderr, b"")
+        done = self.here("against", "feathers.nwk", "all.nwk", "--format", "json", "--outgroup", "Texel")
+        rows = [json.loads(line) for line in done.stdout.decode().removesuffix("\n").split("\n")]
+        # The star leaves open all that feathers part: 6 + 1 + 1 sets of three.
+        self.assertEqual([(row["outgroup"], row["triplet_distance"]) for row in rows],
+                         [("Texel", 0), ("Texel", 3), ("Texel", 8), ("Texel", 0)])
 
     def test_against(self) -> None:
         for jobs in ("1", "2", "8"):
@@ -337,7 +403,7 @@ class Usage(TreesTest):
             (self.folder / name).write_bytes(packed(P, Q))
             done = self.here("compare", "--listing", "--", name)
             self.assertEqual((done.returncode, done.stdout[:9], done.stderr), (0, b"leaves 5\n", b""), name)
-            self.assertEqual(self.here("compare", "--", name).stdout.count(b"\n"), 18, name)
+            self.assertEqual(self.here("compare", "--", name).stdout.count(b"\n"), 28, name)
 
     def test_help_and_version(self) -> None:
         version = f"leskwyn (Leskwyn) {leskwyn.__version__}\n".encode()
@@ -501,7 +567,7 @@ class Pages(unittest.TestCase):
     def test_every_key_is_told(self) -> None:
         text = (ROOT / "docs" / "COMMANDS.md").read_text(encoding="utf-8")
         self.assertEqual(re.findall(r"^\| `(\w+)` \|(?:.*\|){2}$", text.split("## Keys\n")[1].split("\n## ")[0], re.M),
-                         [*COLUMNS, "names"])
+                         list(KEYS))
 
 
 if __name__ == "__main__":

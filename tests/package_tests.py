@@ -5,8 +5,8 @@
     LESKWYN_COMPARE=FILE python3 tests/package_tests.py       the program is FILE
 
 Needs target/libleskwyn.so, or what LESKWYN_LIBRARY names, and the proved program. Figures are held to the program's listing,
-and to a brute force over sets of four that looks at the edges of named trees; Robinson-Foulds distances to DendroPy and to ETE
-where they are installed.
+to a brute force over sets of four that looks at the edges of named trees, and to one over sets of three that climbs to their
+lowest common ancestors; Robinson-Foulds distances to DendroPy and to ETE where they are installed.
 """
 import dataclasses
 import importlib.util
@@ -33,9 +33,10 @@ from command_runs import CommandTest
 from cases import skips
 from cases.newick import Tree, random_names, random_tree, star_text, written_tree
 from cases.pairs import split_counts
-from cases.quartets import cases_by_pairs
+from cases.quartets import OUTSIDE_PAIRS, REFERENCE_PAIRS, cases_by_pairs
 from cases.shapes import balanced, caterpillar, related_pair, star, unrelated_pair
 from cases.tables import OUTSIDE, P, Q, REFERENCE, W, damaged
+from cases.triplets import triplet_table
 
 import leskwyn
 from leskwyn import _library, api, counting, sources
@@ -44,6 +45,13 @@ PROGRAM = pathlib.Path(os.environ.get("LESKWYN_COMPARE") or ROOT / "target" / "b
 MOST_BYTES = 1016
 HAS_DENDROPY, HAS_ETE = (importlib.util.find_spec(name) is not None for name in ("dendropy", "ete3"))
 FEATHERS, WINGS = ROOT / "examples" / "feathers.nwk", ROOT / "examples" / "wings.nwk"
+
+
+TRIPLET_KEYS = ["same_triplets", "different_triplets", "first_only_triplets", "second_only_triplets", "neither_triplets"]
+
+
+def triplets_of(found: leskwyn.Comparison) -> list[int]:
+    return [getattr(found, key) for key in TRIPLET_KEYS]
 
 
 def packed(*tables: list[int]) -> bytes:
@@ -69,8 +77,41 @@ def split_sets(sides: list[frozenset[str]], names: frozenset[str]) -> set[frozen
     return {frozenset([side, names - side]) for side in sides if 2 <= len(side) <= len(names) - 2}
 
 
-def expected_figures(first: Tree, second: Tree) -> dict[str, typing.Any]:
-    """All figures of the pair, by looking at every set of four."""
+def nodes_above(tree: Tree, outgroup: str) -> dict[str, list[int]]:
+    """The nodes above each name, upwards, in the tree as it hangs from its outgroup."""
+    top = next(node for node, name in tree.name.items() if name == outgroup)
+    above: dict[int, list[int]] = {top: []}
+    todo = [top]
+    while todo:
+        node = todo.pop()
+        for other in tree.joined[node] - set(above):
+            above[other] = [node, *above[node]]
+            todo.append(other)
+    return {name: above[node] for node, name in tree.name.items()}
+
+
+def apart(above: dict[str, list[int]], three: frozenset[str]) -> str | None:
+    """The name that the lowest common ancestor of the other two is no ancestor of, or None if no name is."""
+    for name in three:
+        one, other = three - {name}
+        lowest = next(node for node in above[one] if node in above[other])
+        if lowest not in above[name]:
+            return name
+    return None
+
+
+def triplet_cases(first: Tree, second: Tree, outgroup: str) -> list[int]:
+    """A to E, by looking at every set of three without the outgroup."""
+    one, other = nodes_above(first, outgroup), nodes_above(second, outgroup)
+    cases = [0] * 5
+    for three in map(frozenset, itertools.combinations(set(one) - {outgroup}, 3)):
+        a, b = apart(one, three), apart(other, three)
+        cases[(0 if a == b else 1) if a and b else 2 if a else 3 if b else 4] += 1
+    return cases
+
+
+def expected_figures(first: Tree, second: Tree, outgroup: str | None = None) -> dict[str, typing.Any]:
+    """All figures of the pair, by looking at every set of four and every set of three."""
     names = frozenset(first.name.values())
     one, other = sides_of(first), sides_of(second)
     cases = [0] * 5
@@ -78,6 +119,9 @@ def expected_figures(first: Tree, second: Tree) -> dict[str, typing.Any]:
         a, b = parting(one, four), parting(other, four)
         cases[(0 if a == b else 1) if a and b else 2 if a else 3 if b else 4] += 1
     same, different, first_only, second_only, neither = cases
+    outgroup = min(names) if outgroup is None else outgroup
+    triplets = triplet_cases(first, second, outgroup)
+    of_three, triplet_distance = math.comb(len(names) - 1, 3), sum(triplets[1:4])
     splits, others = split_sets(one, names), split_sets(other, names)
     of_four, of_both = math.comb(len(names), 4), len(splits) + len(others)
     distance, robinson_foulds = different + first_only + second_only, len(splits ^ others)
@@ -87,7 +131,10 @@ def expected_figures(first: Tree, second: Tree) -> dict[str, typing.Any]:
             "second_splits": len(others), "common_splits": len(splits & others), "robinson_foulds": robinson_foulds,
             "normalised_robinson_foulds": robinson_foulds / of_both if of_both else 0.0,
             "first_claims": 2 * (same + different + first_only), "second_claims": 2 * (same + different + second_only),
-            "same_claims": 2 * same, "different_claims": 4 * different, "names": sorted(names)}
+            "same_claims": 2 * same, "different_claims": 4 * different, "names": [outgroup, *sorted(names - {outgroup})],
+            "outgroup": outgroup, "sets_of_three": of_three, **dict(zip(TRIPLET_KEYS, triplets)),
+            "triplet_distance": triplet_distance,
+            "normalised_triplet_distance": triplet_distance / of_three if of_three else 0.0}
 
 
 def random_named_trees(rng: random.Random, n: int, count: int = 2) -> list[Tree]:
@@ -122,9 +169,10 @@ def in_ete(tree: Tree) -> typing.Any:
 class Figures(unittest.TestCase):
     """The figures of named trees, by an enumeration that knows nothing of tables."""
 
-    def assert_figures(self, found: leskwyn.Comparison, first: Tree, second: Tree) -> None:
+    def assert_figures(self, found: leskwyn.Comparison, first: Tree, second: Tree, outgroup: str | None = None) -> None:
         told = found.as_dict()
-        self.assertEqual({key: told[key] for key in told if key not in ("first", "second")}, expected_figures(first, second))
+        self.assertEqual({key: told[key] for key in told if key not in ("first", "second")},
+                         expected_figures(first, second, outgroup))
 
     def test_random_trees(self) -> None:
         rng = random.Random(1)
@@ -134,6 +182,34 @@ class Figures(unittest.TestCase):
             with self.subTest(case=case, texts=texts):
                 self.assert_figures(leskwyn.compare(*texts), first, second)
                 self.assert_figures(leskwyn.compare("".join(texts)), first, second)
+
+    def test_outgroups(self) -> None:
+        """Each name in its turn, by itself and as a quoted word of Newick text; no figure but those of triplets changes."""
+        rng, distances = random.Random(13), set()
+        for case in range(12):
+            first, second = random_named_trees(rng, 4 + case % 8)
+            texts = [written_tree(rng, tree) for tree in (first, second)]
+            figures = leskwyn.compare(*texts).as_dict()
+            for name in first.name.values():
+                with self.subTest(case=case, name=name, texts=texts):
+                    found = leskwyn.compare(*texts, outgroup=name)
+                    self.assert_figures(found, first, second, name)
+                    self.assertEqual(found, leskwyn.compare(*texts, outgroup="'" + name.replace("'", "''") + "'"))
+                    differing = {key for key, value in found.as_dict().items() if value != figures[key]}
+                    self.assertLessEqual(differing, {"names", "outgroup", *TRIPLET_KEYS, "triplet_distance",
+                                                     "normalised_triplet_distance"})
+                    distances.add((case, found.triplet_distance))
+        self.assertGreater(len(distances), 30)
+
+    def test_triplets_of_a_caterpillar(self) -> None:
+        """Under the name at its one end, the name at the other end moves to the top: its C(98, 2) sets of three are parted
+        differently, and no other set changes."""
+        names = [f"t{i:02}" for i in range(100)]
+        moved = names[:1] + names[-1:] + names[1:-1]
+        texts = ["".join(f"({name}," for name in order[:-1]) + order[-1] + ")" * 99 + ";" for order in (names, moved)]
+        found = leskwyn.compare(*texts)
+        self.assertEqual(triplets_of(found), [math.comb(99, 3) - math.comb(98, 2), math.comb(98, 2), 0, 0, 0])
+        self.assertEqual((found.outgroup, found.sets_of_three), ("t00", math.comb(99, 3)))
 
     def test_caterpillars_of_200_levels(self) -> None:
         """One tip moved from one end to the other: it is in C(199, 3) sets of four, and no other set changes."""
@@ -156,6 +232,7 @@ class Figures(unittest.TestCase):
         for text in ("(A,B);", "(A,(B,C));"):
             found = leskwyn.compare(text, text)
             self.assertEqual((found.sets_of_four, found.normalised_distance), (0, 0.0))
+            self.assertEqual((found.sets_of_three, found.triplet_distance, found.normalised_triplet_distance), (0, 0, 0.0))
             self.assertEqual((found.robinson_foulds, found.normalised_robinson_foulds), (0, 0.0))
 
     @unittest.skipUnless(HAS_DENDROPY, "DendroPy is not installed")
@@ -262,6 +339,15 @@ class Listings(CommandTest):
                              cases_by_pairs(*pair))
             self.assertEqual([found.first_splits, found.second_splits, found.common_splits, found.robinson_foulds],
                              split_counts(*pair))
+            self.assertEqual([*triplets_of(found), found.triplet_distance], triplet_table(*pair))
+
+    def test_triplets(self) -> None:
+        """docs/SPECIFICATION.md, 'The figures K1 to K9', and pairs of documents 004 and 000 and of mixed shape."""
+        for t, u, *_, expected in REFERENCE_PAIRS + OUTSIDE_PAIRS:
+            found = api.compare_file("file", packed(t, u))
+            self.assertEqual((triplets_of(found), found.triplet_distance, found.sets_of_three),
+                             (expected, sum(expected[1:4]), sum(expected)))
+            self.assertEqual((found.outgroup, found.names), ("", ()))
 
     def test_large_files(self) -> None:
         """Too long for the program. The number tells what is wrong inside: never 9, never 14."""
@@ -281,13 +367,16 @@ class Listings(CommandTest):
             self.assertEqual(_library.work_cells(_library.words(t), _library.words(u)), cells)
 
     def test_256_tips(self) -> None:
-        of_four = math.comb(256, 4)
+        of_four, of_three = math.comb(256, 4), math.comb(255, 3)
         same = api.compare_file("file", packed(caterpillar(256), caterpillar(256)))
         self.assertEqual((same.same, same.distance, same.first_splits, same.common_splits), (of_four, 0, 253, 253))
+        self.assertEqual((triplets_of(same), same.triplet_distance), ([of_three, 0, 0, 0, 0], 0))
         other = api.compare_file("file", packed(caterpillar(256), star(256)))
         self.assertEqual((other.first_only, other.distance, other.robinson_foulds), (of_four, of_four, 253))
+        self.assertEqual((triplets_of(other), other.normalised_triplet_distance), ([0, 0, of_three, 0, 0], 1.0))
         open_both = api.compare_file("file", packed(star(256), star(256)))
         self.assertEqual((open_both.neither, open_both.normalised_distance), (of_four, 0.0))
+        self.assertEqual((triplets_of(open_both), open_both.normalised_triplet_distance), ([0, 0, 0, 0, of_three], 0.0))
 
 
 class Many(unittest.TestCase):
@@ -299,14 +388,26 @@ class Many(unittest.TestCase):
         self.texts = [written_tree(rng, tree) for tree in self.trees]
 
     def test_squares(self) -> None:
-        for measure, key in (("quartet", "distance"), ("splits", "robinson_foulds")):
+        figures = [[expected_figures(t, u) for u in self.trees] for t in self.trees]
+        for measure, key in (("quartet", "distance"), ("splits", "robinson_foulds"), ("triplets", "triplet_distance")):
             for normalised in (False, True):
                 name = f"normalised_{key}" if normalised else key
-                expected = [[expected_figures(t, u)[name] for u in self.trees] for t in self.trees]
+                expected = [[pair[name] for pair in row] for row in figures]
                 for jobs in (1, 2, 8, None):
                     found = leskwyn.matrix(self.texts, measure=measure, normalised=normalised, jobs=jobs)
                     self.assertEqual(found, expected)
                 self.assertIs(type(found[0][1]), float if normalised else int)
+
+    def test_outgroups(self) -> None:
+        squares = []
+        for outgroup in list(self.trees[0].name.values())[:4]:
+            expected = [[expected_figures(t, u, outgroup)["triplet_distance"] for u in self.trees] for t in self.trees]
+            squares.append(leskwyn.matrix(self.texts, measure="triplets", outgroup=outgroup))
+            self.assertEqual(squares[-1], expected)
+            rows = leskwyn.against(self.texts[0], self.texts[1:], outgroup=outgroup)
+            self.assertEqual([(row.outgroup, row.triplet_distance) for row in rows], [(outgroup, one) for one in expected[0][1:]])
+            self.assertEqual(leskwyn.matrix(self.texts, outgroup=outgroup), leskwyn.matrix(self.texts))
+        self.assertNotEqual(squares[0], squares[1])
 
     def test_large_squares(self) -> None:
         """Threads at once inside the library, with trees of many sizes of work."""
@@ -320,8 +421,9 @@ class Many(unittest.TestCase):
     def test_against(self) -> None:
         for jobs in (1, 2, 8):
             rows = leskwyn.against(self.texts[0], self.texts[1:], jobs=jobs)
-            self.assertEqual([row.distance for row in rows],
-                             [expected_figures(self.trees[0], tree)["distance"] for tree in self.trees[1:]])
+            expected = [expected_figures(self.trees[0], tree) for tree in self.trees[1:]]
+            self.assertEqual([(row.distance, row.triplet_distance) for row in rows],
+                             [(one["distance"], one["triplet_distance"]) for one in expected])
             self.assertEqual({row.first for row in rows}, {"the reference"})
             self.assertEqual([row.second for row in rows], [f"tree {at}" for at in range(1, 9)])
 
@@ -521,6 +623,29 @@ class Given(unittest.TestCase):
                 cases[(0 if a == b else 1) if a and b else 2 if a else 3 if b else 4] += 1
             self.assertEqual([found.same, found.different, found.first_only, found.second_only, found.neither], cases)
 
+    def test_outgroups_that_are_no_tips(self) -> None:
+        pair = ["(a_b,'c_d',(e,f));", "(a_b,(c_d,e),f);"]
+        for outgroup in ("x", "", "c d", "a_b ", "A b"):
+            with self.assertRaisesRegex(leskwyn.Refusal, "the trees have different tips"):
+                leskwyn.compare(*pair, outgroup=outgroup)
+            with self.assertRaisesRegex(leskwyn.Refusal, f"the outgroup '{outgroup}' is not a tip of every tree"):
+                leskwyn.compare(*pair, common=True, outgroup=outgroup)
+        for outgroup in ("a b", "a_b", "'a b'"):
+            self.assertEqual(leskwyn.compare(*pair, common=True, outgroup=outgroup).names, ("a b", "e", "f"))
+        with self.assertRaisesRegex(leskwyn.Refusal, "'M\u00f6we' differs only in Unicode form"):
+            leskwyn.compare("(M\u00f6we,B);", "(B,M\u00f6we);", outgroup="Mo\u0308we")
+        for call in (lambda: leskwyn.against("(A,B);", ["(A,B);"], outgroup="C"), lambda: leskwyn.matrix(["(A,B);"], outgroup="C")):
+            with self.assertRaisesRegex(leskwyn.Refusal, "the outgroup 'C' is not a tip"):
+                call()
+        with self.assertRaisesRegex(leskwyn.Refusal, "p-q.bin is a comparison file, without names: its outgroup is label 0"):
+            leskwyn.compare(ROOT / "examples" / "p-q.bin", outgroup="1")
+
+    def test_names_with_blanks_and_underscores(self) -> None:
+        """The outgroup is the name that is given, if a tip has it, before the word that it is in Newick text."""
+        text = "('a_b',a_b,(c,d));"
+        for outgroup, name in (("a_b", "a_b"), ("a b", "a b"), ("'a_b'", "a_b")):
+            self.assertEqual(leskwyn.compare(text, text, outgroup=outgroup).outgroup, name)
+
     def test_common_of_larger_trees(self) -> None:
         many = [f"t{i}" for i in range(1000)]
         nested = "".join(f"({name}," for name in many[900:]) + "x" + ")" * 100 + ";"
@@ -538,6 +663,7 @@ class Answers(unittest.TestCase):
         self.assertEqual(json.loads(json.dumps(found.as_dict()))["names"], list(found.names))
         self.assertEqual(sum([found.same, found.different, found.first_only, found.second_only, found.neither]),
                          found.sets_of_four)
+        self.assertEqual((found.outgroup, sum(triplets_of(found))), (found.names[0], found.sets_of_three))
 
     def test_errors(self) -> None:
         with tempfile.NamedTemporaryFile() as file:

@@ -281,7 +281,7 @@ class Commands(TableTest):
     def test_wrong_usage(self) -> None:
         before = self.contents()
         for arguments in ((), ("a", "b", "c"), ("-", "-"), ("both.nwk", "--wrong"), ("both.nwk", "-o"), ("",),
-                          ("-", "--names", "-"), ("both.nwk", "--show"),
+                          ("-", "--names", "-"), ("both.nwk", "--show"), ("both.nwk", "--names", "names", "--outgroup", "A"),
                           ("both.nwk", "--list", "-"), ("both.nwk", "--list", "b", "--quiet"), ("both.nwk", "-o", ""),
                           ("both.nwk", "-o", "both.nwk"), ("first.nwk", "second.nwk", "--list", "./second.nwk"),
                           ("both.nwk", "-o", "a", "--list", "./a"), ("first.nwk", "-", "--quie")):
@@ -295,7 +295,7 @@ class Commands(TableTest):
     def test_help(self) -> None:
         done = self.run_command("--help")
         self.assertEqual((done.returncode, done.stderr), (0, b""))
-        for word in (b"examples:", b"table both.nwk -o pair.bin", b"--names", b"--list", b"--quiet", b"--common"):
+        for word in (b"examples:", b"table both.nwk -o pair.bin", b"--names", b"--outgroup", b"--list", b"--quiet", b"--common"):
             self.assertIn(word, done.stdout)
 
     def test_no_bytes_to_a_terminal(self) -> None:
@@ -335,6 +335,16 @@ class Labels(TableTest):
         tables = self.converted("(0,(1,(2,(3,4))));(0,1,(2,3,4));", "--names", self.file("names", "4\n3\n2\n1\n0\n"))
         self.assertEqual(edge_sets(tables[0]), edge_sets(P))
         self.assertEqual(table_splits(tables[1]), splits_from([[3, 4]], range(5)))
+
+    def test_an_outgroup_before_the_sorted_names(self) -> None:
+        for outgroup in ("B_b", "B b", "'B b'"):
+            done = self.run_command("-", "--outgroup", outgroup, stdin="(A,B_b,(C,D));(('B b',C),A,D);")
+            self.assertEqual((done.returncode, done.stderr), (0, b"0\tB b\n1\tA\n2\tC\n3\tD\n"))
+        tables = self.converted("(0,(1,(2,(3,4))));(0,1,(2,3,4));", "--outgroup", "4")
+        # 4 is 0, so that 0 to 3 are 1 to 4.
+        self.assertEqual([table_splits(table) for table in tables],
+                         [splits_from([[0, 4], [0, 3, 4]], range(5)), splits_from([[0, 3, 4]], range(5))])
+        self.assert_refused(["-", "--outgroup", "E"], "the outgroup 'E' is not a tip of every tree", stdin="(A,B);(A,B);")
 
     def test_names_from_standard_input(self) -> None:
         self.file("both.nwk", "(A,B,C);(C,B,A);")

@@ -29,8 +29,13 @@ class SplitCounts(ctypes.Structure):
     _fields_ = [("refusal", ctypes.c_uint16), *((name, ctypes.c_uint64) for name in ("first", "second", "common", "distance"))]
 
 
-Answer = typing.TypeVar("Answer", ClaimSums, QuartetTable, SplitCounts)
-PAIR_CALLS = {"leskwyn_claim_sums": ClaimSums, "leskwyn_quartet_table": QuartetTable, "leskwyn_split_counts": SplitCounts}
+class TripletTable(ctypes.Structure):
+    _fields_ = [("refusal", ctypes.c_uint16), *((name, ctypes.c_uint64) for name in ("a", "b", "c", "d", "e", "distance"))]
+
+
+Answer = typing.TypeVar("Answer", ClaimSums, QuartetTable, SplitCounts, TripletTable)
+PAIR_CALLS = {"leskwyn_claim_sums": ClaimSums, "leskwyn_quartet_table": QuartetTable, "leskwyn_split_counts": SplitCounts,
+              "leskwyn_triplet_table": TripletTable}
 
 
 class Words(typing.NamedTuple):
@@ -104,3 +109,8 @@ def quartet_table(first: Words, second: Words, lent: Cells) -> QuartetTable:
 def split_counts(first: Words, second: Words, lent: Cells) -> SplitCounts:
     """The splits of each tree, those of both, and the Robinson-Foulds distance, or a refusal."""
     return ask("leskwyn_split_counts", SplitCounts, first, second, lent)
+
+
+def triplet_table(first: Words, second: Words, lent: Cells) -> TripletTable:
+    """The five counts A to E of sets of three without the outgroup, label 0, and the triplet distance, or a refusal."""
+    return ask("leskwyn_triplet_table", TripletTable, first, second, lent)

@@ -5,19 +5,21 @@ from leskwyn import _library, counting, files
 from leskwyn.counting import Number
 from leskwyn.errors import Refusal
 from leskwyn.figures import Comparison
+from leskwyn.labels import outgroup_first
 from leskwyn.sources import Given, is_comparison_file, named_file, trees_given, trees_of_bytes
 from leskwyn.tables import tables_of_file
 from leskwyn.trees import Placed, checked, labels_of_names, pruned, table_of
 
 
-def compare(a: Given, b: Given = None, *, common: bool = False) -> Comparison:
+def compare(a: Given, b: Given = None, *, common: bool = False, outgroup: str | None = None) -> Comparison:
     """The figures of two trees, as a Comparison.
 
     Each of `a` and `b` is Newick text, the path of a Newick or NEXUS file (an os.PathLike, or a str that names a file that
     is there), or a tree object of DendroPy or ETE. Without `b`, `a` holds both trees, or is the path of a comparison file.
 
     The trees have 2 to 256 tips, with the same names. With `common` each is cut down to the names that both have. Where a
-    tree has its root plays no part, and neither do branch lengths.
+    tree has its root plays no part, and neither do branch lengths. The triplets take the name `outgroup` for the outgroup,
+    by default the first of the sorted names; no other figure depends on it.
 
     Raises Refusal for trees that are turned away, and Trouble for a file that cannot be read; both have `number` and
     `reason`.
@@ -26,51 +28,56 @@ def compare(a: Given, b: Given = None, *, common: bool = False) -> Comparison:
         1
     """
     if b is not None:
-        return compare_trees(*trees_given(a, "the first tree", 1), *trees_given(b, "the second tree", 1), common)
+        trees = trees_given(a, "the first tree", 1) + trees_given(b, "the second tree", 1)
+        return compare_trees(*trees, common=common, outgroup=outgroup)
     path = named_file(a)
     if path is None:
-        return compare_trees(*trees_given(a, "the text", 2), common)
+        return compare_trees(*trees_given(a, "the text", 2), common=common, outgroup=outgroup)
     content = files.read_bytes(path)
-    if is_comparison_file(content):
-        return compare_file(path, content)
-    return compare_trees(*trees_of_bytes(path, content, 2), common)
+    if not is_comparison_file(content):
+        return compare_trees(*trees_of_bytes(path, content, 2), common=common, outgroup=outgroup)
+    if outgroup is not None:
+        raise Refusal(f"{path} is a comparison file, without names: its outgroup is label 0")
+    return compare_file(path, content)
 
 
-def against(reference: Given, trees: Iterable[Given], *, common: bool = False, jobs: int | None = None) -> list[Comparison]:
+def against(reference: Given, trees: Iterable[Given], *, common: bool = False, jobs: int | None = None,
+            outgroup: str | None = None) -> list[Comparison]:
     """The figures of one tree against each of many, in their order; the reference is the first tree of each Comparison.
 
     A tree is given as to compare; a file or a text may hold several. `jobs` is the number of threads, by default one for
-    each processor.
+    each processor. `outgroup` is as for compare.
     """
     held = trees_given(reference, "the reference", 1) + all_trees(trees)
-    held, names = same_names(held, common)
+    held, names = same_names(held, common, outgroup)
     labels = labels_of_names(names)
     placed = [(tree.place, table_of(tree.tree, labels)) for tree in held]
     return counting.compared_to_one(placed[0], placed[1:], names, threads(jobs))
 
 
 def matrix(trees: Iterable[Given], *, measure: str = "quartet", normalised: bool = False, common: bool = False,
-           jobs: int | None = None) -> list[list[Number]]:
+           jobs: int | None = None, outgroup: str | None = None) -> list[list[Number]]:
     """The distances of all pairs of trees: a square of numbers, row i and column j for the trees i and j.
 
-    A tree is given as to compare; a file or a text may hold several. `measure` is 'quartet' for the quartet distance or
-    'splits' for the Robinson-Foulds distance; with `normalised` it is divided by all sets of four, or by the splits of both
-    trees. `jobs` is the number of threads, by default one for each processor.
+    A tree is given as to compare; a file or a text may hold several. `measure` is 'quartet' for the quartet distance,
+    'splits' for the Robinson-Foulds distance or 'triplets' for the triplet distance; with `normalised` it is divided by all
+    sets of four, by the splits of both trees, or by all sets of three without the outgroup. `jobs` is the number of threads,
+    by default one for each processor. `outgroup` is as for compare.
 
         >>> leskwyn.matrix(["((a,b),(c,d));", "((a,c),(b,d));", "(a,b,c,d);"])
         [[0, 1, 1], [1, 0, 1], [1, 1, 0]]
     """
     if measure not in counting.MEASURES:
         raise ValueError(f"measure is {measure!r}, not one of {', '.join(map(repr, counting.MEASURES))}")
-    held, names = same_names(all_trees(trees), common)
+    held, names = same_names(all_trees(trees), common, outgroup)
     labels = labels_of_names(names)
     return counting.distances([table_of(tree.tree, labels) for tree in held], measure, normalised, threads(jobs))
 
 
 # ---- what these share with the commands
 
-def compare_trees(first: Placed, second: Placed, common: bool = False) -> Comparison:
-    (first, second), names = same_names([first, second], common)
+def compare_trees(first: Placed, second: Placed, *, common: bool = False, outgroup: str | None = None) -> Comparison:
+    (first, second), names = same_names([first, second], common, outgroup)
     labels = labels_of_names(names)
     tables = [_library.words(table_of(placed.tree, labels)) for placed in (first, second)]
     return counting.compared((first.place, second.place), tables[0], tables[1], names)
@@ -92,12 +99,12 @@ def all_trees(trees: Iterable[Given]) -> list[Placed]:
     return [placed for at, given in enumerate(trees, 1) for placed in trees_given(given, f"tree {at}", None)]
 
 
-def same_names(trees: Sequence[Placed], common: bool) -> tuple[list[Placed], list[str]]:
-    """The trees, cut down to the names that all have if that is wanted, and their sorted names."""
+def same_names(trees: Sequence[Placed], common: bool, outgroup: str | None) -> tuple[list[Placed], list[str]]:
+    """The trees, cut down to the names that all have if that is wanted, and their names in the order of the labels."""
     if not trees:
         return [], []
     held = pruned(trees).trees if common else list(trees)
-    return held, checked(held)
+    return held, outgroup_first(checked(held), outgroup)
 
 
 def threads(jobs: int | None) -> int:

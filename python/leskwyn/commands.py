@@ -15,9 +15,10 @@ from leskwyn._library import TOP
 from leskwyn.api import compare_file, compare_trees
 from leskwyn.errors import LeskwynError, Refusal, Trouble
 from leskwyn.figures import Comparison
+from leskwyn.labels import outgroup_first
 from leskwyn.sources import is_comparison_file, trees_of_bytes, trees_of_path
 from leskwyn.trees import Placed, checked, labels_of_names, table_of
-from leskwyn.usage import Parser, ProgressLine, Usage, add_common, add_jobs, with_common
+from leskwyn.usage import Parser, ProgressLine, Usage, add_common, add_jobs, add_outgroup, with_common
 
 HELP = """\
 usage: leskwyn COMMAND [OPTION...] [FILE...]
@@ -47,7 +48,8 @@ exit status: 0 done; 1 refused; 2 wrong usage, a file that cannot be read or wri
 # ---- compare
 
 def compare_parser() -> Parser:
-    parser = Parser("compare", usage="leskwyn compare [A [B]] [--format text|tsv|json | --listing] [--common] [--tables]",
+    parser = Parser("compare", usage="leskwyn compare [A [B]] [--format text|tsv|json | --listing] [--outgroup NAME] [--common] "
+                                     "[--tables]",
                     description="Compares two trees: each in a Newick file, both in one, or as one comparison file.",
                     epilog="Without a file the two example trees are compared. docs/COMMANDS.md has the keys of tsv and json.\n"
                            + STATUS)
@@ -56,33 +58,36 @@ def compare_parser() -> Parser:
     forms.add_argument("--format", choices=["text", "tsv", "json"], default="text", help="for people, or for programs")
     forms.add_argument("--listing", dest="format", action="store_const", const="listing",
                        help="the five lines of the proved program compare, or 'refused N'")
+    add_outgroup(parser)
     add_common(parser)
     parser.add_argument("--tables", action="store_true", help="take the one file for a comparison file, whatever its bytes")
     return parser
 
 
-def example_trees() -> Comparison:
+def example_trees(outgroup: str | None) -> Comparison:
     paths = [os.path.join(TOP, name) for name in EXAMPLES]
     if not all(map(os.path.isfile, paths)):
         raise Trouble(f"the example trees {' and '.join(EXAMPLES)} are not in {TOP}: name two files")
     files.say_line(f"these are the example trees {' and '.join(EXAMPLES)}; `leskwyn compare A B` compares your own")
     trees = [Placed(name, placed.tree) for name, path in zip(EXAMPLES, paths) for placed in trees_of_path(path, 1)]
-    return compare_trees(*trees)
+    return compare_trees(*trees, outgroup=outgroup)
 
 
-def one_file(path: str, common: bool, tables: bool) -> Comparison:
+def one_file(path: str, options: argparse.Namespace) -> Comparison:
     """The figures of a file that holds both trees."""
     place, content = files.shown_path(path), files.read_bytes(path)
-    if not tables and not is_comparison_file(content):
-        return compare_trees(*with_common(trees_of_bytes(place, content, 2), common))
-    if common:
+    if not options.tables and not is_comparison_file(content):
+        return compare_trees(*with_common(trees_of_bytes(place, content, 2), options.common), outgroup=options.outgroup)
+    if options.common:
         compare_parser().error("--common goes by names, and a comparison file has none")
+    if options.outgroup is not None:
+        compare_parser().error("--outgroup goes by names, and a comparison file has none: its outgroup is label 0")
     return compare_file(place, content)
 
 
-def two_files(paths: list[str], common: bool) -> Comparison:
+def two_files(paths: list[str], options: argparse.Namespace) -> Comparison:
     trees = [placed for path in paths for placed in trees_of_path(path, 1)]
-    return compare_trees(*with_common(trees, common))
+    return compare_trees(*with_common(trees, options.common), outgroup=options.outgroup)
 
 
 def compare_options(arguments: list[str]) -> argparse.Namespace:
@@ -97,9 +102,9 @@ def compare_options(arguments: list[str]) -> argparse.Namespace:
 def compare_command(options: argparse.Namespace) -> int:
     try:
         if len(options.trees) == 1:
-            found = one_file(options.trees[0], options.common, options.tables)
+            found = one_file(options.trees[0], options)
         else:
-            found = two_files(options.trees, options.common) if options.trees else example_trees()
+            found = two_files(options.trees, options) if options.trees else example_trees(options.outgroup)
     except Refusal as refusal:
         if options.format == "listing" and refusal.number is not None:
             files.print_text(f"refused {refusal.number}\n")
@@ -124,16 +129,18 @@ def told_apart(places: list[str]) -> list[str]:
 
 
 def matrix_parser() -> Parser:
-    parser = Parser("matrix", usage="leskwyn matrix FILE... [--measure quartet|splits] [--normalised] [--format tsv|phylip] "
-                                    "[--jobs N] [--common]",
+    parser = Parser("matrix", usage="leskwyn matrix FILE... [--measure quartet|splits|triplets] [--normalised] "
+                                    "[--format tsv|phylip] [--jobs N] [--outgroup NAME] [--common]",
                     description="Compares all pairs of trees; a file may hold several.",
                     epilog="A tree is told by its file, and as FILE#K where a file holds several.\n" + STATUS)
     parser.add_argument("trees", nargs="*", metavar="FILE", help="Newick files; - is standard input")
     parser.add_argument("--measure", choices=sorted(counting.MEASURES), default="quartet",
-                        help="the quartet distance, or the Robinson-Foulds distance of splits")
-    parser.add_argument("--normalised", action="store_true", help="over all sets of four, or over the splits of both trees")
+                        help="the quartet distance, the Robinson-Foulds distance of splits, or the triplet distance")
+    parser.add_argument("--normalised", action="store_true", help="over all sets of four, over the splits of both trees, or "
+                                                                  "over all sets of three without the outgroup")
     parser.add_argument("--format", choices=sorted(text.SQUARES), default="tsv", help="a table, or PHYLIP's square")
     add_jobs(parser)
+    add_outgroup(parser)
     add_common(parser)
     return parser
 
@@ -148,8 +155,11 @@ def matrix_options(arguments: list[str]) -> argparse.Namespace:
 
 def matrix_command(options: argparse.Namespace) -> int:
     trees = with_common(read_all(options.trees), options.common)
-    labels = labels_of_names(checked(trees))
+    names = outgroup_first(checked(trees), options.outgroup)
+    labels = labels_of_names(names)
     tables = [table_of(placed.tree, labels) for placed in trees]
+    if options.measure == "triplets" and options.outgroup is None:
+        files.say_line(f"the outgroup is {text.told_outgroup(names)}")
     with ProgressLine(len(trees) * (len(trees) - 1) // 2) as progress:
         square = counting.distances(tables, options.measure, options.normalised, options.jobs or counting.default_jobs(),
                                     progress)
@@ -158,12 +168,13 @@ def matrix_command(options: argparse.Namespace) -> int:
 
 
 def against_parser() -> Parser:
-    parser = Parser("against", usage="leskwyn against REF FILE... [--format tsv|json] [--jobs N] [--common]",
+    parser = Parser("against", usage="leskwyn against REF FILE... [--format tsv|json] [--jobs N] [--outgroup NAME] [--common]",
                     description="Compares one tree with each of many; a file may hold several, but REF holds one.",
                     epilog="REF is the first tree of each row. docs/COMMANDS.md has the keys of tsv and json.\n" + STATUS)
     parser.add_argument("trees", nargs="*", metavar="FILE", help="REF, then Newick files; - is standard input")
     parser.add_argument("--format", choices=["tsv", "json"], default="tsv", help="rows, or an object on each line")
     add_jobs(parser)
+    add_outgroup(parser)
     add_common(parser)
     return parser
 
@@ -178,7 +189,7 @@ def against_options(arguments: list[str]) -> argparse.Namespace:
 
 def against_command(options: argparse.Namespace) -> int:
     trees = with_common(trees_of_path(options.trees[0], 1) + read_all(options.trees[1:]), options.common)
-    names = checked(trees)
+    names = outgroup_first(checked(trees), options.outgroup)
     labels = labels_of_names(names)
     tables = [(placed.place, table_of(placed.tree, labels)) for placed in trees]
     with ProgressLine(len(trees) - 1) as progress:

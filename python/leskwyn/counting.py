@@ -29,12 +29,15 @@ def compared(places: tuple[str, str], first: Words, second: Words, names: Sequen
     refused(quartets.refusal, first, second)
     claims = _library.claim_sums(first, second, lent)
     splits = _library.split_counts(first, second, lent)
+    triplets = _library.triplet_table(first, second, lent)
     return Comparison(
         first=places[0], second=places[1], tips=first.cells[0], names=tuple(names),
         same=quartets.a, different=quartets.b, first_only=quartets.c, second_only=quartets.d, neither=quartets.e,
         distance=quartets.distance, first_splits=splits.first, second_splits=splits.second, common_splits=splits.common,
         robinson_foulds=splits.distance, first_claims=claims.first, second_claims=claims.second, same_claims=claims.same,
-        different_claims=claims.different)
+        different_claims=claims.different, same_triplets=triplets.a, different_triplets=triplets.b,
+        first_only_triplets=triplets.c, second_only_triplets=triplets.d, neither_triplets=triplets.e,
+        triplet_distance=triplets.distance)
 
 
 # ---- one distance
@@ -51,7 +54,13 @@ def splits_distance(first: Words, second: Words, lent: Cells, over_all: bool) ->
     return normalised(counts.distance, counts.first + counts.second) if over_all else counts.distance
 
 
-MEASURES = {"quartet": quartet_distance, "splits": splits_distance}
+def triplet_distance(first: Words, second: Words, lent: Cells, over_all: bool) -> Number:
+    table = _library.triplet_table(first, second, lent)
+    refused(table.refusal, first, second)
+    return normalised(table.distance, comb(first.cells[0] - 1, 3)) if over_all else table.distance
+
+
+MEASURES = {"quartet": quartet_distance, "splits": splits_distance, "triplets": triplet_distance}
 
 
 # ---- many pairs

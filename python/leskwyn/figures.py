@@ -6,10 +6,12 @@ from math import comb
 
 @dataclasses.dataclass(frozen=True)
 class Comparison:
-    """Two trees on the same tips, counted against each other by every set of four tips.
+    """Two trees on the same tips, counted against each other by every set of four tips, and by every set of three under an
+    outgroup.
 
-    A tree parts four tips two and two if one of its edges has two of them on each side; else it leaves them open. The letters
-    are those of the field.
+    A tree parts four tips two and two if one of its edges has two of them on each side; else it leaves them open. It parts
+    three tips two and one if one of its edges has two of them on one side, and the third with the outgroup on the other: if
+    the lowest common ancestor of the two is not an ancestor of the third. The letters are those of the field.
 
     first, second          where the trees come from, in words
     tips                   n, how many populations the trees have
@@ -28,8 +30,15 @@ class Comparison:
     same_claims            S2 = 2 A
     different_claims       S3 = 4 B
     names                  the tips' names in the order of their labels; empty for a comparison file, which has none
+    same_triplets          A: sets of three without the outgroup that both trees part in the same way
+    different_triplets     B: that the two trees part in different ways
+    first_only_triplets    C: that only the first tree parts
+    second_only_triplets   D: that only the second tree parts
+    neither_triplets       E: that both trees leave open
+    triplet_distance       the triplet distance, B + C + D of these
 
-    sets_of_four, normalised_distance and normalised_robinson_foulds follow from these.
+    sets_of_four, normalised_distance, normalised_robinson_foulds, outgroup, sets_of_three and normalised_triplet_distance
+    follow from these.
     """
 
     first: str
@@ -50,6 +59,12 @@ class Comparison:
     same_claims: int
     different_claims: int
     names: tuple[str, ...] = dataclasses.field(default=(), repr=False)
+    same_triplets: int = dataclasses.field(kw_only=True)
+    different_triplets: int = dataclasses.field(kw_only=True)
+    first_only_triplets: int = dataclasses.field(kw_only=True)
+    second_only_triplets: int = dataclasses.field(kw_only=True)
+    neither_triplets: int = dataclasses.field(kw_only=True)
+    triplet_distance: int = dataclasses.field(kw_only=True)
 
     @property
     def sets_of_four(self) -> int:
@@ -66,6 +81,21 @@ class Comparison:
         """The Robinson-Foulds distance over the splits of both trees, from 0 to 1; 0.0 where neither has a split."""
         return normalised(self.robinson_foulds, self.first_splits + self.second_splits)
 
+    @property
+    def outgroup(self) -> str:
+        """The name that the triplets take for the outgroup, that of label 0; empty for a comparison file, which has no names."""
+        return self.names[0] if self.names else ""
+
+    @property
+    def sets_of_three(self) -> int:
+        """All sets of three tips without the outgroup: A + B + C + D + E of the triplets."""
+        return comb(self.tips - 1, 3)
+
+    @property
+    def normalised_triplet_distance(self) -> float:
+        """The triplet distance over all sets of three, from 0 to 1; 0.0 where there is no set of three."""
+        return normalised(self.triplet_distance, self.sets_of_three)
+
     def listing(self) -> str:
         """The five lines that the proved program compare prints."""
         return (f"leaves {self.tips}\n"
@@ -75,8 +105,8 @@ class Comparison:
                 f"splits {self.first_splits} {self.second_splits} {self.common_splits} {self.robinson_foulds}\n")
 
     def as_dict(self) -> dict[str, typing.Any]:
-        """All figures under their names, in the order of the TSV columns, and the names of the tips as a list."""
-        return {**{column: getattr(self, column) for column in COLUMNS}, "names": list(self.names)}
+        """All figures under their names, in the order of docs/COMMANDS.md; the names of the tips are a list."""
+        return {key: getattr(self, key) for key in KEYS} | {"names": list(self.names)}
 
 
 def normalised(part: int, whole: int) -> float:
@@ -84,6 +114,10 @@ def normalised(part: int, whole: int) -> float:
     return part / whole if whole else 0.0
 
 
-COLUMNS = ("first", "second", "tips", "sets_of_four", "same", "different", "first_only", "second_only", "neither", "distance",
-           "normalised_distance", "first_splits", "second_splits", "common_splits", "robinson_foulds",
-           "normalised_robinson_foulds", "first_claims", "second_claims", "same_claims", "different_claims")
+# In the order of docs/COMMANDS.md, where a new key comes last; a TSV row has all but the names.
+KEYS = ("first", "second", "tips", "sets_of_four", "same", "different", "first_only", "second_only", "neither", "distance",
+        "normalised_distance", "first_splits", "second_splits", "common_splits", "robinson_foulds",
+        "normalised_robinson_foulds", "first_claims", "second_claims", "same_claims", "different_claims", "names", "outgroup",
+        "sets_of_three", "same_triplets", "different_triplets", "first_only_triplets", "second_only_triplets",
+        "neither_triplets", "triplet_distance", "normalised_triplet_distance")
+COLUMNS = tuple(key for key in KEYS if key != "names")

@@ -1,14 +1,26 @@
-"""Lists of labels: 'label TAB name' lines, and orders of names that are read back."""
+"""Labels of names: which name is the outgroup, and lists of labels, 'label TAB name' lines, that are read back."""
 import re
 
 from leskwyn import files
-from leskwyn.errors import Refusal, some_of
+from leskwyn.errors import Refusal, quoted, some_of
+from leskwyn.newick import name_of_word
 from leskwyn.trees import form_hint, repeated
 
 LABEL_LINE = re.compile(r"([0-9]+)\t(.*)", re.DOTALL)
 ESCAPES = {"\\": "\\\\", "\r": "\\r", "\n": "\\n"}
 ESCAPED = re.compile(r"\\([\\rn])")
 PLAIN = {"\\": "\\", "r": "\r", "n": "\n"}
+
+
+def outgroup_first(names: list[str], outgroup: str | None) -> list[str]:
+    """The names in the order of their labels: the outgroup, if one is wanted, and then the others as they stand. It is told by
+    its name, or by the word that stands for it in Newick text."""
+    if outgroup is None:
+        return names
+    found = next((name for name in (outgroup, name_of_word(outgroup)) if name in names), None)
+    if found is None:
+        raise Refusal(f"the outgroup {quoted(outgroup)} is not a tip of every tree{form_hint([outgroup], names)}")
+    return [found] + [name for name in names if name != found]
 
 
 def label_list(names: list[str]) -> str:

@@ -6,11 +6,11 @@ import stat
 
 from leskwyn import files
 from leskwyn.errors import Refusal, counted, one_line
-from leskwyn.labels import label_list, names_in_order, order_of_tips
+from leskwyn.labels import label_list, names_in_order, order_of_tips, outgroup_first
 from leskwyn.sources import trees_of_path
 from leskwyn.tables import COMPARE_BYTES, ORDINALS, broken_rule, cut, file_bytes, file_words, newick_text
 from leskwyn.trees import INNER, Placed, Table, checked, labels_of_names, table_of
-from leskwyn.usage import Parser, add_common, with_common
+from leskwyn.usage import Parser, add_common, add_outgroup, with_common
 
 TABLE_EPILOG = """\
 examples:
@@ -22,8 +22,9 @@ examples:
 
 labels:
   Both trees need the same tips. A tip's label is its place among the sorted names, or in the list of --names, from 0.
-  Label 0 is the outgroup. The list of labels has one line for each tip: label, TAB, name; in a name a line break is
-  written \\n or \\r there, and a backslash twice. --names takes such a list back.
+  Label 0 is the outgroup: --outgroup puts a name before the sorted others. The list of labels has one line for each tip:
+  label, TAB, name; in a name a line break is written \\n or \\r there, and a backslash twice. --names takes such a list
+  back.
 
 Newick:
   Each tree ends with ';'. Names in '...' or "..." hold any text, a quote inside being written twice. In a name without
@@ -41,14 +42,17 @@ def say_if_long(size: int) -> None:
 # ---- table
 
 def table_parser() -> Parser:
-    parser = Parser("table", usage="leskwyn table FIRST SECOND [-o OUT] [--names FILE] [--list FILE | --quiet] [--common]\n"
-                                   "       leskwyn table BOTH [-o OUT] [--names FILE] [--list FILE | --quiet] [--common]",
+    parser = Parser("table", usage="leskwyn table FIRST SECOND [-o OUT] [--names FILE | --outgroup NAME] [--list FILE | --quiet] "
+                                   "[--common]\n"
+                                   "       leskwyn table BOTH [-o OUT] [--names FILE | --outgroup NAME] [--list FILE | --quiet] "
+                                   "[--common]",
                     description="Turns two Newick trees into a comparison file.", epilog=TABLE_EPILOG)
     parser.add_argument("trees", nargs="*", metavar="FILE",
                         help="two files of one tree each, or one file of two trees; - is standard input")
     parser.add_argument("-o", dest="output", metavar="OUT", help="where the comparison file goes; else standard output")
     parser.add_argument("--names", metavar="FILE", help="the tips in the order of their labels, one name a line, the "
                                                         "outgroup first, or a list of labels; else sorted by code point")
+    add_outgroup(parser)
     parser.add_argument("--list", metavar="FILE", help="where the list of labels goes; else standard error")
     parser.add_argument("--quiet", action="store_true", help="no list of labels")
     add_common(parser)
@@ -78,6 +82,8 @@ def wrong_usage(options: argparse.Namespace) -> str:
         return f"{counted(len(options.trees), 'tree file')}; one or two are needed"
     if reads.count("-") > 1:
         return "standard input can be read only once"
+    if options.names is not None and options.outgroup is not None:
+        return "--names and --outgroup exclude each other: the first name of a list is the outgroup"
     if options.list is not None and (options.quiet or options.list == "-"):
         return "--list and --quiet exclude each other" if options.quiet else "--list needs a file"
     if len(writes) == 2 and files.same_file(*writes) and not files.is_device(writes[0]):
@@ -103,7 +109,7 @@ def table_command(arguments: list[str]) -> int:
     if fault:
         parser.error(fault)
     trees = with_common(two_trees(options.trees), options.common)
-    names = checked(trees)
+    names = outgroup_first(checked(trees), options.outgroup)
     if options.names is not None:
         names = order_of_tips(options.names, names)
     labels = labels_of_names(names)

@@ -5,9 +5,8 @@ from leskwyn.counting import Number
 from leskwyn.errors import one_line
 from leskwyn.figures import COLUMNS, Comparison
 
-CASES = [("A", "parted alike by both trees", "same"), ("B", "parted differently", "different"),
-         ("C", "parted by the first tree only", "first_only"), ("D", "parted by the second tree only", "second_only"),
-         ("E", "left open by both trees", "neither")]
+CASES = [("A", "parted alike by both trees"), ("B", "parted differently"), ("C", "parted by the first tree only"),
+         ("D", "parted by the second tree only"), ("E", "left open by both trees")]
 WIDTH = 36
 
 
@@ -19,23 +18,52 @@ def share(part: int, whole: int) -> str:
     return f"{100 * part / whole:.1f} %" if whole else "none"
 
 
-def for_people(c: Comparison) -> str:
-    """The figures with their names, one a line."""
-    of_four = c.sets_of_four
-    cases = "".join(row(f"  {letter}  {name}", str(getattr(c, field)), f"{share(getattr(c, field), of_four):>7}")
-                    for letter, name, field in CASES)
-    splits = c.first_splits + c.second_splits
-    return (f"first tree: {one_line(c.first)}\nsecond tree: {one_line(c.second)}\n\n"
-            + row("populations", str(c.tips)) + row("sets of four", str(of_four)) + cases
+def case_rows(counts: Sequence[int]) -> str:
+    """The five cases, each with its share of all sets."""
+    return "".join(row(f"  {letter}  {name}", str(count), f"{share(count, sum(counts)):>7}")
+                   for (letter, name), count in zip(CASES, counts, strict=True))
+
+
+def quartets_for_people(c: Comparison) -> str:
+    return (row("sets of four", str(c.sets_of_four))
+            + case_rows([c.same, c.different, c.first_only, c.second_only, c.neither])
             + row("distance", str(c.distance), "B + C + D")
             + row("normalised distance", f"{c.normalised_distance:.4f}",
-                  "distance / sets of four" if of_four else "there are no sets of four")
-            + "\n"
-            + row("splits of the first tree", str(c.first_splits)) + row("splits of the second tree", str(c.second_splits))
+                  "distance / sets of four" if c.sets_of_four else "there are no sets of four"))
+
+
+def splits_for_people(c: Comparison) -> str:
+    return (row("splits of the first tree", str(c.first_splits)) + row("splits of the second tree", str(c.second_splits))
             + row("splits of both", str(c.common_splits))
             + row("Robinson-Foulds distance", str(c.robinson_foulds), "splits of one tree only")
             + row("normalised Robinson-Foulds", f"{c.normalised_robinson_foulds:.4f}",
-                  "distance / splits of the first and the second" if splits else "neither tree has a split"))
+                  "distance / splits of the first and the second" if c.first_splits + c.second_splits else
+                  "neither tree has a split"))
+
+
+def told_outgroup(names: Sequence[str]) -> str:
+    """The outgroup in words, of the names in the order of their labels."""
+    if not names:
+        return "label 0"
+    hint = ", the first of the sorted names; --outgroup NAME takes another"
+    return one_line(names[0]) + (hint if names[0] == min(names) else "")
+
+
+def triplets_for_people(c: Comparison) -> str:
+    return (f"outgroup: {told_outgroup(c.names)}\n"
+            + row("sets of three without the outgroup", str(c.sets_of_three))
+            + case_rows([c.same_triplets, c.different_triplets, c.first_only_triplets, c.second_only_triplets,
+                         c.neither_triplets])
+            + row("triplet distance", str(c.triplet_distance), "B + C + D")
+            + row("normalised triplet distance", f"{c.normalised_triplet_distance:.4f}",
+                  "distance / sets of three" if c.sets_of_three else "there are no sets of three"))
+
+
+def for_people(c: Comparison) -> str:
+    """The figures with their names, one a line."""
+    return (f"first tree: {one_line(c.first)}\nsecond tree: {one_line(c.second)}\n\n"
+            + row("populations", str(c.tips))
+            + "\n".join([quartets_for_people(c), splits_for_people(c), triplets_for_people(c)]))
 
 
 # ---- for programs

@@ -51,6 +51,10 @@ def add_common(parser: Parser) -> None:
                                                               "standard error")
 
 
+def add_outgroup(parser: Parser) -> None:
+    parser.add_argument("--outgroup", metavar="NAME", help="the outgroup of the triplets; else the first of the sorted names")
+
+
 def jobs(text: str) -> int:
     if not text.isascii() or not text.isdigit() or not 1 <= int(text) <= 1024:
         raise argparse.ArgumentTypeError(f"{quoted(text)} is not a number of threads from 1 to 1024")
