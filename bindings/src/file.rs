@@ -2,9 +2,10 @@
 
 use std::fmt;
 
-use crate::{claim_sums, quartet_table, split_counts, work_cells, ClaimSums, QuartetTable, Refusal, SplitCounts};
+use crate::{claim_sums, quartet_table, split_counts, triplet_table, work_cells};
+use crate::{ClaimSums, QuartetTable, Refusal, SplitCounts, TripletTable};
 
-/// What is printed of a comparison: five lines, or `refused N` for an error, by [`listing`].
+/// What is printed of a comparison: six lines, or `refused N` for an error, by [`listing`].
 #[derive(Clone, Copy, Debug, PartialEq, Eq)]
 pub struct Figures {
     /// The tips, n.
@@ -12,6 +13,7 @@ pub struct Figures {
     pub claims: ClaimSums,
     pub quartets: QuartetTable,
     pub splits: SplitCounts,
+    pub triplets: TripletTable,
 }
 
 impl fmt::Display for Figures {
@@ -23,7 +25,9 @@ impl fmt::Display for Figures {
         writeln!(f, "quartets {a} {b} {c} {d} {e}")?;
         writeln!(f, "distance {distance}")?;
         let SplitCounts { first, second, common, distance } = self.splits;
-        writeln!(f, "splits {first} {second} {common} {distance}")
+        writeln!(f, "splits {first} {second} {common} {distance}")?;
+        let TripletTable { a, b, c, d, e, .. } = self.triplets;
+        writeln!(f, "triplets {a} {b} {c} {d} {e}")
     }
 }
 
@@ -77,7 +81,8 @@ pub fn compare_tables(first: &[u16], second: &[u16]) -> Result<Figures, Refusal>
     let claims = claim_sums(first, second, &mut work)?;
     let quartets = quartet_table(first, second, &mut work)?;
     let splits = split_counts(first, second, &mut work)?;
-    Ok(Figures { leaves: first[0], claims, quartets, splits })
+    let triplets = triplet_table(first, second, &mut work)?;
+    Ok(Figures { leaves: first[0], claims, quartets, splits, triplets })
 }
 
 /// Compares the two tables of a file of any length.
@@ -91,7 +96,7 @@ pub fn compare(bytes: &[u8]) -> Result<Figures, Refusal> {
     compare_tables(first, second)
 }
 
-/// The five lines of a comparison, or the one line of a refusal.
+/// The six lines of a comparison, or the one line of a refusal.
 ///
 /// ```
 /// use leskwyn::file::{compare, listing};

@@ -26,11 +26,12 @@ fn caterpillar(n: u16) -> Vec<u16> {
     [n, m].into_iter().chain(parents).chain(labels).collect()
 }
 
+/// A caterpillar with itself: all sets of four, C(256, 4), and all of three without tip 0, C(255, 3), are alike.
 #[test]
 fn the_largest_trees() {
     let table = caterpillar(256);
     let expected = "leaves 256\nclaims 349585280 349585280 349585280 0\nquartets 174792640 0 0 0 0\ndistance 0\n\
-                    splits 253 253 253 0\n";
+                    splits 253 253 253 0\ntriplets 2731135 0 0 0 0\n";
     assert_eq!(printed(&bytes(&table, &table)), expected);
 }
 

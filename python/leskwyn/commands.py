@@ -57,7 +57,7 @@ def compare_parser() -> Parser:
     forms = parser.add_mutually_exclusive_group()
     forms.add_argument("--format", choices=["text", "tsv", "json"], default="text", help="for people, or for programs")
     forms.add_argument("--listing", dest="format", action="store_const", const="listing",
-                       help="the five lines of the proved program compare, or 'refused N'")
+                       help="the six lines of the proved program compare, or 'refused N'")
     add_outgroup(parser)
     add_common(parser)
     parser.add_argument("--tables", action="store_true", help="take the one file for a comparison file, whatever its bytes")

@@ -97,12 +97,14 @@ class Comparison:
         return normalised(self.triplet_distance, self.sets_of_three)
 
     def listing(self) -> str:
-        """The five lines that the proved program compare prints."""
+        """The six lines that the proved program compare prints."""
         return (f"leaves {self.tips}\n"
                 f"claims {self.first_claims} {self.second_claims} {self.same_claims} {self.different_claims}\n"
                 f"quartets {self.same} {self.different} {self.first_only} {self.second_only} {self.neither}\n"
                 f"distance {self.distance}\n"
-                f"splits {self.first_splits} {self.second_splits} {self.common_splits} {self.robinson_foulds}\n")
+                f"splits {self.first_splits} {self.second_splits} {self.common_splits} {self.robinson_foulds}\n"
+                f"triplets {self.same_triplets} {self.different_triplets} {self.first_only_triplets} "
+                f"{self.second_only_triplets} {self.neither_triplets}\n")
 
     def as_dict(self) -> dict[str, typing.Any]:
         """All figures under their names, in the order of docs/COMMANDS.md; the names of the tips are a list."""
