@@ -1,0 +1,4 @@
+pub mod Weights
+pub mod WeightedAnswer
+pub mod theorems
+pub mod lemmas

@@ -1,0 +1,2 @@
+pub mod ExactProducts
+pub mod WeightedOutcomes

@@ -1,0 +1,124 @@
+-- What the weighted distance's call accepts, and what its answer is.
+-- Assumes nothing.
+use mathlib.Core.Path.{_≡_, refl, sym, _∙_, subst}
+use mathlib.Core.Bool.{Bool, false, not}
+use mathlib.Core.List.{[]}
+use mathlib.Core.Logic.{_≢_, _↔_}
+use Prim.Native.Nat.{ℕ, _+_, _*_, _^_, _≤_, _<_}
+use native.Mathlib.Nat.{mul-le-mul-right, lt-of-lt-of-le}
+use native.Mathlib.Decide.{ℕ-discrete}
+use native.Mathlib.Omega.{arith}
+use lib.Dec.{T, eqb, lit<, lit≤}
+use lib.IntN.{pos}
+use lib.Ieee.{binary64, le, ofInt}
+use lib.Ieee.Exact.{HasValue}
+use lib.Ieee.Order.{round-mono}
+use lib.Ieee.Scale.{round-same}
+use borrow.Author.Tests.{eq-eqb, ne-eqb}
+use Rattle.sums.specs.theorems.TestLaws.{not-lt-iff}
+use Rattle.tree_check.specs.Table.{Table}
+use Rattle.tree_check.specs.Refusals.{refusal}
+use Rattle.tree_check.specs.theorems.RefusalLaws.{Kept, refusal-none, refusal-here, refusal-next, refusal-first, refusal-kept, kept-append}
+use Rattle.counting.specs.Cases.{B, C, D, quartets}
+use Rattle.counting.specs.theorems.QuartetTheorem.{quartet-theorem}
+use Rattle.pair_check.specs.PairOrder.{tablesOrder, workOrder, pairOrder, PairWithCells}
+use Rattle.pair_check.specs.theorems.PairCheck.{tables-kept, pair-check}
+use Rattle.weights.specs.declared.weight.Weight.{Weight}
+use Rattle.weights.specs.declared.weight.Weight.the-variants.{None, Full}
+use Rattle.weights.specs.Weights.{over256, pOf, numeratorOf}
+use Rattle.weights.specs.WeightedAnswer.{fractionOrder, weightedOrder, weightedOfPair}
+use Rattle.weights.specs.theorems.Fractions.{IsFraction, over-256-exact, numerator-iff, numerator-le}
+
+-- ---- acceptance
+
+-- the rule that the call adds is kept exactly if the fraction is a k/256
+pub fraction-check : (w : Weight) → (refusal (fractionOrder (pOf w)) ≡ 0) ↔ (numeratorOf (pOf w) ≤ 256)
+unfolding fractionOrder
+fraction-check w = (
+  λ e. elim (ℕ-discrete (numeratorOf (pOf w)) 257) [
+    | yes h ↦ absurd (omega (arith, e, refusal-here 30 (eqb (numeratorOf (pOf w)) 257) [] (eq-eqb (numeratorOf (pOf w)) 257 h)))
+    | no h ↦ omega (arith, h, numerator-le (pOf w))
+  ],
+  λ l. refusal-next 30 _ _ (ne-eqb (numeratorOf (pOf w)) 257 (λ h. omega arith)) ∙ refusal-none,
+)
+
+module _ (t u : Table) (cells : ℕ) (w : Weight) where
+  pub order-kept : PairWithCells t u cells → Kept (pairOrder t u cells)
+  unfolding pairOrder workOrder
+  order-kept p = kept-append (tablesOrder t u) (workOrder t u cells) .1
+      (tables-kept t u .1 (p .pair), (not-lt-iff cells _ .1 (p .room), tt))
+
+  -- the tables are accepted as in every pair call; only then the fraction is judged
+  pub then-fraction : PairWithCells t u cells → refusal (weightedOrder t u cells w) ≡ refusal (fractionOrder (pOf w))
+  unfolding weightedOrder
+  then-fraction p = refusal-kept (pairOrder t u cells) _ (order-kept p)
+
+  pub tables-first : refusal (pairOrder t u cells) ≢ 0
+      → refusal (weightedOrder t u cells w) ≡ refusal (pairOrder t u cells)
+  unfolding weightedOrder
+  tables-first d = refusal-first (pairOrder t u cells) _ d
+
+  pub weighted-check : (refusal (weightedOrder t u cells w) ≡ 0) ↔ PairWithCells t u cells × (numeratorOf (pOf w) ≤ 256)
+  weighted-check = (
+    λ e. elim (ℕ-discrete (refusal (pairOrder t u cells)) 0) [
+      | yes z ↦ (
+          let p = pair-check t u cells .0 z in
+          (p, fraction-check w .0 (sym (then-fraction p) ∙ e)))
+      | no d ↦ absurd (d (sym (tables-first d) ∙ e))
+    ],
+    λ h. then-fraction (h .0) ∙ fraction-check w .1 (h .1),
+  )
+
+-- ---- the fractions of nothing and of full
+
+pub none-is-0 : numeratorOf (pOf None) ≡ 0
+none-is-0 = numerator-iff (pOf None) 0 (omega arith) .1 (record { sign = false; value = (refl, refl); zero-if = λ q. refl })
+
+pub full-is-256 : numeratorOf (pOf Full) ≡ 256
+full-is-256 = numerator-iff (pOf Full) 256 (omega arith) .1 (record {
+  sign = false;
+  value = (refl, refl);
+  zero-if = λ q. absurd (subst (λ (b : Bool). T (not b)) q tt);
+})
+
+-- ---- the answer is exact, and never minus zero
+
+module _ (t u : Table) (cells : ℕ) (p : PairWithCells t u cells) (w : Weight) (l : numeratorOf (pOf w) ≤ 256) where
+  few : (quartets t u B ≤ 174792640) × (quartets t u C + quartets t u D ≤ 174792640)
+  few =
+      let q = quartet-theorem t u (p .pair .first) (p .pair .second) (p .pair .same-tips) in
+      (q .count-most B, omega (arith, q .total, q .all-most, q .C-counts, q .D-counts))
+
+  -- 256 times the answer is 256 · B + k · (C + D), and its sign is plus
+  pub weighted-exact : HasValue (weightedOfPair t u w .distance) false
+      (256 * quartets t u B + numeratorOf (pOf w) * (quartets t u C + quartets t u D)) 256
+  weighted-exact = over-256-exact _ (lt-of-lt-of-le (low _ (mul-le-mul-right (quartets t u C + quartets t u D) l)) (lit≤ tt))
+    where
+      low : (x : ℕ) → x ≤ 256 * (quartets t u C + quartets t u D) → 256 * quartets t u B + x < 89493831681
+      low x h = omega (arith, few)
+
+-- ---- nothing gives B, full the distance, and the weighted distance grows with k
+
+nothing : (b c k : ℕ) → k ≡ 0 → over256 (256 * b + k * c) ≡ ofInt binary64 (pos b)
+unfolding ofInt
+nothing b c k e = round-same binary64 false (256 * b + k * c) 256 b 1 (lit< tt) (lit< tt) (rw e (omega arith))
+
+pub none-gives-B : (t u : Table) → weightedOfPair t u None .distance ≡ ofInt binary64 (pos (quartets t u B))
+none-gives-B t u = nothing (quartets t u B) (quartets t u C + quartets t u D) (numeratorOf (pOf None)) none-is-0
+
+all : (b c k : ℕ) → k ≡ 256 → over256 (256 * b + k * c) ≡ ofInt binary64 (pos (b + c))
+unfolding ofInt
+all b c k e = round-same binary64 false (256 * b + k * c) 256 (b + c) 1 (lit< tt) (lit< tt) (rw e (omega arith))
+
+pub full-gives-distance : (t u : Table)
+    → weightedOfPair t u Full .distance ≡ ofInt binary64 (pos (quartets t u B + (quartets t u C + quartets t u D)))
+full-gives-distance t u = all (quartets t u B) (quartets t u C + quartets t u D) (numeratorOf (pOf Full)) full-is-256
+
+pub grows-with-k : (t u : Table) (w w' : Weight) → numeratorOf (pOf w) ≤ numeratorOf (pOf w')
+    → T (le (weightedOfPair t u w .distance) (weightedOfPair t u w' .distance))
+grows-with-k t u w w' l =
+    round-mono binary64 _ 256 _ 256 (lit< tt) (lit< tt)
+    (mul-le-mul-right 256 (more _ _ (mul-le-mul-right (quartets t u C + quartets t u D) l)))
+  where
+    more : (x y : ℕ) → x ≤ y → 256 * quartets t u B + x ≤ 256 * quartets t u B + y
+    more x y h = omega arith
