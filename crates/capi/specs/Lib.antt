@@ -1,3 +1,4 @@
 pub mod PlainAnswers
 pub mod Version
+pub mod theorems
 pub mod lemmas

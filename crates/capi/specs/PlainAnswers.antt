@@ -1,5 +1,9 @@
 -- The answers of the libraries as plain structs, field by field.
 -- Assumes nothing.
+use mathlib.Core.Bool.{false}
+use Prim.Native.Nat.{ℕ, zero, suc}
+use lib.IntN.{pos}
+use lib.Ieee.{Float, fin}
 use Rattle.walks.specs.declared.edges.PartBeyond.{PartBeyond}
 use Rattle.trees.specs.declared.centres.CentreAnswer as trees-centre
 use Rattle.trees.specs.declared.quartet.TopologyAnswer as trees-topology
@@ -8,6 +12,9 @@ use Rattle.splits.specs.declared.counts.SplitCounts.{SplitCounts}
 use Rattle.claims.specs.declared.totals.ClaimSums.{ClaimSums}
 use Rattle.quartets.specs.declared.tables.QuartetTable.{QuartetTable}
 use Rattle.triplets.specs.declared.tables.TripletTable.{TripletTable}
+use Rattle.weights.specs.declared.weight.Weight.{Weight}
+use Rattle.weights.specs.declared.weight.Weight.the-variants.{None, Full, Part}
+use Rattle.weights.specs.declared.distances.WeightedDistance.{WeightedDistance}
 use Rattle.capi.specs.declared.answers.BeyondAnswer.{BeyondAnswer}
 use Rattle.capi.specs.declared.answers.CentreAnswer.{CentreAnswer}
 use Rattle.capi.specs.declared.answers.TopologyAnswer.{TopologyAnswer}
@@ -15,6 +22,7 @@ use Rattle.capi.specs.declared.answers.ClaimSumsAnswer.{ClaimSumsAnswer}
 use Rattle.capi.specs.declared.answers.QuartetTableAnswer.{QuartetTableAnswer}
 use Rattle.capi.specs.declared.answers.SplitCountsAnswer.{SplitCountsAnswer}
 use Rattle.capi.specs.declared.answers.TripletTableAnswer.{TripletTableAnswer}
+use Rattle.capi.specs.declared.answers.WeightedDistanceAnswer.{WeightedDistanceAnswer}
 
 unfoldable pub plainBeyond : PartBeyond → BeyondAnswer
 plainBeyond a = record { refusal = a .refusal; start = a .start; labels = a .count }
@@ -80,3 +88,14 @@ plainTriplets a = record {
   e = a .e;
   distance = a .distance;
 }
+
+-- a weight as two numbers, its kind and its fraction: 0 is nothing, 1 full, 2 a part; any other kind is the fraction 2, which
+-- is refused as no k/256
+unfoldable pub weightOf : ℕ → Float → Weight
+weightOf zero x = None
+weightOf (suc zero) x = Full
+weightOf (suc (suc zero)) x = Part x
+weightOf (suc (suc (suc kind))) x = Part (fin false 1 (pos 1))
+
+unfoldable pub plainWeighted : WeightedDistance → WeightedDistanceAnswer
+plainWeighted a = record { refusal = a .refusal; distance = a .distance }

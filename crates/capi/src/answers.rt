@@ -66,3 +66,10 @@ pub struct TripletTableAnswer {
     pub e: u64,
     pub distance: u64,
 }
+
+// The number; and the weighted distance.
+#[repr(C)]
+pub struct WeightedDistanceAnswer {
+    pub refusal: u16,
+    pub distance: f64,
+}

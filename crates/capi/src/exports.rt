@@ -6,6 +6,7 @@ use super::answers::QuartetTableAnswer;
 use super::answers::SplitCountsAnswer;
 use super::answers::TopologyAnswer;
 use super::answers::TripletTableAnswer;
+use super::answers::WeightedDistanceAnswer;
 use quartets::claim_sums;
 use quartets::crossings;
 use quartets::quartet_table;
@@ -20,6 +21,8 @@ use trees::part_beyond;
 use trees::refusal_of;
 use trees::topology_of;
 use trees::walk;
+use weights::Weight;
+use weights::weighted_distance;
 ghost use mathlib.Core.Path.{_≡_};
 ghost use lib.ListN.{length};
 ghost use Rattle.tree_check.specs.Refusals.{refusal};
@@ -34,8 +37,10 @@ ghost use Rattle.splits.specs.SplitAnswer.{splitAnswer};
 ghost use Rattle.claims.specs.ClaimAnswer.{claimAnswer};
 ghost use Rattle.quartets.specs.QuartetAnswer.{DemandThree, quartetAnswer};
 ghost use Rattle.triplets.specs.TripletAnswer.{tripletAnswer};
+ghost use Rattle.weights.specs.WeightedAnswer.{weightedAnswer, afterWeighted};
 ghost use Rattle.capi.specs.PlainAnswers.{plainBeyond, plainCentre, plainTopology, plainClaims};
 ghost use Rattle.capi.specs.PlainAnswers.{plainTable, libraryTable, plainSplits, plainTriplets};
+ghost use Rattle.capi.specs.PlainAnswers.{weightOf, plainWeighted};
 
 // The tree check's number.
 #[no_mangle]
@@ -203,5 +208,45 @@ pub extern "C" fn leskwyn_triplet_table(
         d: table.d,
         e: table.e,
         distance: table.distance,
+    }
+}
+
+// The weight of a kind: 0 is nothing, 1 full, 2 a part with its fraction. Any other kind is a fraction that is refused.
+fn weight_of(kind: u16, fraction: f64) -> Weight
+    ensures { λ r. ⌜ r ≡ weightOf kind fraction ⌝ }
+{
+    if kind == 0 {
+        return Weight::None;
+    }
+    if kind == 1 {
+        return Weight::Full;
+    }
+    if kind == 2 {
+        return Weight::Part(fraction);
+    }
+    Weight::Part(2.0)
+}
+
+// The weighted distance, and the crossings in the lent cells.
+#[no_mangle]
+pub extern "C" fn leskwyn_weighted_distance(
+    first: &[u16],
+    second: &[u16],
+    work: &mut [Cell],
+    kind: u16,
+    fraction: f64,
+) -> WeightedDistanceAnswer
+    ensures { λ r. ⌜
+        (r
+        ≡ plainWeighted (weightedAnswer (now (first .entry)) (now (second .entry)) (length (now (work .entry)))
+        (weightOf kind fraction)))
+        × (now (work .exit)
+        ≡ afterWeighted (now (first .entry)) (now (second .entry)) (weightOf kind fraction) (now (work .entry)))
+        ⌝ }
+{
+    let answer = weighted_distance(first, second, work, weight_of(kind, fraction));
+    WeightedDistanceAnswer {
+        refusal: answer.refusal,
+        distance: answer.distance,
     }
 }

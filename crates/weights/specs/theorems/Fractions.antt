@@ -5,6 +5,7 @@ use mathlib.Core.Bool.{Bool, true, false, Bool·beq, _||_}
 use mathlib.Core.Logic.{_↔_}
 use Prim.Native.Nat.{ℕ, zero, suc, _+_, _*_, _^_, _≤_, _<_}
 use native.Mathlib.Nat.{mul-assoc, mul-right-comm, lt-of-lt-of-le, mul-lt-mul-of-pos-right, eq-of-mul-eq-mul-right, zero-mul}
+use native.Mathlib.Decide.{ℕ-discrete}
 use native.Mathlib.Omega.{arith}
 use lib.Dec.{T, eqb, eqb→eq, lit<, lit≤}
 use lib.Pow.{pow-pos}
@@ -162,3 +163,15 @@ numerator-iff p k l = (
       (λ j m. T-false (eq p (over256 j)) (λ y.
       let d = one-fraction p j k (equal-fraction p (over256 j) j (exact j (omega arith)) y) h in omega arith)),
 )
+
+-- ---- a fraction that is none
+
+-- 2 is too large
+pub two-is-none : numeratorOf (fin false 1 (pos 1)) ≡ 257
+two-is-none = elim (ℕ-discrete (numeratorOf (fin false 1 (pos 1))) 257) [
+  | yes e ↦ e
+  | no d ↦ (
+      let l : numeratorOf (fin false 1 (pos 1)) ≤ 256 = omega (arith, numerator-le (fin false 1 (pos 1))) in
+      let h = numerator-iff (fin false 1 (pos 1)) (numeratorOf (fin false 1 (pos 1))) l .0 refl in
+      absurd (omega (arith, h .value .1)))
+]
