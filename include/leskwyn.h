@@ -13,8 +13,8 @@
  * `work`) must not overlap a table.
  *
  * Threads. No globals, no allocation, no input or output. Calls from several threads at once need no lock, as long as
- * no two of them lend the same cells and nobody writes to a table that is being read. leskwyn_claim_sums and
- * leskwyn_quartet_table take up to 200 kB of stack, the others up to 20 kB.
+ * no two of them lend the same cells and nobody writes to a table that is being read. leskwyn_claim_sums,
+ * leskwyn_quartet_table and leskwyn_weighted_distance take up to 200 kB of stack, the others up to 20 kB.
  *
  * A tree table. 16-bit words: n, the tips (2 to 256); m, the nodes (n to 2n - 2); then m parent words; then m label
  * words; 2 + 2m words in all.
@@ -42,6 +42,7 @@
  *   of a pair    1 to 7 of the first table; then 101 to 107, the same of the second; then
  *                8   the two n differ
  *                9   the work has fewer than (m - 1)(m' - 1) cells, m' being the second table's m
+ *   of a weight 30   the kind is not 0 to 2, or the fraction of a part is not k/256 with a k from 0 to 256
  */
 #ifndef LESKWYN_H
 #define LESKWYN_H
@@ -93,6 +94,12 @@ typedef struct { uint16_t refusal; uint64_t first, second, common, distance; } l
  * distance is b + c + d.
  */
 typedef struct { uint16_t refusal; uint64_t a, b, c, d, e, distance; } leskwyn_triplet_table_answer;
+
+/*
+ * The refusal, or 0; the weighted distance b + p (c + d), with b, c and d of the quartet table and the weight p. It is
+ * exact: 256 times it is 256 b + k (c + d), where p is k/256. It is never minus zero.
+ */
+typedef struct { uint16_t refusal; double distance; } leskwyn_weighted_distance_answer;
 
 /* The version of the library that is linked. It is LESKWYN_VERSION where header and library are of one release. */
 uint32_t leskwyn_version(void);
@@ -151,6 +158,21 @@ leskwyn_split_counts_answer leskwyn_split_counts(const uint16_t *first, size_t f
 leskwyn_triplet_table_answer leskwyn_triplet_table(const uint16_t *first, size_t first_words,
                                                    const uint16_t *second, size_t second_words,
                                                    uint16_t *work, size_t cells);
+
+/* The weight of a star against a butterfly: nothing, p = 0; full, p = 1; a part, p being its fraction. */
+#define LESKWYN_WEIGHT_NONE 0
+#define LESKWYN_WEIGHT_FULL 1
+#define LESKWYN_WEIGHT_PART 2
+
+/*
+ * The weighted distance of two trees. The kind is one of the three above. The fraction of a part is k/256 with a k
+ * from 0 to 256, and minus zero is taken as zero; for the other two kinds the fraction plays no part. Leaves the
+ * crossings in the work, as leskwyn_crossings does. Refuses by the pair's numbers, then 30.
+ */
+leskwyn_weighted_distance_answer leskwyn_weighted_distance(const uint16_t *first, size_t first_words,
+                                                           const uint16_t *second, size_t second_words,
+                                                           uint16_t *work, size_t cells,
+                                                           uint16_t kind, double fraction);
 
 #ifdef __cplusplus
 }

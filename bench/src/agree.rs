@@ -10,6 +10,7 @@ use leskwyn::{ClaimSums, QuartetTable, Refusal, SplitCounts, TripletTable};
 use crate::enumerate::{self, Topology, Tree};
 use crate::random::Random;
 use crate::reference::X;
+use crate::weights::{self, Weighing};
 use crate::{common_ancestors, cubic};
 
 /// Pairs of claims that are summed one by one; for more, S2 and S3 are read from the cases.
@@ -250,6 +251,52 @@ fn cells_agree(first: &[u16], second: &[u16], cells: usize, expected: Option<&Ex
         triplets: ask(raw::leskwyn_triplet_table, first, second, cells, crossings, random),
     };
     assert_eq!(answers, Answers::of(refusal, expected), "{first:?} and {second:?} with {cells} cells");
+    weighted_agrees(first, second, cells, Weighing::any(random), expected, random);
+}
+
+/// The weighted distance with so many cells, and its wrapper: the number, the bits of the answer and the cells. Without
+/// figures the pair is one that is refused.
+pub fn weighted_agrees(
+    first: &[u16],
+    second: &[u16],
+    cells: usize,
+    weighing: Weighing,
+    expected: Option<&Expected>,
+    random: &mut Random,
+) {
+    let Weighing { kind, fraction } = weighing;
+    let (refusal, distance, crossings) = match (enumerate::pair_refusal(first, second, cells), weighing.numerator()) {
+        (0, Some(k)) => {
+            let figures = expected.expect("figures for an accepted pair");
+            (0, weights::weighted(figures.quartets, k), &figures.crossings[..])
+        }
+        (0, None) => (30, 0.0, &[][..]),
+        (number, _) => (number, 0.0, &[][..]),
+    };
+    let told = format!("{first:?} and {second:?} with {cells} cells, {kind} and {:#x}", fraction.to_bits());
+    let (answer, before, after) = lend(cells, random, |work| {
+        // SAFETY: each pointer and length are those of one slice, and the work overlaps nothing.
+        unsafe {
+            raw::leskwyn_weighted_distance(
+                first.as_ptr(),
+                first.len(),
+                second.as_ptr(),
+                second.len(),
+                work.as_mut_ptr(),
+                work.len(),
+                kind,
+                fraction,
+            )
+        }
+    });
+    assert_eq!((answer.refusal, answer.distance.to_bits()), (refusal, distance.to_bits()), "{told}");
+    assert_eq!(after[..crossings.len()], *crossings, "crossings of {told}");
+    assert_eq!(after[crossings.len()..], before[crossings.len()..], "later cells of {told}");
+    if let Some(weight) = weighing.weight() {
+        let (wrapped, _, filled) = lend(cells, random, |work| leskwyn::weighted_distance(first, second, work, weight));
+        assert_eq!((number(&wrapped), wrapped.unwrap_or(0.0).to_bits()), (refusal, distance.to_bits()), "{told}");
+        assert_eq!(filled[..crossings.len()], *crossings, "crossings of {told}");
+    }
 }
 
 /// The wrappers say what the functions say.

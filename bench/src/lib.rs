@@ -1,8 +1,8 @@
 //! An independent check of the exported functions, and other methods to time them against.
 //!
 //! `enumerate` is written from docs/SPECIFICATION.md alone: topologies by looking at every edge, claims one by one, triplets
-//! by climbing to lowest common ancestors. Nothing in it, in `cubic` and `expanded`, which follow document 001, or in
-//! `common_ancestors` comes from the library. `straight` is the library's own algorithm as a Rust programmer would write it,
+//! by climbing to lowest common ancestors. `weights` has the weighted distance, in whole numbers. Nothing in these, in
+//! `cubic` and `expanded`, which follow document 001, or in `common_ancestors` comes from the library. `straight` is the library's own algorithm as a Rust programmer would write it,
 //! and is there to be timed.
 
 pub mod agree;
@@ -16,3 +16,4 @@ pub mod random;
 pub mod reference;
 mod sides;
 pub mod straight;
+pub mod weights;

@@ -8,7 +8,7 @@
 //!
 //! Any words in slices of any length may be passed. The answer is the whole answer or a [`Refusal`]; a refused call
 //! changes no lent cell. No call allocates, keeps a slice, or touches anything global, so all may be made from several
-//! threads at once. [`claim_sums`] and [`quartet_table`] take up to 200 kB of stack.
+//! threads at once. [`claim_sums`], [`quartet_table`] and [`weighted_distance`] take up to 200 kB of stack.
 //!
 //! ```
 //! use leskwyn::{quartet_table, work_cells, INNER as X};
@@ -105,6 +105,28 @@ pub struct TripletTable {
     pub e: u64,
     /// The triplet distance, B + C + D.
     pub distance: u64,
+}
+
+/// What a star against a butterfly weighs in a [`weighted_distance`].
+#[derive(Clone, Copy, Debug, PartialEq)]
+pub enum Weight {
+    /// Nothing, p = 0.
+    None,
+    /// As much as two different butterflies, p = 1.
+    Full,
+    /// A fraction p, which is k/256 with a k from 0 to 256; minus zero is taken as zero.
+    Part(f64),
+}
+
+impl Weight {
+    /// The kind and the fraction as the exported function takes them.
+    fn kind_and_fraction(self) -> (u16, f64) {
+        match self {
+            Weight::None => (raw::WEIGHT_NONE, 0.0),
+            Weight::Full => (raw::WEIGHT_FULL, 0.0),
+            Weight::Part(fraction) => (raw::WEIGHT_PART, fraction),
+        }
+    }
 }
 
 /// Checks a tree table.
@@ -307,4 +329,40 @@ pub fn triplet_table(first: &[u16], second: &[u16], work: &mut [u16]) -> Result<
     let raw::TripletTableAnswer { refusal, a, b, c, d, e, distance } =
         asked(raw::leskwyn_triplet_table, first, second, work);
     Refusal::or(refusal, TripletTable { a, b, c, d, e, distance })
+}
+
+/// The weighted distance of two trees, B + p(C + D), with B, C and D of the quartet table. It is exact: 256 times it is
+/// 256 B + k(C + D), where p is k/256. It is never minus zero. Takes and leaves in the work what [`crossings`] does.
+///
+/// ```
+/// use leskwyn::{weighted_distance, work_cells, Weight, INNER as X};
+/// let q = [5, 7, 0, 0, 1, 1, 3, 3, 3, 0, X, 1, X, 2, 3, 4];
+/// let r = [5, 8, 0, 0, 1, 1, 3, 3, 5, 5, 0, X, 2, X, 1, X, 3, 4];
+/// let mut work = vec![0; work_cells(&q, &r)?];
+/// assert_eq!(weighted_distance(&q, &r, &mut work, Weight::None)?, 2.0);
+/// assert_eq!(weighted_distance(&q, &r, &mut work, Weight::Full)?, 4.0);
+/// assert_eq!(weighted_distance(&q, &r, &mut work, Weight::Part(0.25))?, 2.5);
+/// assert_eq!(weighted_distance(&q, &r, &mut work, Weight::Part(0.3)).unwrap_err().number(), 30);
+/// # Ok::<(), leskwyn::Refusal>(())
+/// ```
+///
+/// # Errors
+///
+/// Those of [`crossings`], then 30.
+pub fn weighted_distance(first: &[u16], second: &[u16], work: &mut [u16], weight: Weight) -> Result<f64, Refusal> {
+    let (kind, fraction) = weight.kind_and_fraction();
+    // SAFETY: each pointer and length are those of one live slice, and `work` is borrowed alone.
+    let answer = unsafe {
+        raw::leskwyn_weighted_distance(
+            first.as_ptr(),
+            first.len(),
+            second.as_ptr(),
+            second.len(),
+            work.as_mut_ptr(),
+            work.len(),
+            kind,
+            fraction,
+        )
+    };
+    Refusal::or(answer.refusal, answer.distance)
 }

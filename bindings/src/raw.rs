@@ -75,6 +75,19 @@ pub struct TripletTableAnswer {
     pub distance: u64,
 }
 
+/// The kinds of weight: nothing, full, a part with its fraction.
+pub const WEIGHT_NONE: u16 = 0;
+pub const WEIGHT_FULL: u16 = 1;
+pub const WEIGHT_PART: u16 = 2;
+
+/// The refusal, or 0; the weighted distance.
+#[repr(C)]
+#[derive(Clone, Copy, Debug, PartialEq)]
+pub struct WeightedDistanceAnswer {
+    pub refusal: u16,
+    pub distance: f64,
+}
+
 /// A function of two tables and the work: each as a pointer and a number of elements.
 pub type PairFunction<T> = unsafe extern "C" fn(*const u16, usize, *const u16, usize, *mut u16, usize) -> T;
 
@@ -137,4 +150,15 @@ extern "C" {
         work: *mut u16,
         cells: usize,
     ) -> TripletTableAnswer;
+
+    pub fn leskwyn_weighted_distance(
+        first: *const u16,
+        first_words: usize,
+        second: *const u16,
+        second_words: usize,
+        work: *mut u16,
+        cells: usize,
+        kind: u16,
+        fraction: f64,
+    ) -> WeightedDistanceAnswer;
 }

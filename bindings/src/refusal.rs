@@ -29,7 +29,8 @@ impl Refusal {
         }
     }
 
-    /// The number: 1 to 7 of a table or of the first of two; 101 to 107 of the second; 8 to 13; or 15 of a file.
+    /// The number: 1 to 7 of a table or of the first of two; 101 to 107 of the second; 8 to 13; 15 of a file; 30 of a
+    /// weight.
     #[must_use]
     pub fn number(self) -> u16 {
         self.0.get()
@@ -53,6 +54,7 @@ impl Refusal {
             12 => "the lent walk is shorter than n",
             13 => "the edge is 0, or m or more",
             15 => "an odd number of bytes",
+            30 => "the weight's fraction is not k/256 with a k from 0 to 256",
             _ => "a rule is broken",
         }
     }
