@@ -36,7 +36,7 @@ from cases.triplets import triplet_table
 
 import leskwyn
 from leskwyn import usage
-from leskwyn.figures import COLUMNS, KEYS
+from leskwyn.figures import KEYS, WEIGHTED_KEYS
 from leskwyn.tables import newick_text
 
 FEATHERS, WINGS = "(Azores,(Bute,Coll),Foula,(Lundy,Texel));\n", "(Azores,Bute,(Coll,Foula),(Lundy,Texel));\n"
@@ -174,6 +174,42 @@ class Compare(TreesTest):
         self.assertEqual((done.returncode, done.stdout), (1, b""))
         self.assertEqual(done.stderr.decode(), "leskwyn: left out of more.nwk: 'Zeist'\n"
                                                "leskwyn: the outgroup 'Zeist' is not a tip of every tree\n")
+
+    def test_weights(self) -> None:
+        """B is 3, C + D is 4, and there are 15 sets of four."""
+        self.file("pair.bin", packed(P, Q))
+        for spelling, p, distance, told in (("none", 0.0, 3.0, ["3", "0.2000", "0"]), ("full", 1.0, 7.0, ["7", "0.4667", "1"]),
+                                            ("0.5", 0.5, 5.0, ["5", "0.3333", "1/2"]), ("1/2", 0.5, 5.0, ["5", "0.3333", "1/2"]),
+                                            ("128/256", 0.5, 5.0, ["5", "0.3333", "1/2"]),
+                                            ("1/256", 1 / 256, 3.015625, ["3.015625", "0.2010", "1/256"])):
+            expected = dict(zip(WEIGHTED_KEYS, [p, distance, distance / 15]))
+            for arguments in (["both.nwk"], ["feathers.nwk", "wings.nwk"], []):
+                figures = self.figures(*arguments, "--weight", spelling)
+                self.assertEqual(figures | FIGURES | UNDER_AZORES | expected, figures)
+                self.assertEqual(list(figures), [*KEYS, *WEIGHTED_KEYS])
+            text = self.here("compare", "both.nwk", "--weight", spelling).stdout.decode()
+            lines = [" ".join(line.split()) for line in text.split("\n")]
+            at = lines.index("normalised distance 0.4667 distance / sets of four")
+            self.assertEqual(lines[at + 1:at + 4],
+                             [f"weighted distance {told[0]} B + p (C + D), p = {told[2]}",
+                              f"normalised weighted distance {told[1]} weighted distance / sets of four", ""])
+            done = self.here("compare", "both.nwk", "--weight", spelling, "--format", "tsv")
+            header, row = [line.split("\t") for line in done.stdout.decode().removesuffix("\n").split("\n")]
+            self.assertEqual(header, [key for key in (*KEYS, *WEIGHTED_KEYS) if key != "names"])
+            self.assertEqual(row[-3:], [str(expected[key]) for key in WEIGHTED_KEYS])
+            # P with Q: C is 2, and B and D are 0.
+            self.assertEqual(self.figures("pair.bin", "--weight", spelling)["weighted_distance"], 2 * p)
+        self.assertNotIn("weighted", self.here("compare", "both.nwk").stdout.decode())
+        text = " ".join(self.here("compare", "-", "--weight", "1/2", stdin="(A,B);(A,B);").stdout.decode().split())
+        self.assertIn("weighted distance 0 B + p (C + D), p = 1/2", text)
+        self.assertIn("normalised weighted distance 0.0000 there are no sets of four", text)
+
+    def test_text_has_all_decimals(self) -> None:
+        """A star against a caterpillar of 255 tips: C + D is C(255, 4), which is odd."""
+        names = [f"t{i:03}" for i in range(255)]
+        self.file("large.nwk", newick_text(caterpillar(255), names) + star_text(names))
+        text = self.here("compare", "large.nwk", "--weight", "1/256").stdout.decode()
+        self.assertRegex(text, r"(?m)^weighted distance +672115\.25390625   B \+ p \(C \+ D\), p = 1/256$")
 
     def test_example(self) -> None:
         for arguments in ([], ["compare"]):
@@ -336,7 +372,7 @@ class Many(TreesTest):
         for jobs in ("1", "2", "8"):
             done = self.here("against", "feathers.nwk", "all.nwk", "wings.nwk", "--jobs", jobs)
             header, *rows = [line.split("\t") for line in done.stdout.decode().removesuffix("\n").split("\n")]
-            self.assertEqual((done.returncode, tuple(header)), (0, COLUMNS))
+            self.assertEqual((done.returncode, header), (0, [key for key in KEYS if key != "names"]))
             told = [dict(zip(header, row, strict=True)) for row in rows]
             self.assertEqual([(row["first"], row["second"], row["distance"]) for row in told],
                              [("feathers.nwk", f"all.nwk#{i + 1}", str(self.pairs[0, i].distance)) for i in range(4)]
@@ -344,6 +380,21 @@ class Many(TreesTest):
         done = self.here("against", "feathers.nwk", "all.nwk", "--format", "json")
         told = [json.loads(line) for line in done.stdout.decode().removesuffix("\n").split("\n")]
         self.assertEqual([row["robinson_foulds"] for row in told], [self.pairs[0, i].robinson_foulds for i in range(4)])
+
+    def test_weights(self) -> None:
+        # Of the four trees feathers, wings, the star and feathers: B is 3 for the first two, C + D is 4 or 11.
+        for spelling, p in (("none", 0.0), ("full", 1.0), ("1/2", 0.5), ("0.125", 0.125)):
+            near, far = 3 + 4 * p, 11 * p
+            square = [[0.0, near, far, 0.0], [near, 0.0, far, near], [far, far, 0.0, far], [0.0, near, far, 0.0]]
+            for arguments, over in (([], 1), (["--normalised"], 15)):
+                done = self.here("matrix", "all.nwk", "--measure", "weighted", "--weight", spelling, *arguments)
+                self.assertEqual((done.returncode, done.stderr), (0, b""))
+                rows = [line.split("\t")[1:] for line in done.stdout.decode().removesuffix("\n").split("\n")[1:]]
+                self.assertEqual(rows, [[str(number / over) for number in row] for row in square])
+            done = self.here("against", "feathers.nwk", "all.nwk", "--format", "json", "--weight", spelling)
+            rows = [json.loads(line) for line in done.stdout.decode().removesuffix("\n").split("\n")]
+            self.assertEqual([[row[key] for key in WEIGHTED_KEYS] for row in rows],
+                             [[p, number, number / 15] for number in square[0]])
 
     def test_names(self) -> None:
         self.file("more.nwk", "(Azores,Bute,Coll,Foula,Lundy,Texel,Zeist);")
@@ -382,7 +433,26 @@ class Usage(TreesTest):
                                     ["matrix", "all.nwk", "--measure", "triplet"], ["against"], ["against", "feathers.nwk"],
                                     ["against", "-", "-"]):
             self.assert_message(self.here(command, *arguments), 2, f"leskwyn {command} --help tells the usage")
+        self.assert_message(self.here("compare", "both.nwk", "--weight", "1/2", "--listing"), 2, "--listing and --weight exclude")
+        self.assert_message(self.here("matrix", "both.nwk", "--weight", "1/2"), 2, "only 'weighted' takes a weight")
+        self.assert_message(self.here("matrix", "both.nwk", "--measure", "weighted"), 2, "the weighted distance needs a weight")
         self.assert_message(self.here("comprae"), 2, "no command 'comprae'; the commands are compare, matrix, against, table,")
+
+    def test_wrong_weights(self) -> None:
+        """Wrong usage, in every command and before a file is read, with the nearest two."""
+        for weight, words in (("0.3", "'0.3' is no weight: it is not k/256 with a k from 0 to 256; the nearest two are 76/256 "
+                                      "(0.296875) and 77/256 (0.30078125)"),
+                              ("1/3", "85/256 (0.33203125) and 86/256 (0.3359375)"),
+                              ("1.5", "255/256 (0.99609375) and 256/256 (1.0)"),
+                              ("-0.5", "0/256 (0.0) and 1/256 (0.00390625)"), ("-1/2", "0/256 (0.0) and 1/256 (0.00390625)"),
+                              ("half", "'half' is no weight: none, full, a decimal such as 0.5, or a fraction such as 1/2 or "
+                                       "128/256"),
+                              ("a\nb", "'a\\nb' is no weight")):
+            for command, *arguments in (["compare", "absent"], ["against", "absent", "absent"],
+                                        ["matrix", "absent", "--measure", "weighted"]):
+                done = self.here(command, *arguments, f"--weight={weight}")
+                self.assert_message(done, 2, words, f"leskwyn {command} --help tells the usage")
+        self.assert_message(self.here("compare", "both.nwk", "--weight", "-0.5"), 2, "0/256 (0.0) and 1/256 (0.00390625)")
 
     def test_unreadable(self) -> None:
         for command in ("compare", "matrix", "against"):
@@ -567,7 +637,7 @@ class Pages(unittest.TestCase):
     def test_every_key_is_told(self) -> None:
         text = (ROOT / "docs" / "COMMANDS.md").read_text(encoding="utf-8")
         self.assertEqual(re.findall(r"^\| `(\w+)` \|(?:.*\|){2}$", text.split("## Keys\n")[1].split("\n## ")[0], re.M),
-                         list(KEYS))
+                         [*KEYS, *WEIGHTED_KEYS])
 
 
 if __name__ == "__main__":

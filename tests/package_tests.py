@@ -9,6 +9,8 @@ to a brute force over sets of four that looks at the edges of named trees, and t
 lowest common ancestors; Robinson-Foulds distances to DendroPy and to ETE where they are installed.
 """
 import dataclasses
+import decimal
+import fractions
 import importlib.util
 import io
 import itertools
@@ -39,7 +41,7 @@ from cases.tables import OUTSIDE, P, Q, REFERENCE, W, damaged
 from cases.triplets import triplet_table
 
 import leskwyn
-from leskwyn import _library, api, counting, sources
+from leskwyn import _library, api, counting, sources, weights
 
 PROGRAM = pathlib.Path(os.environ.get("LESKWYN_COMPARE") or ROOT / "target" / "bin" / "compare").absolute()
 MOST_BYTES = 1016
@@ -48,6 +50,8 @@ FEATHERS, WINGS = ROOT / "examples" / "feathers.nwk", ROOT / "examples" / "wings
 
 
 TRIPLET_KEYS = ["same_triplets", "different_triplets", "first_only_triplets", "second_only_triplets", "neither_triplets"]
+
+WEIGHTED_KEYS = ["weight", "weighted_distance", "normalised_weighted_distance"]
 
 
 def triplets_of(found: leskwyn.Comparison) -> list[int]:
@@ -110,7 +114,16 @@ def triplet_cases(first: Tree, second: Tree, outgroup: str) -> list[int]:
     return cases
 
 
-def expected_figures(first: Tree, second: Tree, outgroup: str | None = None) -> dict[str, typing.Any]:
+def weighted_figures(cases: list[int], of_four: int, weight: fractions.Fraction | None) -> dict[str, typing.Any]:
+    """The weighted distance of the five cases in whole numbers; a division by 256 is exact in floats."""
+    if weight is None:
+        return {}
+    distance = int(256 * cases[1] + 256 * weight * (cases[2] + cases[3])) / 256
+    return dict(zip(WEIGHTED_KEYS, [float(weight), distance, distance / of_four if of_four else 0.0]))
+
+
+def expected_figures(first: Tree, second: Tree, outgroup: str | None = None,
+                     weight: fractions.Fraction | None = None) -> dict[str, typing.Any]:
     """All figures of the pair, by looking at every set of four and every set of three."""
     names = frozenset(first.name.values())
     one, other = sides_of(first), sides_of(second)
@@ -134,7 +147,8 @@ def expected_figures(first: Tree, second: Tree, outgroup: str | None = None) -> 
             "same_claims": 2 * same, "different_claims": 4 * different, "names": [outgroup, *sorted(names - {outgroup})],
             "outgroup": outgroup, "sets_of_three": of_three, **dict(zip(TRIPLET_KEYS, triplets)),
             "triplet_distance": triplet_distance,
-            "normalised_triplet_distance": triplet_distance / of_three if of_three else 0.0}
+            "normalised_triplet_distance": triplet_distance / of_three if of_three else 0.0,
+            **weighted_figures(cases, of_four, weight)}
 
 
 def random_named_trees(rng: random.Random, n: int, count: int = 2) -> list[Tree]:
@@ -169,10 +183,11 @@ def in_ete(tree: Tree) -> typing.Any:
 class Figures(unittest.TestCase):
     """The figures of named trees, by an enumeration that knows nothing of tables."""
 
-    def assert_figures(self, found: leskwyn.Comparison, first: Tree, second: Tree, outgroup: str | None = None) -> None:
+    def assert_figures(self, found: leskwyn.Comparison, first: Tree, second: Tree, outgroup: str | None = None,
+                       weight: fractions.Fraction | None = None) -> None:
         told = found.as_dict()
         self.assertEqual({key: told[key] for key in told if key not in ("first", "second")},
-                         expected_figures(first, second, outgroup))
+                         expected_figures(first, second, outgroup, weight))
 
     def test_random_trees(self) -> None:
         rng = random.Random(1)
@@ -200,6 +215,21 @@ class Figures(unittest.TestCase):
                                                      "normalised_triplet_distance"})
                     distances.add((case, found.triplet_distance))
         self.assertGreater(len(distances), 30)
+
+    def test_weights(self) -> None:
+        """Each k/256, and no figure but the weighted distance changes."""
+        rng, distances = random.Random(14), set()
+        for case in range(257):
+            first, second = random_named_trees(rng, 4 + case % 9)
+            texts = [written_tree(rng, tree) for tree in (first, second)]
+            weight = fractions.Fraction(case, 256)
+            with self.subTest(case=case, texts=texts):
+                found = leskwyn.compare(*texts, weight=weight)
+                self.assert_figures(found, first, second, weight=weight)
+                self.assertEqual(dataclasses.replace(found, weight=None, weighted_distance=None), leskwyn.compare(*texts))
+                self.assertEqual(math.copysign(1, found.weighted_distance), 1)
+                distances.add(found.weighted_distance)
+        self.assertGreater(len(distances), 120)
 
     def test_triplets_of_a_caterpillar(self) -> None:
         """Under the name at its one end, the name at the other end moves to the top: its C(98, 2) sets of three are parted
@@ -409,6 +439,19 @@ class Many(unittest.TestCase):
             self.assertEqual(leskwyn.matrix(self.texts, outgroup=outgroup), leskwyn.matrix(self.texts))
         self.assertNotEqual(squares[0], squares[1])
 
+    def test_weights(self) -> None:
+        for weight, k in (("none", 0), ("full", 256), ("1/2", 128), (3 / 256, 3)):
+            figures = [[expected_figures(t, u, weight=fractions.Fraction(k, 256)) for u in self.trees] for t in self.trees]
+            for normalised, key in ((False, "weighted_distance"), (True, "normalised_weighted_distance")):
+                expected = [[pair[key] for pair in row] for row in figures]
+                for jobs in (1, 8):
+                    found = leskwyn.matrix(self.texts, measure="weighted", weight=weight, normalised=normalised, jobs=jobs)
+                    self.assertEqual(found, expected)
+                self.assertEqual({type(number) for row in found for number in row}, {float})
+            rows = leskwyn.against(self.texts[0], self.texts[1:], weight=weight)
+            self.assertEqual([[getattr(row, key) for key in WEIGHTED_KEYS] for row in rows],
+                             [[one[key] for key in WEIGHTED_KEYS] for one in figures[0][1:]])
+
     def test_large_squares(self) -> None:
         """Threads at once inside the library, with trees of many sizes of work."""
         rng = random.Random(8)
@@ -446,6 +489,10 @@ class Many(unittest.TestCase):
             leskwyn.matrix(self.texts, measure="triplet")
         with self.assertRaises(ValueError):
             leskwyn.matrix(self.texts, jobs=0)
+        with self.assertRaisesRegex(ValueError, "^the weighted distance needs a weight$"):
+            leskwyn.matrix(self.texts, measure="weighted")
+        with self.assertRaisesRegex(ValueError, "^the measure is 'splits', and only 'weighted' takes a weight$"):
+            leskwyn.matrix(self.texts, measure="splits", weight=0.5)
 
     def test_progress(self) -> None:
         for jobs in (1, 2):
@@ -653,6 +700,54 @@ class Given(unittest.TestCase):
         self.assertEqual((found.tips, found.second_only), (100, math.comb(100, 4)))
         with self.assertRaisesRegex(leskwyn.Refusal, "share 1 name; 2 or more are needed"):
             leskwyn.compare("(A,B,C);", "(A,X,Y);", common=True)
+
+
+class Weights(unittest.TestCase):
+    """The spellings of a weight, and the sentence that turns another one away."""
+
+    def weighted(self, weight: object) -> float | None:
+        found = leskwyn.compare(FEATHERS, WINGS, weight=weight)
+        self.assertEqual(found.weighted_distance, None if found.weight is None else 3 + 4 * found.weight)
+        return found.weight
+
+    def test_spellings(self) -> None:
+        for weight, p in (("none", 0.0), ("full", 1.0), ("0.5", 0.5), ("1/2", 0.5), ("128/256", 0.5), (".5", 0.5), ("+0.50", 0.5),
+                          ("2/4", 0.5), ("1", 1.0), ("1.", 1.0), ("256/256", 1.0), ("0", 0.0), ("0.0", 0.0), ("-0", 0.0),
+                          ("-0.0", 0.0), ("0/7", 0.0), ("0.00390625", 1 / 256), ("1/256", 1 / 256), ("255/256", 255 / 256),
+                          (0, 0.0), (1, 1.0), (0.5, 0.5), (-0.0, 0.0), (77 / 256, 77 / 256), (fractions.Fraction(1, 2), 0.5),
+                          (decimal.Decimal("0.75"), 0.75), (None, None)):
+            with self.subTest(weight=weight):
+                told = self.weighted(weight)
+                self.assertEqual((told, math.copysign(1, told or 0)), (p, 1))
+        for k in range(257):
+            spellings = (k / 256, f"{k}/256", f"{k / 256:.8f}", str(k / 256))
+            self.assertEqual({self.weighted(weight) for weight in spellings}, {k / 256})
+
+    def test_nearest_two(self) -> None:
+        """Of any other fraction, and also of one that a float would round to a k/256."""
+        for weight, low in (("0.3", 76), (0.3, 76), ("1/3", 85), (fractions.Fraction(1, 3), 85), ("1/512", 0), (511 / 512, 255),
+                            ("1.5", 255), (2.0, 255), ("257/256", 255), ("-0.5", 0), (-1 / 256, 0), ("-1/256", 0), (5e-324, 0),
+                            (1 + 2**-52, 255), ("0.50000000000000000001", 128), ("0.49999999999999999999", 127),
+                            (decimal.Decimal("0.1"), 25), (10**30, 255)):
+            near = rf"{low}/256 \({low / 256}\) and {low + 1}/256 \({(low + 1) / 256}\)$"
+            with self.subTest(weight=weight), self.assertRaisesRegex(ValueError, "not k/256 with a k from 0 to 256; .*" + near):
+                self.weighted(weight)
+
+    def test_what_is_no_weight(self) -> None:
+        sentence = "is no weight: none, full, a decimal such as 0.5, or a fraction such as 1/2 or 128/256$"
+        for weight in ("", "half", "None", "FULL", "nan", "inf", "1/0", "1/", "/2", ".", "-", "0,5", "1e-1", "0x1", "1 /2",
+                       "1/-2", "1/2/3", "1.0/2", "\u0661", "1" * 5000, math.nan, math.inf, -math.inf, decimal.Decimal("NaN")):
+            with self.subTest(weight=weight), self.assertRaisesRegex(ValueError, sentence):
+                self.weighted(weight)
+        for weight in ([], b"0.5", 0.5j):
+            with self.subTest(weight=weight), self.assertRaises(TypeError):
+                self.weighted(weight)
+
+    def test_the_library_judges_too(self) -> None:
+        for wrong in (weights.Weight(3, 0.5), weights.Weight(weights.PART, 0.3), weights.Weight(weights.PART, math.nan)):
+            with self.assertRaises(leskwyn.Refusal) as raised:
+                counting.distances([P, Q], "weighted", False, 1, weight=wrong)
+            self.assertEqual(str(raised.exception), "refused 30: the weight is not k/256 with a k from 0 to 256")
 
 
 class Answers(unittest.TestCase):

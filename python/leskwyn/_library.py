@@ -33,9 +33,20 @@ class TripletTable(ctypes.Structure):
     _fields_ = [("refusal", ctypes.c_uint16), *((name, ctypes.c_uint64) for name in ("a", "b", "c", "d", "e", "distance"))]
 
 
-Answer = typing.TypeVar("Answer", ClaimSums, QuartetTable, SplitCounts, TripletTable)
-PAIR_CALLS = {"leskwyn_claim_sums": ClaimSums, "leskwyn_quartet_table": QuartetTable, "leskwyn_split_counts": SplitCounts,
-              "leskwyn_triplet_table": TripletTable}
+class WeightedDistance(ctypes.Structure):
+    _fields_ = [("refusal", ctypes.c_uint16), ("distance", ctypes.c_double)]
+
+
+class PairCall(typing.NamedTuple):
+    """A call of two tables and the work: its answer, and what it takes besides."""
+    answer: type[ctypes.Structure]
+    besides: list[typing.Any] = []
+
+
+Answer = typing.TypeVar("Answer", ClaimSums, QuartetTable, SplitCounts, TripletTable, WeightedDistance)
+PAIR_CALLS = {"leskwyn_claim_sums": PairCall(ClaimSums), "leskwyn_quartet_table": PairCall(QuartetTable),
+              "leskwyn_split_counts": PairCall(SplitCounts), "leskwyn_triplet_table": PairCall(TripletTable),
+              "leskwyn_weighted_distance": PairCall(WeightedDistance, [ctypes.c_uint16, ctypes.c_double])}
 
 
 class Words(typing.NamedTuple):
@@ -78,9 +89,9 @@ def library() -> ctypes.CDLL:
     try:
         found = ctypes.CDLL(os.path.abspath(path))
         slices = [ctypes.POINTER(ctypes.c_uint16), ctypes.c_size_t] * 3
-        for name, answer in PAIR_CALLS.items():
+        for name, (answer, besides) in PAIR_CALLS.items():
             call = getattr(found, name)
-            call.argtypes, call.restype = slices, answer
+            call.argtypes, call.restype = slices + besides, answer
         found.leskwyn_version.argtypes, found.leskwyn_version.restype = [], ctypes.c_uint32
     except (OSError, AttributeError) as error:
         raise Trouble(f"cannot load the library {path}: {error}") from None
@@ -91,9 +102,9 @@ def library() -> ctypes.CDLL:
     return found
 
 
-def ask(name: str, answer: type[Answer], first: Words, second: Words, lent: Cells) -> Answer:
+def ask(name: str, answer: type[Answer], first: Words, second: Words, lent: Cells, *besides: object) -> Answer:
     call: typing.Callable[..., Answer] = getattr(library(), name)
-    return call(first.cells, first.count, second.cells, second.count, lent, len(lent))
+    return call(first.cells, first.count, second.cells, second.count, lent, len(lent), *besides)
 
 
 def claim_sums(first: Words, second: Words, lent: Cells) -> ClaimSums:
@@ -114,3 +125,8 @@ def split_counts(first: Words, second: Words, lent: Cells) -> SplitCounts:
 def triplet_table(first: Words, second: Words, lent: Cells) -> TripletTable:
     """The five counts A to E of sets of three without the outgroup, label 0, and the triplet distance, or a refusal."""
     return ask("leskwyn_triplet_table", TripletTable, first, second, lent)
+
+
+def weighted_distance(first: Words, second: Words, lent: Cells, kind: int, fraction: float) -> WeightedDistance:
+    """The weighted distance B + p (C + D) under the weight of that kind and fraction, or a refusal."""
+    return ask("leskwyn_weighted_distance", WeightedDistance, first, second, lent, kind, fraction)

@@ -9,9 +9,11 @@ from leskwyn.labels import outgroup_first
 from leskwyn.sources import Given, is_comparison_file, named_file, trees_given, trees_of_bytes
 from leskwyn.tables import tables_of_file
 from leskwyn.trees import Placed, checked, labels_of_names, pruned, table_of
+from leskwyn.weights import GivenWeight, Weight, weight_of
 
 
-def compare(a: Given, b: Given = None, *, common: bool = False, outgroup: str | None = None) -> Comparison:
+def compare(a: Given, b: Given = None, *, common: bool = False, outgroup: str | None = None,
+            weight: GivenWeight = None) -> Comparison:
     """The figures of two trees, as a Comparison.
 
     Each of `a` and `b` is Newick text, the path of a Newick or NEXUS file (an os.PathLike, or a str that names a file that
@@ -19,76 +21,91 @@ def compare(a: Given, b: Given = None, *, common: bool = False, outgroup: str | 
 
     The trees have 2 to 256 tips, with the same names. With `common` each is cut down to the names that both have. Where a
     tree has its root plays no part, and neither do branch lengths. The triplets take the name `outgroup` for the outgroup,
-    by default the first of the sorted names; no other figure depends on it.
+    by default the first of the sorted names; no other figure depends on it. With a `weight` p the weighted distance
+    B + p (C + D) is told: 'none', 'full', or a number or text that is k/256 with a k from 0 to 256, as 0.5 and '1/2'.
 
     Raises Refusal for trees that are turned away, and Trouble for a file that cannot be read; both have `number` and
-    `reason`.
+    `reason`. Raises ValueError for a weight that is none of these.
 
         >>> leskwyn.compare("((a,b),(c,d));", "((a,c),(b,d));").different
         1
+        >>> leskwyn.compare("((a,b),(c,d));", "(a,b,c,d);", weight="1/2").weighted_distance
+        0.5
     """
+    given = optional_weight(weight)
     if b is not None:
         trees = trees_given(a, "the first tree", 1) + trees_given(b, "the second tree", 1)
-        return compare_trees(*trees, common=common, outgroup=outgroup)
+        return compare_trees(*trees, common=common, outgroup=outgroup, weight=given)
     path = named_file(a)
     if path is None:
-        return compare_trees(*trees_given(a, "the text", 2), common=common, outgroup=outgroup)
+        return compare_trees(*trees_given(a, "the text", 2), common=common, outgroup=outgroup, weight=given)
     content = files.read_bytes(path)
     if not is_comparison_file(content):
-        return compare_trees(*trees_of_bytes(path, content, 2), common=common, outgroup=outgroup)
+        return compare_trees(*trees_of_bytes(path, content, 2), common=common, outgroup=outgroup, weight=given)
     if outgroup is not None:
         raise Refusal(f"{path} is a comparison file, without names: its outgroup is label 0")
-    return compare_file(path, content)
+    return compare_file(path, content, given)
 
 
 def against(reference: Given, trees: Iterable[Given], *, common: bool = False, jobs: int | None = None,
-            outgroup: str | None = None) -> list[Comparison]:
+            outgroup: str | None = None, weight: GivenWeight = None) -> list[Comparison]:
     """The figures of one tree against each of many, in their order; the reference is the first tree of each Comparison.
 
     A tree is given as to compare; a file or a text may hold several. `jobs` is the number of threads, by default one for
-    each processor. `outgroup` is as for compare.
+    each processor. `outgroup` and `weight` are as for compare.
     """
+    given = optional_weight(weight)
     held = trees_given(reference, "the reference", 1) + all_trees(trees)
     held, names = same_names(held, common, outgroup)
     labels = labels_of_names(names)
     placed = [(tree.place, table_of(tree.tree, labels)) for tree in held]
-    return counting.compared_to_one(placed[0], placed[1:], names, threads(jobs))
+    return counting.compared_to_one(placed[0], placed[1:], names, threads(jobs), weight=given)
 
 
 def matrix(trees: Iterable[Given], *, measure: str = "quartet", normalised: bool = False, common: bool = False,
-           jobs: int | None = None, outgroup: str | None = None) -> list[list[Number]]:
+           jobs: int | None = None, outgroup: str | None = None, weight: GivenWeight = None) -> list[list[Number]]:
     """The distances of all pairs of trees: a square of numbers, row i and column j for the trees i and j.
 
     A tree is given as to compare; a file or a text may hold several. `measure` is 'quartet' for the quartet distance,
-    'splits' for the Robinson-Foulds distance or 'triplets' for the triplet distance; with `normalised` it is divided by all
-    sets of four, by the splits of both trees, or by all sets of three without the outgroup. `jobs` is the number of threads,
-    by default one for each processor. `outgroup` is as for compare.
+    'splits' for the Robinson-Foulds distance, 'triplets' for the triplet distance or 'weighted' for the weighted quartet
+    distance, which takes a `weight`; with `normalised` it is divided by all sets of four, by the splits of both trees, or by
+    all sets of three without the outgroup. `jobs` is the number of threads, by default one for each processor. `outgroup`
+    and `weight` are as for compare.
 
         >>> leskwyn.matrix(["((a,b),(c,d));", "((a,c),(b,d));", "(a,b,c,d);"])
         [[0, 1, 1], [1, 0, 1], [1, 1, 0]]
     """
     if measure not in counting.MEASURES:
         raise ValueError(f"measure is {measure!r}, not one of {', '.join(map(repr, counting.MEASURES))}")
+    given, fault = optional_weight(weight), counting.wrong_weight(measure, weight)
+    if fault:
+        raise ValueError(fault)
     held, names = same_names(all_trees(trees), common, outgroup)
     labels = labels_of_names(names)
-    return counting.distances([table_of(tree.tree, labels) for tree in held], measure, normalised, threads(jobs))
+    tables = [table_of(tree.tree, labels) for tree in held]
+    return counting.distances(tables, measure, normalised, threads(jobs), weight=given)
 
 
 # ---- what these share with the commands
 
-def compare_trees(first: Placed, second: Placed, *, common: bool = False, outgroup: str | None = None) -> Comparison:
+def optional_weight(weight: GivenWeight) -> Weight | None:
+    return None if weight is None else weight_of(weight)
+
+
+def compare_trees(first: Placed, second: Placed, *, common: bool = False, outgroup: str | None = None,
+                  weight: Weight | None = None) -> Comparison:
     (first, second), names = same_names([first, second], common, outgroup)
     labels = labels_of_names(names)
     tables = [_library.words(table_of(placed.tree, labels)) for placed in (first, second)]
-    return counting.compared((first.place, second.place), tables[0], tables[1], names)
+    return counting.compared((first.place, second.place), tables[0], tables[1], names, weight)
 
 
-def compare_file(place: str, content: bytes) -> Comparison:
+def compare_file(place: str, content: bytes, weight: Weight | None = None) -> Comparison:
     """The figures of a comparison file of any length."""
     first, second = tables_of_file(place, content)
     try:
         return counting.compared((f"{place}, first tree", f"{place}, second tree"), _library.words(first),
-                                 _library.words(second), ())
+                                 _library.words(second), (), weight)
     except Refusal as refusal:
         raise Refusal(f"{place}: {refusal.reason}", refusal.number) from None
 

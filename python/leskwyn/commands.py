@@ -18,7 +18,8 @@ from leskwyn.figures import Comparison
 from leskwyn.labels import outgroup_first
 from leskwyn.sources import is_comparison_file, trees_of_bytes, trees_of_path
 from leskwyn.trees import Placed, checked, labels_of_names, table_of
-from leskwyn.usage import Parser, ProgressLine, Usage, add_common, add_jobs, add_outgroup, with_common
+from leskwyn.usage import Parser, ProgressLine, Usage, add_common, add_jobs, add_outgroup, add_weight, with_common
+from leskwyn.weights import Weight
 
 HELP = """\
 usage: leskwyn COMMAND [OPTION...] [FILE...]
@@ -48,8 +49,8 @@ exit status: 0 done; 1 refused; 2 wrong usage, a file that cannot be read or wri
 # ---- compare
 
 def compare_parser() -> Parser:
-    parser = Parser("compare", usage="leskwyn compare [A [B]] [--format text|tsv|json | --listing] [--outgroup NAME] [--common] "
-                                     "[--tables]",
+    parser = Parser("compare", usage="leskwyn compare [A [B]] [--format text|tsv|json | --listing] [--weight W] "
+                                     "[--outgroup NAME] [--common] [--tables]",
                     description="Compares two trees: each in a Newick file, both in one, or as one comparison file.",
                     epilog="Without a file the two example trees are compared. docs/COMMANDS.md has the keys of tsv and json.\n"
                            + STATUS)
@@ -58,36 +59,38 @@ def compare_parser() -> Parser:
     forms.add_argument("--format", choices=["text", "tsv", "json"], default="text", help="for people, or for programs")
     forms.add_argument("--listing", dest="format", action="store_const", const="listing",
                        help="the six lines of the proved program compare, or 'refused N'")
+    add_weight(parser)
     add_outgroup(parser)
     add_common(parser)
     parser.add_argument("--tables", action="store_true", help="take the one file for a comparison file, whatever its bytes")
     return parser
 
 
-def example_trees(outgroup: str | None) -> Comparison:
+def example_trees(outgroup: str | None, weight: Weight | None) -> Comparison:
     paths = [os.path.join(TOP, name) for name in EXAMPLES]
     if not all(map(os.path.isfile, paths)):
         raise Trouble(f"the example trees {' and '.join(EXAMPLES)} are not in {TOP}: name two files")
     files.say_line(f"these are the example trees {' and '.join(EXAMPLES)}; `leskwyn compare A B` compares your own")
     trees = [Placed(name, placed.tree) for name, path in zip(EXAMPLES, paths) for placed in trees_of_path(path, 1)]
-    return compare_trees(*trees, outgroup=outgroup)
+    return compare_trees(*trees, outgroup=outgroup, weight=weight)
 
 
 def one_file(path: str, options: argparse.Namespace) -> Comparison:
     """The figures of a file that holds both trees."""
     place, content = files.shown_path(path), files.read_bytes(path)
     if not options.tables and not is_comparison_file(content):
-        return compare_trees(*with_common(trees_of_bytes(place, content, 2), options.common), outgroup=options.outgroup)
+        return compare_trees(*with_common(trees_of_bytes(place, content, 2), options.common), outgroup=options.outgroup,
+                             weight=options.weight)
     if options.common:
         compare_parser().error("--common goes by names, and a comparison file has none")
     if options.outgroup is not None:
         compare_parser().error("--outgroup goes by names, and a comparison file has none: its outgroup is label 0")
-    return compare_file(place, content)
+    return compare_file(place, content, options.weight)
 
 
 def two_files(paths: list[str], options: argparse.Namespace) -> Comparison:
     trees = [placed for path in paths for placed in trees_of_path(path, 1)]
-    return compare_trees(*with_common(trees, options.common), outgroup=options.outgroup)
+    return compare_trees(*with_common(trees, options.common), outgroup=options.outgroup, weight=options.weight)
 
 
 def compare_options(arguments: list[str]) -> argparse.Namespace:
@@ -96,6 +99,8 @@ def compare_options(arguments: list[str]) -> argparse.Namespace:
     if len(options.trees) > 2 or options.tables and len(options.trees) != 1:
         parser.error(f"{len(options.trees)} files; " + ("one comparison file is needed" if options.tables else
                                                         "one or two are needed (leskwyn matrix takes more)"))
+    if options.weight is not None and options.format == "listing":
+        parser.error("--listing and --weight exclude each other: the six lines have no weighted distance")
     return options
 
 
@@ -104,7 +109,7 @@ def compare_command(options: argparse.Namespace) -> int:
         if len(options.trees) == 1:
             found = one_file(options.trees[0], options)
         else:
-            found = two_files(options.trees, options) if options.trees else example_trees(options.outgroup)
+            found = two_files(options.trees, options) if options.trees else example_trees(options.outgroup, options.weight)
     except Refusal as refusal:
         if options.format == "listing" and refusal.number is not None:
             files.print_text(f"refused {refusal.number}\n")
@@ -129,13 +134,15 @@ def told_apart(places: list[str]) -> list[str]:
 
 
 def matrix_parser() -> Parser:
-    parser = Parser("matrix", usage="leskwyn matrix FILE... [--measure quartet|splits|triplets] [--normalised] "
-                                    "[--format tsv|phylip] [--jobs N] [--outgroup NAME] [--common]",
+    parser = Parser("matrix", usage="leskwyn matrix FILE... [--measure quartet|splits|triplets|weighted] [--weight W] "
+                                    "[--normalised] [--format tsv|phylip] [--jobs N] [--outgroup NAME] [--common]",
                     description="Compares all pairs of trees; a file may hold several.",
                     epilog="A tree is told by its file, and as FILE#K where a file holds several.\n" + STATUS)
     parser.add_argument("trees", nargs="*", metavar="FILE", help="Newick files; - is standard input")
     parser.add_argument("--measure", choices=sorted(counting.MEASURES), default="quartet",
-                        help="the quartet distance, the Robinson-Foulds distance of splits, or the triplet distance")
+                        help="the quartet distance, the Robinson-Foulds distance of splits, the triplet distance, or the "
+                             "weighted distance")
+    add_weight(parser)
     parser.add_argument("--normalised", action="store_true", help="over all sets of four, over the splits of both trees, or "
                                                                   "over all sets of three without the outgroup")
     parser.add_argument("--format", choices=sorted(text.SQUARES), default="tsv", help="a table, or PHYLIP's square")
@@ -150,6 +157,9 @@ def matrix_options(arguments: list[str]) -> argparse.Namespace:
     options = parser.parsed(arguments, "trees")
     if not options.trees:
         parser.error("no files; one or more are needed")
+    fault = counting.wrong_weight(options.measure, options.weight)
+    if fault:
+        parser.error(fault)
     return options
 
 
@@ -162,17 +172,19 @@ def matrix_command(options: argparse.Namespace) -> int:
         files.say_line(f"the outgroup is {text.told_outgroup(names)}")
     with ProgressLine(len(trees) * (len(trees) - 1) // 2) as progress:
         square = counting.distances(tables, options.measure, options.normalised, options.jobs or counting.default_jobs(),
-                                    progress)
+                                    progress, options.weight)
     files.print_text(text.SQUARES[options.format](told_apart([placed.place for placed in trees]), square))
     return 0
 
 
 def against_parser() -> Parser:
-    parser = Parser("against", usage="leskwyn against REF FILE... [--format tsv|json] [--jobs N] [--outgroup NAME] [--common]",
+    parser = Parser("against", usage="leskwyn against REF FILE... [--format tsv|json] [--weight W] [--jobs N] [--outgroup NAME] "
+                                     "[--common]",
                     description="Compares one tree with each of many; a file may hold several, but REF holds one.",
                     epilog="REF is the first tree of each row. docs/COMMANDS.md has the keys of tsv and json.\n" + STATUS)
     parser.add_argument("trees", nargs="*", metavar="FILE", help="REF, then Newick files; - is standard input")
     parser.add_argument("--format", choices=["tsv", "json"], default="tsv", help="rows, or an object on each line")
+    add_weight(parser)
     add_jobs(parser)
     add_outgroup(parser)
     add_common(parser)
@@ -193,7 +205,8 @@ def against_command(options: argparse.Namespace) -> int:
     labels = labels_of_names(names)
     tables = [(placed.place, table_of(placed.tree, labels)) for placed in trees]
     with ProgressLine(len(trees) - 1) as progress:
-        rows = counting.compared_to_one(tables[0], tables[1:], names, options.jobs or counting.default_jobs(), progress)
+        rows = counting.compared_to_one(tables[0], tables[1:], names, options.jobs or counting.default_jobs(), progress,
+                                        options.weight)
     files.print_text(text.FORMATS[options.format](rows))
     return 0
 

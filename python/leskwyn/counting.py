@@ -9,6 +9,7 @@ from leskwyn._library import Cells, Words
 from leskwyn.figures import Comparison, normalised
 from leskwyn.tables import pair_refusal
 from leskwyn.trees import Table
+from leskwyn.weights import Weight
 
 Number = typing.Union[int, float]
 # Is told how many pairs are done, from the thread that waits for them.
@@ -22,14 +23,16 @@ def refused(number: int, first: Words, second: Words) -> None:
         raise pair_refusal(number, list(first.cells[:first.count]), list(second.cells[:second.count]))
 
 
-def compared(places: tuple[str, str], first: Words, second: Words, names: Sequence[str]) -> Comparison:
-    """All figures of a pair. `places` tells where the trees come from."""
+def compared(places: tuple[str, str], first: Words, second: Words, names: Sequence[str],
+             weight: Weight | None = None) -> Comparison:
+    """All figures of a pair, the weighted distance if there is a weight. `places` tells where the trees come from."""
     lent = _library.work(_library.work_cells(first, second))
     quartets = _library.quartet_table(first, second, lent)
     refused(quartets.refusal, first, second)
     claims = _library.claim_sums(first, second, lent)
     splits = _library.split_counts(first, second, lent)
     triplets = _library.triplet_table(first, second, lent)
+    weighted = None if weight is None else weighted_by(weight)(first, second, lent, False)
     return Comparison(
         first=places[0], second=places[1], tips=first.cells[0], names=tuple(names),
         same=quartets.a, different=quartets.b, first_only=quartets.c, second_only=quartets.d, neither=quartets.e,
@@ -37,10 +40,14 @@ def compared(places: tuple[str, str], first: Words, second: Words, names: Sequen
         robinson_foulds=splits.distance, first_claims=claims.first, second_claims=claims.second, same_claims=claims.same,
         different_claims=claims.different, same_triplets=triplets.a, different_triplets=triplets.b,
         first_only_triplets=triplets.c, second_only_triplets=triplets.d, neither_triplets=triplets.e,
-        triplet_distance=triplets.distance)
+        triplet_distance=triplets.distance, weight=None if weight is None else weight.fraction,
+        weighted_distance=weighted)
 
 
 # ---- one distance
+
+Measure = Callable[[Words, Words, Cells, bool], Number]
+
 
 def quartet_distance(first: Words, second: Words, lent: Cells, over_all: bool) -> Number:
     table = _library.quartet_table(first, second, lent)
@@ -60,7 +67,28 @@ def triplet_distance(first: Words, second: Words, lent: Cells, over_all: bool) -
     return normalised(table.distance, comb(first.cells[0] - 1, 3)) if over_all else table.distance
 
 
-MEASURES = {"quartet": quartet_distance, "splits": splits_distance, "triplets": triplet_distance}
+def weighted_by(weight: Weight) -> Measure:
+    """The weighted distance under a weight."""
+    def weighted_distance(first: Words, second: Words, lent: Cells, over_all: bool) -> Number:
+        answer = _library.weighted_distance(first, second, lent, weight.kind, weight.fraction)
+        refused(answer.refusal, first, second)
+        return normalised(answer.distance, comb(first.cells[0], 4)) if over_all else answer.distance
+
+    return weighted_distance
+
+
+WEIGHTED = "weighted"
+UNWEIGHTED = {"quartet": quartet_distance, "splits": splits_distance, "triplets": triplet_distance}
+MEASURES = (*UNWEIGHTED, WEIGHTED)
+
+
+def wrong_weight(measure: str, weight: object) -> str:
+    """Why a measure does not go with a weight, or without one; else an empty text."""
+    if measure == WEIGHTED and weight is None:
+        return "the weighted distance needs a weight"
+    if measure != WEIGHTED and weight is not None:
+        return f"the measure is {measure!r}, and only {WEIGHTED!r} takes a weight"
+    return ""
 
 
 # ---- many pairs
@@ -98,11 +126,13 @@ def done_by_threads(tasks: Sequence[tuple[int, Callable[[], Done]]], jobs: int, 
         pool.shutdown(cancel_futures=True)
 
 
-def distances(tables: Sequence[Table], measure: str, over_all: bool, jobs: int,
-              progress: Progress | None = None) -> list[list[Number]]:
-    """The square of distances: symmetric, with 0 on the diagonal. A row's pairs after the diagonal are one task."""
+def distances(tables: Sequence[Table], measure: str, over_all: bool, jobs: int, progress: Progress | None = None,
+              weight: Weight | None = None) -> list[list[Number]]:
+    """The square of distances: symmetric, with 0 on the diagonal. A row's pairs after the diagonal are one task. The
+    measure is the weighted distance if there is a weight."""
     held = [_library.words(table) for table in tables]
-    distance, zero = MEASURES[measure], 0.0 if over_all else 0
+    distance = UNWEIGHTED[measure] if weight is None else weighted_by(weight)
+    zero = 0.0 if over_all or weight is not None else 0
     most = max((table[1] for table in tables), default=1)
 
     def row(at: int) -> list[Number]:
@@ -121,11 +151,11 @@ def distances(tables: Sequence[Table], measure: str, over_all: bool, jobs: int,
 
 
 def compared_to_one(reference: tuple[str, Table], others: Sequence[tuple[str, Table]], names: Sequence[str], jobs: int,
-                    progress: Progress | None = None) -> list[Comparison]:
+                    progress: Progress | None = None, weight: Weight | None = None) -> list[Comparison]:
     """The figures of one tree against each of the others, each with its place."""
     first = _library.words(reference[1])
 
     def task(place: str, table: Table) -> tuple[int, Callable[[], Comparison]]:
-        return 1, lambda: compared((reference[0], place), first, _library.words(table), names)
+        return 1, lambda: compared((reference[0], place), first, _library.words(table), names, weight)
 
     return done_in_turn([task(place, table) for place, table in others], jobs, progress)

@@ -36,9 +36,11 @@ class Comparison:
     second_only_triplets   D: that only the second tree parts
     neither_triplets       E: that both trees leave open
     triplet_distance       the triplet distance, B + C + D of these
+    weight                 p, what a set of four of C or D weighs, from 0.0 to 1.0; None if no weight is given
+    weighted_distance      the weighted quartet distance, B + p (C + D), exactly; None if no weight is given
 
-    sets_of_four, normalised_distance, normalised_robinson_foulds, outgroup, sets_of_three and normalised_triplet_distance
-    follow from these.
+    sets_of_four, normalised_distance, normalised_robinson_foulds, outgroup, sets_of_three, normalised_triplet_distance and
+    normalised_weighted_distance follow from these.
     """
 
     first: str
@@ -65,6 +67,8 @@ class Comparison:
     second_only_triplets: int = dataclasses.field(kw_only=True)
     neither_triplets: int = dataclasses.field(kw_only=True)
     triplet_distance: int = dataclasses.field(kw_only=True)
+    weight: float | None = dataclasses.field(default=None, kw_only=True)
+    weighted_distance: float | None = dataclasses.field(default=None, kw_only=True)
 
     @property
     def sets_of_four(self) -> int:
@@ -96,6 +100,11 @@ class Comparison:
         """The triplet distance over all sets of three, from 0 to 1; 0.0 where there is no set of three."""
         return normalised(self.triplet_distance, self.sets_of_three)
 
+    @property
+    def normalised_weighted_distance(self) -> float | None:
+        """The weighted distance over all sets of four, from 0 to 1; 0.0 where there is no set of four."""
+        return None if self.weighted_distance is None else normalised(self.weighted_distance, self.sets_of_four)
+
     def listing(self) -> str:
         """The six lines that the proved program compare prints."""
         return (f"leaves {self.tips}\n"
@@ -106,20 +115,24 @@ class Comparison:
                 f"triplets {self.same_triplets} {self.different_triplets} {self.first_only_triplets} "
                 f"{self.second_only_triplets} {self.neither_triplets}\n")
 
+    def keys(self) -> tuple[str, ...]:
+        """The names of all figures that are told, in the order of docs/COMMANDS.md; those of a weight only if one is given."""
+        return KEYS if self.weight is None else KEYS + WEIGHTED_KEYS
+
     def as_dict(self) -> dict[str, typing.Any]:
-        """All figures under their names, in the order of docs/COMMANDS.md; the names of the tips are a list."""
-        return {key: getattr(self, key) for key in KEYS} | {"names": list(self.names)}
+        """All figures that are told under their names, in that order; the names of the tips are a list."""
+        return {key: getattr(self, key) for key in self.keys()} | {"names": list(self.names)}
 
 
-def normalised(part: int, whole: int) -> float:
+def normalised(part: int | float, whole: int) -> float:
     """The part over the whole; 0.0 where there is no whole, and so nothing that differs."""
     return part / whole if whole else 0.0
 
 
-# In the order of docs/COMMANDS.md, where a new key comes last; a TSV row has all but the names.
+# In the order of docs/COMMANDS.md, where a new key comes last.
 KEYS = ("first", "second", "tips", "sets_of_four", "same", "different", "first_only", "second_only", "neither", "distance",
         "normalised_distance", "first_splits", "second_splits", "common_splits", "robinson_foulds",
         "normalised_robinson_foulds", "first_claims", "second_claims", "same_claims", "different_claims", "names", "outgroup",
         "sets_of_three", "same_triplets", "different_triplets", "first_only_triplets", "second_only_triplets",
         "neither_triplets", "triplet_distance", "normalised_triplet_distance")
-COLUMNS = tuple(key for key in KEYS if key != "names")
+WEIGHTED_KEYS = ("weight", "weighted_distance", "normalised_weighted_distance")

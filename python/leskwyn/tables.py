@@ -133,6 +133,8 @@ def pair_refusal(number: int, first: Table, second: Table) -> Refusal:
     """A refusal of two tables by the library's number, with the reason that the rules give."""
     if number == 8:
         return Refusal(f"the first tree has {first[0]} tips, the second {second[0]}; {DIFFERENT_TIPS}", number)
+    if number == 30:
+        return Refusal("the weight is not k/256 with a k from 0 to 256", number)
     which = number // 100
     found = broken_rule((first, second)[which]) if number % 100 in RULES and which < 2 else None
     if found is None or found.number != number % 100:

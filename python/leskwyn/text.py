@@ -3,7 +3,8 @@ from collections.abc import Sequence
 
 from leskwyn.counting import Number
 from leskwyn.errors import one_line
-from leskwyn.figures import COLUMNS, Comparison
+from leskwyn.figures import KEYS, Comparison
+from leskwyn.weights import told_fraction
 
 CASES = [("A", "parted alike by both trees"), ("B", "parted differently"), ("C", "parted by the first tree only"),
          ("D", "parted by the second tree only"), ("E", "left open by both trees")]
@@ -29,7 +30,22 @@ def quartets_for_people(c: Comparison) -> str:
             + case_rows([c.same, c.different, c.first_only, c.second_only, c.neither])
             + row("distance", str(c.distance), "B + C + D")
             + row("normalised distance", f"{c.normalised_distance:.4f}",
-                  "distance / sets of four" if c.sets_of_four else "there are no sets of four"))
+                  "distance / sets of four" if c.sets_of_four else "there are no sets of four")
+            + weighted_for_people(c))
+
+
+def exactly(number: float) -> str:
+    """All decimals of a number of 256ths, and none that is not needed."""
+    return f"{number:.8f}".rstrip("0").rstrip(".")
+
+
+def weighted_for_people(c: Comparison) -> str:
+    """The weighted distance with its weight, if there is one."""
+    if c.weight is None or c.weighted_distance is None:
+        return ""
+    return (row("weighted distance", exactly(c.weighted_distance), f"B + p (C + D), p = {told_fraction(c.weight)}")
+            + row("normalised weighted distance", f"{c.normalised_weighted_distance:.4f}",
+                  "weighted distance / sets of four" if c.sets_of_four else "there are no sets of four"))
 
 
 def splits_for_people(c: Comparison) -> str:
@@ -73,17 +89,12 @@ def cell(value: object) -> str:
     return one_line(str(value))
 
 
-def tsv_header() -> str:
-    return "\t".join(COLUMNS) + "\n"
-
-
-def tsv_row(c: Comparison) -> str:
-    return "\t".join(cell(getattr(c, column)) for column in COLUMNS) + "\n"
-
-
 def as_tsv(comparisons: Sequence[Comparison]) -> str:
-    """A header, then a row for each pair."""
-    return tsv_header() + "".join(map(tsv_row, comparisons))
+    """A header of the keys but the names, then a row for each pair. All have a weight, or none."""
+    keys = comparisons[0].keys() if comparisons else KEYS
+    columns = [key for key in keys if key != "names"]
+    rows = [columns, *([cell(getattr(c, column)) for column in columns] for c in comparisons)]
+    return "".join("\t".join(row) + "\n" for row in rows)
 
 
 def as_json(comparisons: Sequence[Comparison]) -> str:

@@ -9,6 +9,7 @@ from leskwyn import __version__, files
 from leskwyn.counting import Progress
 from leskwyn.errors import quoted
 from leskwyn.trees import Placed, pruned
+from leskwyn.weights import SPELLINGS, Weight, weight_of
 
 # How long work runs before a terminal sees how far it is, and how often it does, in seconds.
 SHOWN_AFTER, SHOWN_EVERY = 1.0, 0.2
@@ -53,6 +54,18 @@ def add_common(parser: Parser) -> None:
 
 def add_outgroup(parser: Parser) -> None:
     parser.add_argument("--outgroup", metavar="NAME", help="the outgroup of the triplets; else the first of the sorted names")
+
+
+def weight(text: str) -> Weight:
+    try:
+        return weight_of(text)
+    except ValueError as error:
+        raise argparse.ArgumentTypeError(str(error)) from None
+
+
+def add_weight(parser: Parser) -> None:
+    parser.add_argument("--weight", type=weight, metavar="W",
+                        help=f"what a set of four of C or D weighs in the weighted distance: {SPELLINGS}")
 
 
 def jobs(text: str) -> int:
