@@ -14,7 +14,7 @@ import unittest
 ROOT = pathlib.Path(__file__).resolve().parent.parent
 PROGRAMS = ["crates/library_example/src/main.rt", "crates/library_example/proofs/distance/Proof.antt",
             "examples/compare.c", "bindings/examples/distance.rs"]
-LIBRARIES = ["trees", "quartets", "pair_file"]
+LIBRARIES = ["trees", "quartets", "weights", "pair_file"]
 
 
 def text(path: str) -> str:
