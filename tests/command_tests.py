@@ -619,6 +619,13 @@ class Pages(unittest.TestCase):
     def test_commands_page(self) -> None:
         self.assert_examples("docs/COMMANDS.md", 6)
 
+    def test_weighted_lines(self) -> None:
+        """The lines that docs/COMMANDS.md shows of a longer text."""
+        page = (ROOT / "docs" / "COMMANDS.md").read_text(encoding="utf-8")
+        shown = re.findall(r"^    (?:normalised )?weighted distance .*$", page, re.M)
+        done = run_leskwyn("compare", "examples/feathers.nwk", "examples/wings.nwk", "--weight", "1/2")
+        self.assertEqual([line[4:] for line in shown], [line for line in done.stdout.decode().split("\n") if "weighted" in line])
+
     def test_readme(self) -> None:
         self.assert_examples("README.md", 2)
 

@@ -293,9 +293,11 @@ pub fn weighted_agrees(
     assert_eq!(after[..crossings.len()], *crossings, "crossings of {told}");
     assert_eq!(after[crossings.len()..], before[crossings.len()..], "later cells of {told}");
     if let Some(weight) = weighing.weight() {
-        let (wrapped, _, filled) = lend(cells, random, |work| leskwyn::weighted_distance(first, second, work, weight));
+        let (wrapped, before, after) =
+            lend(cells, random, |work| leskwyn::weighted_distance(first, second, work, weight));
         assert_eq!((number(&wrapped), wrapped.unwrap_or(0.0).to_bits()), (refusal, distance.to_bits()), "{told}");
-        assert_eq!(filled[..crossings.len()], *crossings, "crossings of {told}");
+        assert_eq!(after[..crossings.len()], *crossings, "crossings of {told}");
+        assert_eq!(after[crossings.len()..], before[crossings.len()..], "later cells of {told}");
     }
 }
 

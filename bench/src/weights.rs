@@ -120,8 +120,8 @@ pub fn wrong_fractions() -> Vec<f64> {
         .collect()
 }
 
-/// Each kind from 0 to 4, and 65535, with each of the fractions.
+/// Kinds that are there and kinds that are not, each with each of the fractions.
 pub fn every_kind(fractions: &[f64]) -> Vec<Weighing> {
-    let kinds = [0, 1, 2, 3, 4, 65535];
+    let kinds = [0, 1, 2, 3, 4, 256, 258, 65535];
     kinds.iter().flat_map(|&kind| fractions.iter().map(move |&fraction| Weighing { kind, fraction })).collect()
 }
