@@ -115,13 +115,10 @@ class Comparison:
                 f"triplets {self.same_triplets} {self.different_triplets} {self.first_only_triplets} "
                 f"{self.second_only_triplets} {self.neither_triplets}\n")
 
-    def keys(self) -> tuple[str, ...]:
-        """The names of all figures that are told, in the order of docs/COMMANDS.md; those of a weight only if one is given."""
-        return KEYS if self.weight is None else KEYS + WEIGHTED_KEYS
-
     def as_dict(self) -> dict[str, typing.Any]:
-        """All figures that are told under their names, in that order; the names of the tips are a list."""
-        return {key: getattr(self, key) for key in self.keys()} | {"names": list(self.names)}
+        """All figures under their names, in the order of docs/COMMANDS.md; the names of the tips are a list. Those of a weight
+        are there if one is given."""
+        return {key: getattr(self, key) for key in keys_of(self)} | {"names": list(self.names)}
 
 
 def normalised(part: int | float, whole: int) -> float:
@@ -136,3 +133,8 @@ KEYS = ("first", "second", "tips", "sets_of_four", "same", "different", "first_o
         "sets_of_three", "same_triplets", "different_triplets", "first_only_triplets", "second_only_triplets",
         "neither_triplets", "triplet_distance", "normalised_triplet_distance")
 WEIGHTED_KEYS = ("weight", "weighted_distance", "normalised_weighted_distance")
+
+
+def keys_of(comparison: Comparison) -> tuple[str, ...]:
+    """The keys of a comparison in their order; those of a weight only if one is given."""
+    return KEYS if comparison.weight is None else KEYS + WEIGHTED_KEYS

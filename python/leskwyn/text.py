@@ -3,7 +3,7 @@ from collections.abc import Sequence
 
 from leskwyn.counting import Number
 from leskwyn.errors import one_line
-from leskwyn.figures import KEYS, Comparison
+from leskwyn.figures import KEYS, Comparison, keys_of
 from leskwyn.weights import told_fraction
 
 CASES = [("A", "parted alike by both trees"), ("B", "parted differently"), ("C", "parted by the first tree only"),
@@ -91,7 +91,7 @@ def cell(value: object) -> str:
 
 def as_tsv(comparisons: Sequence[Comparison]) -> str:
     """A header of the keys but the names, then a row for each pair. All have a weight, or none."""
-    keys = comparisons[0].keys() if comparisons else KEYS
+    keys = keys_of(comparisons[0]) if comparisons else KEYS
     columns = [key for key in keys if key != "names"]
     rows = [columns, *([cell(getattr(c, column)) for column in columns] for c in comparisons)]
     return "".join("\t".join(row) + "\n" for row in rows)
