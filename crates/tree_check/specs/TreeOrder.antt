@@ -31,10 +31,13 @@ labelFits n l = eqb l innerLabel || ltb l n
 unfoldable pub standing : ℕ → (ℕ → ℕ) → ℕ → ℕ
 standing m lab x = count m (λ i. eqb (lab i) x)
 
--- node 0's label is 0, each label is 65535 or below n, and each below n stands exactly once
+-- node 0's label is 0, and each label is 65535 or below n
 unfoldable pub labelsFit : ℕ → ℕ → (ℕ → ℕ) → Bool
-labelsFit n m lab =
-    eqb (lab 0) 0 && every m (λ i. labelFits n (lab i)) && every n (λ x. eqb (standing m lab x) 1)
+labelsFit n m lab = eqb (lab 0) 0 && every m (λ i. labelFits n (lab i))
+
+-- each label below n stands exactly once
+unfoldable pub labelsOnce : ℕ → ℕ → (ℕ → ℕ) → Bool
+labelsOnce n m lab = every n (λ x. eqb (standing m lab x) 1)
 
 -- node j is a child of node i
 unfoldable pub isChild : (ℕ → ℕ) → ℕ → ℕ → Bool
@@ -53,6 +56,7 @@ unfoldable pub arraysOrder : ℕ → ℕ → (ℕ → ℕ) → (ℕ → ℕ) →
 arraysOrder n m up lab =
     (5, not (every m (λ i. parentFits i (up i))))
     ∷ (6, not (labelsFit n m lab))
+    ∷ (31, not (labelsOnce n m lab))
     ∷ (7, some m (λ i. misplaced i (lab i) (children m up i)))
     ∷ []
 

@@ -11,7 +11,7 @@ ghost use Rattle.table_words.specs.Sizes.{nodeRoom, tipsMost};
 ghost use Rattle.sums.specs.Tests.{some, every};
 ghost use Rattle.tree_check.specs.Table.{word};
 ghost use Rattle.tree_check.specs.Refusals.{refusal};
-ghost use Rattle.tree_check.specs.TreeOrder.{tipsFit, nodesFit, parentFits, labelFits, labelsFit, misplaced};
+ghost use Rattle.tree_check.specs.TreeOrder.{tipsFit, nodesFit, parentFits, labelFits, labelsFit, labelsOnce, misplaced};
 ghost use Rattle.tree_check.specs.TreeOrder.{arraysOrder, treeOrder};
 ghost use Rattle.tree_check.specs.theorems.TreeCheck.{ArraysFit};
 ghost use Rattle.tree_check.specs.Check.{checked, numberOf, Told};
@@ -98,17 +98,22 @@ fn all_one(counts: &[u16], n: usize) -> bool
     true
 }
 
-// Whether the labels keep their rule: one pass counts them, another reads the counts of 0 to n - 1.
+// Whether node 0's label is 0, and every label 65535 or below n.
 fn labels_fit(labels: &[u16], n: usize) -> bool
-    requires { ⌜ (1 ≤ length (now labels)) × (length (now labels) ≤ nodeRoom) × (n ≤ nodeRoom) ⌝ }
+    requires { ⌜ 1 ≤ length (now labels) ⌝ }
     ensures { λ r. ⌜ r ≡ labelsFit n (length (now (labels .entry))) (word (now (labels .entry))) ⌝ }
 {
     if labels[0] != 0 {
         return false;
     }
-    if !labels_in_range(labels, n) {
-        return false;
-    }
+    labels_in_range(labels, n)
+}
+
+// Whether each of 0 to n - 1 stands exactly once: one pass counts the labels, another reads the counts.
+fn labels_once(labels: &[u16], n: usize) -> bool
+    requires { ⌜ (length (now labels) ≤ nodeRoom) × (n ≤ nodeRoom) ⌝ }
+    ensures { λ r. ⌜ r ≡ labelsOnce n (length (now (labels .entry))) (word (now (labels .entry))) ⌝ }
+{
     let counts = tally(labels);
     all_one(&counts, n)
 }
@@ -144,7 +149,7 @@ fn some_misplaced(labels: &[u16], kids: &[u16]) -> bool
     false
 }
 
-// The first of the rules 5 to 7 that the two arrays break, or 0: one pass over the parents counts the children.
+// The first of the rules 5, 6, 31 and 7 that the two arrays break, or 0: one pass over the parents counts the children.
 fn arrays_refusal(parents: &[u16], labels: &[u16], n: usize) -> u16
     requires { ⌜ ArraysFit (now parents) (now labels) n ⌝ }
     ensures { λ r. ⌜
@@ -157,6 +162,9 @@ fn arrays_refusal(parents: &[u16], labels: &[u16], n: usize) -> u16
     }
     if !labels_fit(labels, n) {
         return 6;
+    }
+    if !labels_once(labels, n) {
+        return 31;
     }
     let kids = tally(&parents[1..]);
     if some_misplaced(labels, &kids) {
@@ -205,7 +213,7 @@ fn tree_refusal(table: &[u16]) -> u16
     arrays_refusal(&table[2..2 + m], &table[2 + m..], n)
 }
 
-// Whether the words are a tree table. The smallest number decides where several rules are broken.
+// Whether the words are a tree table. The first broken rule decides: 1 to 6, then 31, then 7.
 pub fn check(table: &[u16]) -> Checked
     ensures { λ r. ⌜ (r ≡ checked (now (table .entry))) × Told (now (table .entry)) r ⌝ }
 {

@@ -1,6 +1,6 @@
 -- The pair's order accepts exactly the pairs.
 -- Assumes nothing.
-use mathlib.Core.Path.{_≡_, refl}
+use mathlib.Core.Path.{_≡_, refl, sym}
 use mathlib.Core.Bool.{Bool, true, false}
 use mathlib.Core.Logic.{_≢_, _↔_}
 use mathlib.Core.List.{List, [], _∷_, _++_}
@@ -111,9 +111,37 @@ refusal-most k (r ∷ rs) h = go (r .1) (refusal-most k rs (h .1))
     go true m = h .0
     go false m = m
 
-pub tree-refusal-most : (t : Table) → refusal (treeOrder t) ≤ 7
+-- no rule has the number k
+abbrev Others : ℕ → List Rule → Type 0
+Others k [] = Unit {0}
+Others k (r ∷ rs) = (r .0 ≢ k) × Others k rs
+
+refusal-other : (k : ℕ) (rs : List Rule) → k ≢ 0 → Others k rs → refusal rs ≢ k
+unfolding refusal
+refusal-other k [] d h = λ e. d (sym e)
+refusal-other k (r ∷ rs) d h = go (r .1) (refusal-other k rs d (h .1))
+  where
+    go : (b : Bool) → refusal rs ≢ k → (elim b as (λ x. ℕ) [ true ↦ r .0 | false ↦ refusal rs ]) ≢ k
+    go true m = h .0
+    go false m = m
+
+-- 9 is no number of a tree
+pub tree-never-nine : (t : Table) → refusal (treeOrder t) ≢ 9
 unfolding treeOrder arraysOrder
-tree-refusal-most t = refusal-most 7 (treeOrder t) (
+tree-never-nine t = refusal-other 9 (treeOrder t) (λ e. omega arith) (
+  λ e. omega arith,
+  (
+    λ e. omega arith,
+    (
+      λ e. omega arith,
+      (λ e. omega arith, (λ e. omega arith, (λ e. omega arith, (λ e. omega arith, (λ e. omega arith, tt))))),
+    ),
+  ),
+)
+
+pub tree-refusal-most : (t : Table) → refusal (treeOrder t) ≤ 31
+unfolding treeOrder arraysOrder
+tree-refusal-most t = refusal-most 31 (treeOrder t) (
   omega arith,
-  (omega arith, (omega arith, (omega arith, (omega arith, (omega arith, (omega arith, tt)))))),
+  (omega arith, (omega arith, (omega arith, (omega arith, (omega arith, (omega arith, (omega arith, tt))))))),
 )

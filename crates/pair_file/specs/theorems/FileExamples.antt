@@ -16,7 +16,7 @@ use Rattle.shapes.specs.Triplets.{lastBelow, lowest, resolved}
 use Rattle.shapes.specs.Splits.{isSplit, sameSides, occurs, splitsOf, commonOf}
 use Rattle.tree_check.specs.Table.{tips, nodes, parents, labels, parent, label, nodeBelow, nodeOf, beyond}
 use Rattle.tree_check.specs.Refusals.{refusal, ifAccepted}
-use Rattle.tree_check.specs.TreeOrder.{tipsFit, nodesFit, parentFits, labelFits, standing, labelsFit}
+use Rattle.tree_check.specs.TreeOrder.{tipsFit, nodesFit, parentFits, labelFits, standing, labelsFit, labelsOnce}
 use Rattle.tree_check.specs.TreeOrder.{isChild, children, misplaced, arraysOrder, treeOrder}
 use Rattle.trees.specs.Topology.{butterfly, partner, named, topology}
 use Rattle.counting.specs.ClaimSums.{codes, behindEdge, size, crossing, S, S2, S3}
@@ -47,7 +47,7 @@ bytesOfQ =
 pub comparison-of-P-and-Q : comparison (bytesOfP ++ bytesOfQ) ≡ ofPAndQ
 unfolding
     comparison figuresOf fileOrder wordsOrder fileWords firstTable secondTable firstLength refusal ifAccepted
-    pairOrder tablesOrder tipsOrder workOrder plus treeOrder arraysOrder tipsFit nodesFit parentFits labelFits standing labelsFit
+    pairOrder tablesOrder tipsOrder workOrder plus treeOrder arraysOrder tipsFit nodesFit parentFits labelFits standing labelsFit labelsOnce
     isChild children misplaced
     S S2 S3 codes behindEdge size crossing sumClaims sumClaimsOf sumIf meet choose2 quartets isCase caseNumber
     caseOf splits commonSplits robinsonFoulds splitsOf commonOf isSplit sameSides occurs
@@ -67,6 +67,6 @@ pub edges-of-a-file :
     ≡ 1 ∷ 15 ∷ 4 ∷ 101 ∷ 104 ∷ []
 unfolding
     fileOrder wordsOrder fileWords firstTable secondTable firstLength refusal
-    pairOrder tablesOrder tipsOrder workOrder plus treeOrder arraysOrder tipsFit nodesFit parentFits labelFits standing labelsFit
+    pairOrder tablesOrder tipsOrder workOrder plus treeOrder arraysOrder tipsFit nodesFit parentFits labelFits standing labelsFit labelsOnce
     isChild children misplaced sum bit some every tips nodes parents labels parent label
 edges-of-a-file = refl

@@ -14,7 +14,7 @@ use Rattle.tree_check.specs.IsTree.{IsTree}
 use Rattle.tree_check.specs.TreeOrder.{treeOrder}
 use Rattle.tree_check.specs.theorems.TreeCheck.{tree-check}
 use Rattle.pair_check.specs.PairOrder.{tablesOrder, pairOrder, cellsNeeded}
-use Rattle.pair_check.specs.theorems.PairCheck.{tables-check, tree-refusal-most}
+use Rattle.pair_check.specs.theorems.PairCheck.{tables-check, tree-never-nine}
 use Rattle.pair_check.specs.lemmas.PairOutcomes.{first-refused, second-refused, tips-differ, tables-accepted}
 use Rattle.pair_check.specs.lemmas.PairOutcomes.{tables-refused, pair-kept}
 use Rattle.pair_file.specs.PairFile.{fileWords, firstTable, secondTable, wordsOrder, fileOrder}
@@ -48,7 +48,7 @@ tables-never-nine t u z = elim (ℕ-discrete (refusal (treeOrder t)) 0) [
     | yes f ↦ both (tree-check t .0 e) (tree-check u .0 f)
     | no d ↦ omega (arith, z, second-refused t u (tree-check t .0 e) _ refl d)
   ]
-  | no d ↦ omega (arith, z, first-refused t u _ refl d, tree-refusal-most t)
+  | no d ↦ tree-never-nine t (sym (first-refused t u _ refl d) ∙ z)
 ]
   where
     both : IsTree t → IsTree u → ⊥

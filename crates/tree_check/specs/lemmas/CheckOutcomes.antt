@@ -15,12 +15,12 @@ use Rattle.tree_check.specs.lemmas.TableParts.{rest}
 use Rattle.tree_check.specs.lemmas.TableParts.{parents-length, labels-length}
 use Rattle.tree_check.specs.Refusals.{refusal}
 use Rattle.tree_check.specs.theorems.RefusalLaws.{refusal-none, refusal-here, refusal-next}
-use Rattle.tree_check.specs.TreeOrder.{tipsFit, nodesFit, parentFits, labelsFit, misplaced, arraysOrder}
+use Rattle.tree_check.specs.TreeOrder.{tipsFit, nodesFit, parentFits, labelsFit, labelsOnce, misplaced, arraysOrder}
 use Rattle.tree_check.specs.TreeOrder.{treeOrder}
 use Rattle.tree_check.specs.theorems.TreeCheck.{ArraysFit, tips-iff, nodes-iff}
 use Rattle.tree_check.specs.lemmas.Tally.{Tallied, tallied-children}
 
--- ---- 5 to 7, over the arrays ps and ls
+-- ---- 5, 6, 31 and 7, over the arrays ps and ls
 
 module _ (ps ls : List ℕ) (n : ℕ) (f : ArraysFit ps ls n) where
   pub parent-broken : every (length ps) (λ i. parentFits i (word ps i)) ≡ false
@@ -36,7 +36,15 @@ module _ (ps ls : List ℕ) (n : ℕ) (f : ArraysFit ps ls n) where
         refusal-next 5 _ _ (ap not p)
         ∙ refusal-here 6 _ _ (ap (λ (m : ℕ). not (labelsFit n m (word ls))) (sym (f .same)) ∙ ap not h)
 
-    module _ (l : labelsFit n (length ls) (word ls) ≡ true) (kids : List ℕ)
+    pub label-repeated : labelsFit n (length ls) (word ls) ≡ true → labelsOnce n (length ls) (word ls) ≡ false
+        → refusal (arraysOrder n (length ps) (word ps) (word ls)) ≡ 31
+    unfolding arraysOrder
+    label-repeated l h =
+        refusal-next 5 _ _ (ap not p)
+        ∙ refusal-next 6 _ _ (ap (λ (m : ℕ). not (labelsFit n m (word ls))) (sym (f .same)) ∙ ap not l)
+        ∙ refusal-here 31 _ _ (ap (λ (m : ℕ). not (labelsOnce n m (word ls))) (sym (f .same)) ∙ ap not h)
+
+    module _ (l : labelsFit n (length ls) (word ls) ≡ true) (o : labelsOnce n (length ls) (word ls) ≡ true) (kids : List ℕ)
         (k : Tallied (rest 1 ps) (length (rest 1 ps)) kids) where
       last : refusal (arraysOrder n (length ps) (word ps) (word ls))
           ≡ refusal ((7, some (length ls) (λ i. misplaced i (word ls i) (word kids i))) ∷ [])
@@ -44,6 +52,7 @@ module _ (ps ls : List ℕ) (n : ℕ) (f : ArraysFit ps ls n) where
       last =
           refusal-next 5 _ _ (ap not p)
           ∙ refusal-next 6 _ _ (ap (λ (m : ℕ). not (labelsFit n m (word ls))) (sym (f .same)) ∙ ap not l)
+          ∙ refusal-next 31 _ _ (ap (λ (m : ℕ). not (labelsOnce n m (word ls))) (sym (f .same)) ∙ ap not o)
           ∙ ap (λ (b : Bool). refusal ((7, b) ∷ []))
           (some-ext (length ps) _ _ (λ i m. ap (misplaced i (word ls i))
           (tallied-children ps kids i (f .some) k (omega (arith, f .few))))

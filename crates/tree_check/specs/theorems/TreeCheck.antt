@@ -21,7 +21,7 @@ use Rattle.tree_check.specs.Table.{Table, tips, nodes, parent, label}
 use Rattle.tree_check.specs.Refusals.{refusal}
 use Rattle.tree_check.specs.theorems.RefusalLaws.{Kept, Numbered, accepted}
 use Rattle.tree_check.specs.IsTree.{IsTree, Child, StandsOnce, TwoChildren}
-use Rattle.tree_check.specs.TreeOrder.{tipsFit, nodesFit, parentFits, labelFits, standing, labelsFit, isChild}
+use Rattle.tree_check.specs.TreeOrder.{tipsFit, nodesFit, parentFits, labelFits, standing, labelsFit, labelsOnce, isChild}
 use Rattle.tree_check.specs.TreeOrder.{children, misplaced, arraysOrder, treeOrder}
 
 -- ---- the rules as tests: n tips and m nodes, `up` gives the parent words and `lab` the labels
@@ -72,18 +72,18 @@ label-iff n l = let o = or-iff (eqb l innerLabel) (ltb l n) in (
 
 labels-iff : (n m : ℕ) (lab : ℕ → ℕ) → T (labelsFit n m lab)
     ↔ (lab 0 ≡ 0) × ((i : ℕ) → i < m → T (labelFits n (lab i)))
-    × ((x : ℕ) → x < n → T (eqb (standing m lab x) 1))
 unfolding labelsFit
 labels-iff n m lab =
     let fits : ℕ → Bool = λ i. labelFits n (lab i) in
-    let once : ℕ → Bool = λ x. eqb (standing m lab x) 1 in
-    let a = and-iff (eqb (lab 0) 0 && every m fits) (every n once) in
     let b = and-iff (eqb (lab 0) 0) (every m fits) in
-    let e = every-iff m fits in
-    let o = every-iff n once in (
-      λ h. let r = a .0 h in let q = b .0 (r .0) in (eq-iff (lab 0) 0 .0 (q .0), e .0 (q .1), o .0 (r .1)),
-      λ h. a .1 (b .1 (eq-iff (lab 0) 0 .1 (h .0), e .1 (h .1)), o .1 (h .2)),
+    let e = every-iff m fits in (
+      λ h. let q = b .0 h in (eq-iff (lab 0) 0 .0 (q .0), e .0 (q .1)),
+      λ h. b .1 (eq-iff (lab 0) 0 .1 (h .0), e .1 (h .1)),
     )
+
+labels-once-iff : (n m : ℕ) (lab : ℕ → ℕ) → T (labelsOnce n m lab) ↔ ((x : ℕ) → x < n → T (eqb (standing m lab x) 1))
+unfolding labelsOnce
+labels-once-iff n m lab = every-iff n (λ x. eqb (standing m lab x) 1)
 
 module _ (t : Table) where
   once-iff : (x : ℕ) → T (eqb (standing (nodes t) (label t) x) 1) ↔ StandsOnce t x
@@ -170,7 +170,7 @@ pub tree-numbered : (t : Table) → Numbered (treeOrder t)
 unfolding treeOrder arraysOrder
 tree-numbered t = (
   omega arith,
-  (omega arith, (omega arith, (omega arith, (omega arith, (omega arith, (omega arith, tt)))))),
+  (omega arith, (omega arith, (omega arith, (omega arith, (omega arith, (omega arith, (omega arith, tt))))))),
 )
 
 module _ (t : Table) where
@@ -207,11 +207,14 @@ module _ (t : Table) where
               not-not (labelsFit (tips t) (nodes t) (label t)) .1 (labels-iff (tips t) (nodes t) (label t) .1 (
                 g .root-label,
                 λ i l. label-iff (tips t) (label t i) .1 (g .labels-range i l),
-                λ x l. once-iff t x .1 (g .once x l),
               )),
               (
-                not-T (some (nodes t) bad) (λ h. let r = some-iff (nodes t) bad .0 h in fine (r .0) (r .1) (r .2)),
-                tt,
+                not-not (labelsOnce (tips t) (nodes t) (label t)) .1 (labels-once-iff (tips t) (nodes t) (label t) .1
+                    (λ x l. once-iff t x .1 (g .once x l))),
+                (
+                  not-T (some (nodes t) bad) (λ h. let r = some-iff (nodes t) bad .0 h in fine (r .0) (r .1) (r .2)),
+                  tt,
+                ),
               ),
             ),
           ),
@@ -231,12 +234,13 @@ module _ (t : Table) where
 
   pub kept-tree : Kept (treeOrder t) → IsTree t
   unfolding treeOrder arraysOrder kids fits bad
-  kept-tree (k1, (k2, (k3, (k4, (k5, (k6, (k7, z))))))) =
+  kept-tree (k1, (k2, (k3, (k4, (k5, (k6, (k31, (k7, z)))))))) =
       let n = tips-iff (tips t) .0 (not-not (tipsFit (tips t)) .0 k2) in
       let m = nodes-iff (tips t) (nodes t) .0 (not-not (nodesFit (tips t) (nodes t)) .0 k3) in
       let p = every-iff (nodes t) fits .0 (not-not (every (nodes t) fits) .0 k5) in
       let p1 = early-parent-iff 1 (parent t 1) (omega arith) .0 (p 1 (omega (arith, n, m))) in
       let l = labels-iff (tips t) (nodes t) (label t) .0 (not-not (labelsFit (tips t) (nodes t) (label t)) .0 k6) in
+      let o = labels-once-iff (tips t) (nodes t) (label t) .0 (not-not (labelsOnce (tips t) (nodes t) (label t)) .0 k31) in
       record {
         words = eq-iff (length t) (2 + 2 * nodes t) .0 (not-not (eqb (length t) (2 + 2 * nodes t)) .0 k4);
         tips-range = n;
@@ -249,7 +253,7 @@ module _ (t : Table) where
         );
         parents-range = λ i q b. later-parent-iff i (parent t i) q .0 (p i b);
         labels-range = λ i b. label-iff (tips t) (label t i) .0 (l .1 i b);
-        once = λ x b. once-iff t x .0 (l .2 x b);
+        once = λ x b. once-iff t x .0 (o x b);
         tip-bare = λ i q b s. childless-iff t i .0 (fine i b .0 q (λ e. omega (arith, e, n)));
         inner-two = λ i b s. two-children-iff t i .0 (fine i b .1 s);
       }

@@ -8,7 +8,7 @@ use Rattle.sums.specs.Tests.{some, every}
 use Rattle.shapes.specs.Ancestors.{ancIn, anc}
 use Rattle.tree_check.specs.Table.{tips, nodes, parents, labels, parent, label, nodeBelow, nodeOf, beyond}
 use Rattle.tree_check.specs.Refusals.{refusal}
-use Rattle.tree_check.specs.TreeOrder.{tipsFit, nodesFit, parentFits, labelFits, standing, labelsFit}
+use Rattle.tree_check.specs.TreeOrder.{tipsFit, nodesFit, parentFits, labelFits, standing, labelsFit, labelsOnce}
 use Rattle.tree_check.specs.TreeOrder.{isChild, children, misplaced, arraysOrder, treeOrder}
 use Rattle.walks.specs.theorems.WalkExamples.{P, Q, TwoTips}
 use Rattle.pair_check.specs.PairOrder.{plus, tipsOrder, tablesOrder, workOrder, pairOrder, cellsNeeded}
@@ -21,7 +21,7 @@ pub edges-of-a-pair :
     ≡ 9 ∷ 0 ∷ 8 ∷ 101 ∷ 1 ∷ []
 unfolding
     refusal pairOrder tablesOrder tipsOrder workOrder plus treeOrder arraysOrder tipsFit nodesFit parentFits
-    labelFits standing labelsFit isChild children misplaced sum bit some every tips nodes parents labels parent label
+    labelFits standing labelsFit labelsOnce isChild children misplaced sum bit some every tips nodes parents labels parent label
 edges-of-a-pair = refl
 
 -- P's edges have {1 2 3 4}, {1}, {2 3 4}, {2}, {3 4}, {3}, {4} beyond them, Q's {1 2 3 4}, {1}, {2 3 4}, {2}, {3},

@@ -12,7 +12,7 @@ use Rattle.shapes.specs.Centres.{onAll, centreBelow, centreOf}
 use Rattle.shapes.specs.Quartets.{parts, parted}
 use Rattle.tree_check.specs.Table.{tips, nodes, parents, labels, parent, label, nodeBelow, nodeOf}
 use Rattle.tree_check.specs.Refusals.{refusal}
-use Rattle.tree_check.specs.TreeOrder.{tipsFit, nodesFit, parentFits, labelFits, standing, labelsFit}
+use Rattle.tree_check.specs.TreeOrder.{tipsFit, nodesFit, parentFits, labelFits, standing, labelsFit, labelsOnce}
 use Rattle.tree_check.specs.TreeOrder.{isChild, children, misplaced, arraysOrder, treeOrder}
 use Rattle.walks.specs.theorems.WalkExamples.{P, Q, R, ThreeTips}
 use Rattle.trees.specs.LabelOrder.{tooLarge, twoEqual, askedOrder, labelOrder}
@@ -27,7 +27,7 @@ pub label-refusals :
     ≡ 10 ∷ 11 ∷ 0 ∷ []
 unfolding
     refusal treeOrder arraysOrder labelOrder askedOrder tooLarge twoEqual tipsFit nodesFit parentFits labelFits
-    standing labelsFit isChild children misplaced sum bit some every tips nodes parents labels parent label
+    standing labelsFit labelsOnce isChild children misplaced sum bit some every tips nodes parents labels parent label
 label-refusals = refl
 
 pub centres : centre P 1 2 3 ∷ centre P 3 1 2 ∷ centre P 0 1 4 ∷ centre Q 2 3 4 ∷ centre ThreeTips 0 1 2 ∷ []

@@ -11,7 +11,7 @@ use Rattle.shapes.specs.Ancestors.{ancIn, anc}
 use Rattle.tree_check.specs.Table.{Table, tips, nodes, parents, labels, parent, label}
 use Rattle.tree_check.specs.Table.{nodeBelow, nodeOf, beyond}
 use Rattle.tree_check.specs.Refusals.{refusal}
-use Rattle.tree_check.specs.TreeOrder.{tipsFit, nodesFit, parentFits, labelFits, standing, labelsFit}
+use Rattle.tree_check.specs.TreeOrder.{tipsFit, nodesFit, parentFits, labelFits, standing, labelsFit, labelsOnce}
 use Rattle.tree_check.specs.TreeOrder.{isChild, children, misplaced, arraysOrder, treeOrder}
 use Rattle.walks.specs.WalkOrders.{walkOrder, edgeOrder}
 use Rattle.walks.specs.Walk.{own, inTurn, visit, walkFrom, walk, below, startIn, start, part}
@@ -45,7 +45,7 @@ pub references-accepted :
     ∷ refusal (treeOrder TwoTips) ∷ refusal (treeOrder ThreeTips) ∷ []
     ≡ 0 ∷ 0 ∷ 0 ∷ 0 ∷ 0 ∷ 0 ∷ []
 unfolding
-    refusal treeOrder arraysOrder tipsFit nodesFit parentFits labelFits standing labelsFit isChild children
+    refusal treeOrder arraysOrder tipsFit nodesFit parentFits labelFits standing labelsFit labelsOnce isChild children
     misplaced sum bit some every tips nodes parents labels parent label
 references-accepted = refl
 
@@ -60,13 +60,26 @@ pub edges-of-the-check :
 unfolding refusal treeOrder arraysOrder tipsFit nodesFit tips nodes
 edges-of-the-check = refl
 
+-- label trouble, in P: a label out of range and another repeated; one repeated; node 0's label wrong, and thereby repeated;
+-- one repeated, and a tip with a child
+pub label-trouble :
+    refusal (treeOrder (5 ∷ 8 ∷ 0 ∷ 0 ∷ 1 ∷ 1 ∷ 3 ∷ 3 ∷ 5 ∷ 5 ∷ 0 ∷ X ∷ 1 ∷ X ∷ 1 ∷ X ∷ 3 ∷ 9 ∷ []))
+    ∷ refusal (treeOrder (5 ∷ 8 ∷ 0 ∷ 0 ∷ 1 ∷ 1 ∷ 3 ∷ 3 ∷ 5 ∷ 5 ∷ 0 ∷ X ∷ 1 ∷ X ∷ 1 ∷ X ∷ 3 ∷ 4 ∷ []))
+    ∷ refusal (treeOrder (5 ∷ 8 ∷ 0 ∷ 0 ∷ 1 ∷ 1 ∷ 3 ∷ 3 ∷ 5 ∷ 5 ∷ 1 ∷ X ∷ 1 ∷ X ∷ 2 ∷ X ∷ 3 ∷ 4 ∷ []))
+    ∷ refusal (treeOrder (5 ∷ 8 ∷ 0 ∷ 0 ∷ 1 ∷ 1 ∷ 3 ∷ 3 ∷ 5 ∷ 5 ∷ 0 ∷ X ∷ 1 ∷ 2 ∷ 2 ∷ X ∷ 3 ∷ 4 ∷ [])) ∷ []
+    ≡ 6 ∷ 31 ∷ 6 ∷ 31 ∷ []
+unfolding
+    refusal treeOrder arraysOrder tipsFit nodesFit parentFits labelFits standing labelsFit labelsOnce isChild children
+    misplaced sum bit some every tips nodes parents labels parent label
+label-trouble = refl
+
 -- the orders that go on after the check
 pub later-refusals :
     refusal (walkOrder P 4) ∷ refusal (walkOrder P 5)
     ∷ refusal (edgeOrder P 0 0) ∷ refusal (edgeOrder P 8 9) ∷ refusal (edgeOrder P 7 4) ∷ refusal (edgeOrder P 7 5) ∷ []
     ≡ 12 ∷ 0 ∷ 13 ∷ 13 ∷ 12 ∷ 0 ∷ []
 unfolding
-    refusal treeOrder arraysOrder walkOrder edgeOrder tipsFit nodesFit parentFits labelFits standing labelsFit
+    refusal treeOrder arraysOrder walkOrder edgeOrder tipsFit nodesFit parentFits labelFits standing labelsFit labelsOnce
     isChild children misplaced sum bit some every tips nodes parents labels parent label
 later-refusals = refl
 

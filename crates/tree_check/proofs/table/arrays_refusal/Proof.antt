@@ -1,8 +1,14 @@
 -- Each return is an outcome of the order over the two arrays.
 -- Assumes nothing.
-use mathlib.Core.Path.{sym, _∙_}
+use mathlib.Core.Path.{_≡_, sym, _∙_}
+use mathlib.Core.Bool.{true}
+use lib.ListN.{length}
 use borrow.Author.Tests.{not-true, not-false}
-use Rattle.tree_check.specs.lemmas.CheckOutcomes.{parent-broken, label-broken, node-misplaced, arrays-kept}
+use Rattle.sums.specs.Tests.{every}
+use Rattle.tree_check.specs.Table.{word}
+use Rattle.tree_check.specs.TreeOrder.{parentFits, labelsFit, labelsOnce}
+use Rattle.tree_check.specs.lemmas.CheckOutcomes.{parent-broken, label-broken, label-repeated, node-misplaced}
+use Rattle.tree_check.specs.lemmas.CheckOutcomes.{arrays-kept}
 use borrow.Author.Needs.{needs}
 use Rattle.tree_check.proofs.table.arrays_refusal.Statement.{statement}
 use Rattle.tree_check.proofs.table.arrays_refusal.Tie as tie
@@ -13,13 +19,34 @@ use Rattle.tree_check.proofs.table.arrays_refusal.Tie as tie
 abbrev start : tie.After-parents-fit → tie.Start
 start c = c .before .before .before
 
--- .. then the labels, ..
+-- .. then the labels' range, ..
 abbrev parents-kept : tie.After-labels-fit → tie.Else1
 parents-kept c = c .before
 
+-- .. then how often they stand, ..
+abbrev labels-kept : tie.After-labels-once → tie.Else2
+labels-kept c = c .before
+
 -- .. then the places of the nodes
-abbrev labels-kept : tie.After-some-misplaced → tie.Else2
-labels-kept c = c .before .before .before .before
+abbrev once-kept : tie.After-some-misplaced → tie.Else3
+once-kept c = c .before .before .before .before
+
+-- ---- what is known there
+
+parents-fit-is : (c : tie.Else1)
+    → (let s = start (c .before) .args in
+    every (length (s .parents .now)) (λ i. parentFits i (word (s .parents .now) i)) ≡ true)
+parents-fit-is c = sym (c .before .parents-fit .ensures) ∙ not-false _ (c .if1 .left)
+
+labels-fit-is : (c : tie.Else2)
+    → (let s = start (parents-kept (c .before) .before) .args in
+    labelsFit (s .n) (length (s .labels .now)) (word (s .labels .now)) ≡ true)
+labels-fit-is c = sym (c .before .labels-fit .ensures) ∙ not-false _ (c .if2 .left)
+
+labels-once-is : (c : tie.Else3)
+    → (let s = start (parents-kept (labels-kept (c .before) .before) .before) .args in
+    labelsOnce (s .n) (length (s .labels .now)) (word (s .labels .now)) ≡ true)
+labels-once-is c = sym (c .before .labels-once .ensures) ∙ not-false _ (c .if3 .left)
 
 -- ---- the needs
 
@@ -37,9 +64,18 @@ labels-fit-requires c κs = search needs
 returns-2 : tie.Need-returns-2
 returns-2 c =
     let p = parents-kept (c .before) in
-    let s = start (p .before) in
-    sym (label-broken _ _ _ (s .pre) (sym (p .before .parents-fit .ensures) ∙ not-false _ (p .if1 .left))
+    sym (label-broken _ _ _ (start (p .before) .pre) (parents-fit-is p)
     (sym (c .before .labels-fit .ensures) ∙ not-true _ (c .if2 .taken)))
+
+labels-once-requires : tie.Need-labels-once-requires
+labels-once-requires c κs = search needs
+
+returns-3 : tie.Need-returns-3
+returns-3 c =
+    let l = labels-kept (c .before) in
+    let p = parents-kept (l .before) in
+    sym (label-repeated _ _ _ (start (p .before) .pre) (parents-fit-is p) (labels-fit-is l)
+    (sym (c .before .labels-once .ensures) ∙ not-true _ (c .if3 .taken)))
 
 sub-tally : tie.Need-sub-tally
 sub-tally c = search needs
@@ -59,23 +95,21 @@ slice-aggregate-some-misplaced c = search needs
 some-misplaced-requires : tie.Need-some-misplaced-requires
 some-misplaced-requires c κs = search needs
 
-returns-3 : tie.Need-returns-3
-returns-3 c =
-    let l = labels-kept (c .before) in
-    let p = parents-kept (l .before) in
-    let s = start (p .before) in
-    sym (node-misplaced _ _ _ (s .pre) (sym (p .before .parents-fit .ensures) ∙ not-false _ (p .if1 .left))
-    (sym (l .before .labels-fit .ensures) ∙ not-false _ (l .if2 .left)) _ (c .before .before .before .tally .ensures)
-    (sym (c .before .some-misplaced .ensures) ∙ c .if3 .taken))
-
 returns-4 : tie.Need-returns-4
 returns-4 c =
-    let l = labels-kept (c .before) in
+    let o = once-kept (c .before) in
+    let l = labels-kept (o .before) in
     let p = parents-kept (l .before) in
-    let s = start (p .before) in
-    sym (arrays-kept _ _ _ (s .pre) (sym (p .before .parents-fit .ensures) ∙ not-false _ (p .if1 .left))
-    (sym (l .before .labels-fit .ensures) ∙ not-false _ (l .if2 .left)) _ (c .before .before .before .tally .ensures)
-    (sym (c .before .some-misplaced .ensures) ∙ c .if3 .left))
+    sym (node-misplaced _ _ _ (start (p .before) .pre) (parents-fit-is p) (labels-fit-is l) (labels-once-is o) _
+    (c .before .before .before .tally .ensures) (sym (c .before .some-misplaced .ensures) ∙ c .if4 .taken))
+
+returns-5 : tie.Need-returns-5
+returns-5 c =
+    let o = once-kept (c .before) in
+    let l = labels-kept (o .before) in
+    let p = parents-kept (l .before) in
+    sym (arrays-kept _ _ _ (start (p .before) .pre) (parents-fit-is p) (labels-fit-is l) (labels-once-is o) _
+    (c .before .before .before .tally .ensures) (sym (c .before .some-misplaced .ensures) ∙ c .if4 .left))
 
 pub arrays-refusal-spec : {M : Type 1} → statement M
 arrays-refusal-spec =
@@ -85,11 +119,13 @@ arrays-refusal-spec =
     returns
     labels-fit-requires
     returns-2
+    labels-once-requires
+    returns-3
     sub-tally
     part-tally-start
     part-tally-end
     tally-requires
     slice-aggregate-some-misplaced
     some-misplaced-requires
-    returns-3
-    returns-4)
+    returns-4
+    returns-5)
