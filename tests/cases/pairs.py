@@ -6,7 +6,7 @@ from collections.abc import Iterator
 
 from cases.lines import MOST_PRINTED, Case, Kind, bad, lent, line
 from cases.shapes import random_pair, random_table, renumbered, star
-from cases.tables import OUTSIDE, P, Q, R, REFERENCE, THREE, TWO, W, X, Table, damaged, tree_refusal
+from cases.tables import LABEL_TROUBLE, NUMBERS, OUTSIDE, P, Q, R, REFERENCE, THREE, TWO, W, X, Table, damaged, tree_refusal
 
 # docs/SPECIFICATION.md, 'The figures K1 to K9': the last column.
 SPLITS = [(P, Q, [2, 1, 1, 1]), (P, R, [2, 2, 1, 2]), (Q, R, [1, 2, 0, 3]), (P, P, [2, 2, 2, 0]), (W, W, [0, 0, 0, 0]),
@@ -14,6 +14,9 @@ SPLITS = [(P, Q, [2, 1, 1, 1]), (P, R, [2, 2, 1, 2]), (Q, R, [1, 2, 0, 3]), (P, 
 
 # Two tables, of which either or both are refused.
 REFUSED = list(itertools.product([[], P[:-1], P[:2] + [1] + P[3:]], repeat=2))
+
+# The numbers of a pair.
+PAIR_NUMBERS = {*NUMBERS, *(100 + number for number in NUMBERS), 8, 9}
 
 
 def needed(t: Table, u: Table) -> int:
@@ -122,6 +125,10 @@ def refused_cases(rng: random.Random) -> Iterator[Case]:
         yield one_slice(t, 2)
     for t, u in REFUSED:
         yield from both(t, u, 3)
+    for t, number in LABEL_TROUBLE:
+        for cases, expected in ((both(t, W, 3), number), (both(W, t, 3), 100 + number)):
+            assert all(case.answer[1] == expected for case in cases), t
+            yield from cases
     # the order of 8 and 9, of a refused second table and 9, and the same n with tables of different lengths
     yield from both(P, THREE, 0)
     yield from both(P, P[:-1], 0)
@@ -168,5 +175,5 @@ def examples() -> list[Case]:
         assert split_counts(t, u) == counts, (t, u, counts)
     cases = list(all_cases())
     numbers = {case.answer[1] for case in cases if case.answer[0] != "bad"}
-    assert numbers == {0, *range(1, 10), *range(101, 108)}, numbers
+    assert numbers == {0, *PAIR_NUMBERS}, numbers
     return cases

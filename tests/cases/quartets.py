@@ -12,10 +12,10 @@ from functools import cache, cached_property
 from math import comb
 
 from cases.lines import ENUMERATED, MOST_CELLS, Answer, Case, Kind, bad, line
-from cases.pairs import REFUSED, climb, needed, pair_refusal
+from cases.pairs import PAIR_NUMBERS, REFUSED, climb, needed, pair_refusal
 from cases.shapes import (balanced, bushy, caterpillar, exchanged, related_pair, renumbered, shuffled, star, unrelated_pair,
                           with_labels_exchanged)
-from cases.tables import OUTSIDE, P, Q, R, REFERENCE, THREE, TWO, W, X, Table, damaged
+from cases.tables import LABEL_TROUBLE, OUTSIDE, P, Q, R, REFERENCE, THREE, TWO, W, X, Table, damaged
 from cases.triplets import triplet_table
 
 # docs/SPECIFICATION.md, 'The figures K1 to K9': S S' S2 S3, A B C D E, distance, A B C D E of the triplets.
@@ -260,10 +260,14 @@ def refused_cases() -> Iterator[Case]:
     assert needed(P, Q) == 42
     yield from (pair(P, Q, cells) for cells in (0, 41, 42, 43))
     yield from (pair(t, t, needed(t, t) - 1) for t in (P, W, TWO, THREE))
-    # 1 to 7, 101 to 107, the first's number where both are refused
+    # 1 to 7 and 31, the same of the second with 100 more, the first's number where both are refused
     for t in damaged(P):
         yield from (pair(t, W, 36), pair(W, t, 36))
     yield from (pair(t, u, 3) for t, u in REFUSED)
+    for t, number in LABEL_TROUBLE:
+        for case, expected in ((pair(t, W, 3), number), (pair(W, t, 3), 100 + number)):
+            assert case.answer[1] == expected, t
+            yield case
     # 8, also without cells; a refused second table without cells
     yield from (pair(P, THREE, 100), pair(P, THREE, 0), pair(TWO, P, 7), pair(P, P[:-1], 0))
 
@@ -329,5 +333,5 @@ def examples() -> list[Case]:
         assert triplet_table(t, u) == threes + [sum(threes[1:4])], (t, u)
     found = list(all_cases())
     numbers = {case.answer[1] for case in found if case.answer[0] != "bad"}
-    assert numbers == {0, *range(1, 10), *range(101, 108)}, numbers
+    assert numbers == {0, *PAIR_NUMBERS}, numbers
     return found

@@ -29,6 +29,21 @@ OUTSIDE = [
     table(8, 11, [0, 0, 1, 2, 2, 2, 1, 6, 6, 6, 1], [0, X, X, 1, 2, 3, X, 4, 5, 6, 7]),
 ]
 
+# The numbers of the tree check in the order in which they decide.
+NUMBERS = [1, 2, 3, 4, 5, 6, 31, 7]
+
+# Tables with label trouble, each with its number. All but the last two have P's parents.
+LABEL_TROUBLE = [
+    (table(5, 8, P[2:10], [0, X, 1, X, 1, X, 3, 9]), 6),  # a label out of range, and another repeated
+    (table(5, 8, P[2:10], [0, X, 1, X, 1, X, 3, 4]), 31),  # one repeated
+    (table(5, 8, P[2:10], [1, X, 1, X, 2, X, 3, 4]), 6),  # node 0's label wrong, and thereby repeated
+    (table(5, 8, P[2:10], [X, X, 1, X, 2, X, 3, 4]), 6),  # node 0's label that of an inner node, and 0 missing
+    (table(5, 8, P[2:10], [0, X, 1, 2, 2, X, 3, 4]), 31),  # one repeated, and a tip with children
+    (table(5, 8, P[2:10], [0, X, 1, X, 2, X, 3, X]), 31),  # one missing and none repeated, and an inner node without a child
+    (table(5, 6, [0, 0, 1, 1, 3, 3], [0, X, 1, X, 2, 3]), 31),  # one missing and none repeated: a tree of four tips, n too large
+    (table(5, 6, [0, 0, 1, 1, 3, 3], [0, X, 1, X, 2, 5]), 6),  # the same with a label out of range
+]
+
 
 def tree_refusal(t: Table) -> int:
     """The number of the tree check, by docs/SPECIFICATION.md, 'Rules', in their order; 0 stands for accepted."""
@@ -49,7 +64,7 @@ def tree_refusal(t: Table) -> int:
     if labels[0] != 0 or any(label != X and label >= n for label in labels):
         return 6
     if sorted(label for label in labels if label != X) != list(range(n)):
-        return 6
+        return 31
     for i in range(m):
         children = parents[1:].count(i)
         if labels[i] == X and children < 2 or labels[i] != X and i != 0 and children > 0:
@@ -73,7 +88,10 @@ def damaged(t: Table) -> Iterator[Table]:
     yield from ([], [n], put((0, 1)), put((0, 257)), put((1, n - 1)), put((1, 2 * n - 1)))  # 1 1 2 2 3 3
     yield from (t + [0], t[:-1], put((1, m - 1)))  # 4
     yield from (put((2, 1)), put((3, 1)), put((2 + m - 1, 0)), put((2 + m - 1, m - 1)), put((2 + m - 1, X)))  # 5
-    yield from (put((2 + m, 1)), put((2 + m, X)), put((last, n)), put((last, 300)), put((last, 0)))  # 6
-    yield put((last, X))  # 6, and not 7, though an inner node has no child
+    yield from (put((2 + m, 1)), put((2 + m, X)), put((last, n)), put((last, 300)))  # 6
+    yield put((last, n), (2 + m + tip, 0))  # 6, and not 31, though 0 stands twice
+    yield put((last, 0))  # 31
+    yield put((last, X))  # 31, and not 7, though an inner node has no child
+    yield put((2 + m + inner, t[2 + m + tip]))  # 31, and not 7, though a tip has children
     yield put((2 + m + tip, X), (2 + m + inner, t[2 + m + tip]))  # 7
     yield put((2 + m - 1, tip if tip < m - 1 else 1))  # 7, where a tip gets a child

@@ -7,7 +7,7 @@ from functools import cached_property
 
 from cases.lines import MOST_CELLS, MOST_PRINTED, Case, Kind, bad, lent, line
 from cases.shapes import balanced, caterpillar, random_table, star
-from cases.tables import OUTSIDE, P, Q, R, REFERENCE, THREE, TWO, X, Table, damaged, tree_refusal
+from cases.tables import LABEL_TROUBLE, NUMBERS, OUTSIDE, P, Q, R, REFERENCE, THREE, TWO, X, Table, damaged, tree_refusal
 
 
 class Tree:
@@ -148,14 +148,14 @@ def topologies(t: Table) -> Case:
 
 
 def changes(t: Table) -> Case:
-    counts = [0] * 8
+    counts = {number: 0 for number in (0, *sorted(NUMBERS))}
     for at in range(len(t)):
         # words from 512 to 65534 are too large for every rule alike
         for word in itertools.chain(range(512), [X]):
             if word != t[at]:
                 counts[tree_refusal(t[:at] + [word] + t[at + 1:])] += 1
         counts[tree_refusal(t[:at] + [512] + t[at + 1:])] += X - 512
-    return Case(line(Kind.CHANGES, [], t, len(t)), ["changes", *counts])
+    return Case(line(Kind.CHANGES, [], t, len(t)), ["changes", *counts.values()])
 
 
 # ---- the cases
@@ -191,10 +191,14 @@ def order_cases() -> Iterator[Case]:
 
 
 def damaged_cases(rng: random.Random) -> Iterator[Case]:
-    """Damage, for every operation; every change of one word."""
+    """Damage and label trouble, for every operation; every change of one word."""
     yield from map(check, damaged(P))
     for t in damaged(random_table(rng, 9)):
         yield from (check(t), walk(t, 9), beyond(t, 0, 0), centre(t, 9, 9, 0), topology(t, 9, 9, 0, 1))
+    for t, number in LABEL_TROUBLE:
+        for case in (check(t), walk(t, 0), beyond(t, 0, 0), centre(t, 9, 9, 0), topology(t, 9, 9, 0, 1)):
+            assert case.answer[1] == number, t
+            yield case
     yield from map(changes, REFERENCE + OUTSIDE)
 
 
@@ -230,7 +234,7 @@ def all_cases() -> Iterator[Case]:
 def hold(cases: list[Case]) -> None:
     """Every number of the operations on one table is met."""
     numbers = {case.answer[1] for case in cases if case.answer[0] in ("check", "walk", "beyond", "centre", "topology")}
-    assert numbers == {0, *range(1, 8), 10, 11, 12, 13}, numbers
+    assert numbers == {0, *NUMBERS, 10, 11, 12, 13}, numbers
 
 
 def examples() -> list[Case]:

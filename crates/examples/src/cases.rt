@@ -11,7 +11,7 @@
 //     6            table   every centre of three labels below 16 in rising order
 //     7            table   every topology of four labels below 16 in rising order: the partner, or 0 for a star
 //     8            table   every change of one word, in as many cells as the table has words: how many tables are
-//                          accepted, and refused by each number 1 to 7
+//                          accepted, and refused by each number 1 to 7, then by 31
 //     9                    check of a table of as many zeros as there are cells
 //    10   table    table   crossings, on cells that hold 9000, 9001, ..: the number, then every cell
 //    11   table    table   split counts, on the same: the number, first, second, common, distance, then every cell

@@ -88,24 +88,24 @@ fn place_of(first: u16, second: u16) -> usize {
     1
 }
 
-pub(crate) fn one_more(counts: &mut [u64; 8], place: usize) {
-    if place < 8 {
+pub(crate) fn one_more(counts: &mut [u64; 9], place: usize) {
+    if place < 9 {
         counts[place] = plus(counts[place], 1);
     }
 }
 
-// The place of the case of four labels; 8, which is not counted, where they are no set of labels below n.
+// The place of the case of four labels; 9, which is not counted, where they are no set of labels below n.
 fn place_in(first: &[u16], second: &[u16], n: u16, four: Four) -> usize {
     if (four.w < four.x) & rises(four, n) {
         place_of(partner_in(first, four), partner_in(second, four))
     } else {
-        8
+        9
     }
 }
 
 // The enumerator: every set of four of n labels, at most 16, is asked for its topology in both trees, and counted by
 // its case, A B C D E. It knows nothing of claims.
-pub(crate) fn count(first: &[u16], second: &[u16], n: u16, counts: &mut [u64; 8]) {
+pub(crate) fn count(first: &[u16], second: &[u16], n: u16, counts: &mut [u64; 9]) {
     let mut code = 0;
     while code < 65535 {
         one_more(counts, place_in(first, second, n, four_at(code)));

@@ -23,9 +23,9 @@ pub(crate) fn numbers(words: &[u16]) {
     }
 }
 
-pub(crate) fn counts(counts: &[u64; 8]) {
+pub(crate) fn counts(counts: &[u64; 9]) {
     let mut i = 0;
-    while i < 8 {
+    while i < 9 {
         large(counts[i]);
         i += 1;
     }

@@ -16,7 +16,7 @@ fn sets_of_four(n: u64) -> u64 {
     n * (n - 1) * (n - 2) * (n - 3) / 24
 }
 
-fn is_counted(table: QuartetTable, counts: &[u64; 8]) -> bool {
+fn is_counted(table: QuartetTable, counts: &[u64; 9]) -> bool {
     let butterflies = (table.a == counts[0]) & (table.b == counts[1]);
     let stars = (table.c == counts[2]) & (table.d == counts[3]) & (table.e == counts[4]);
     butterflies & stars
@@ -36,7 +36,7 @@ fn agrees(table: QuartetTable, first: &[u16], second: &[u16], n: u16) -> bool {
     if 16 < n {
         return adds_up(table, n);
     }
-    let mut counts = [0u64; 8];
+    let mut counts = [0u64; 9];
     fours::count(first, second, n, &mut counts);
     is_counted(table, &counts)
 }

@@ -9,7 +9,7 @@ abbrev Inv-loop : tie.InvT-loop
 Inv-loop counts i₀ i = Unit {0}
 
 abbrev μ-loop : tie.MeasureT-loop
-μ-loop counts i₀ i = 8 - i
+μ-loop counts i₀ i = 9 - i
 
 loop-holds : tie.Need-loop-holds Inv-loop μ-loop
 loop-holds c = search needs
