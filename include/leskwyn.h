@@ -32,14 +32,14 @@
  *                3   m is not n to 2n - 2
  *                4   the length is not 2 + 2m
  *                5   a parent word breaks its rule
- *                6   node 0's label is not 0, a label is neither LESKWYN_INNER nor below n, or some label from 0 to
- *                    n - 1 does not stand exactly once
+ *                6   node 0's label is not 0, or a label is neither LESKWYN_INNER nor below n
+ *               31   some label from 0 to n - 1 does not stand exactly once
  *                7   a tip other than node 0 has a child, or an inner node has fewer than two
  *   of labels   10   a label is n or more
  *               11   two of the labels are equal
  *   of an edge  13   the edge is 0, or m or more
  *   of a walk   12   the lent walk is shorter than n
- *   of a pair    1 to 7 of the first table; then 101 to 107, the same of the second; then
+ *   of a pair    the first table's number; then the second's, with 100 more (101 to 106, 131, 107); then
  *                8   the two n differ
  *                9   the work has fewer than (m - 1)(m' - 1) cells, m' being the second table's m
  *   of a weight 30   the kind is not 0 to 2, or the fraction of a part is not k/256 with a k from 0 to 256
@@ -104,28 +104,28 @@ typedef struct { uint16_t refusal; double distance; } leskwyn_weighted_distance_
 /* The version of the library that is linked. It is LESKWYN_VERSION where header and library are of one release. */
 uint32_t leskwyn_version(void);
 
-/* Whether the words are a tree table. Answers 0, or 1 to 7. */
+/* Whether the words are a tree table. Answers 0, or the table's refusal: 1 to 6, 31, 7. */
 uint16_t leskwyn_check(const uint16_t *table, size_t words);
 
 /*
  * The labels depth first from node 0, children in rising node number, into the first n cells of `walk`; later cells
- * stay. Answers 0, or 1 to 7, then 12.
+ * stay. Answers 0, or the table's refusal, then 12.
  */
 uint16_t leskwyn_walk(const uint16_t *table, size_t words, uint16_t *walk, size_t cells);
 
 /*
  * The labels beyond an edge, as a part of the caller's walk of so many cells: its `labels` cells from cell `start` on.
  * On a walk that leskwyn_walk wrote these are exactly the labels beyond the edge. The part is chosen by position alone,
- * so that a walk filled with other words gives other words. Refuses by 1 to 7, then 13, then 12.
+ * so that a walk filled with other words gives other words. Refuses as the check does, then 13, then 12.
  */
 leskwyn_beyond_answer leskwyn_beyond(const uint16_t *table, size_t words, uint16_t edge, size_t cells);
 
-/* The centre of three tips: the node where the paths between them join. Refuses by 1 to 7, then 10, then 11. */
+/* The centre of three tips: the node where the paths between them join. Refuses as the check does, then 10, then 11. */
 leskwyn_centre_answer leskwyn_centre(const uint16_t *table, size_t words, uint16_t a, uint16_t b, uint16_t c);
 
 /*
  * The topology of four tips, whatever their order: the butterfly ab|cd if some edge has a, b on one side and c, d on
- * the other, else a star. Refuses by 1 to 7, then 10, then 11.
+ * the other, else a star. Refuses as the check does, then 10, then 11.
  */
 leskwyn_topology_answer leskwyn_topology(const uint16_t *table, size_t words,
                                          uint16_t a, uint16_t b, uint16_t c, uint16_t d);

@@ -3,8 +3,8 @@
 use crate::random::Random;
 use crate::reference::X;
 
-/// The numbers of the tree check.
-pub const NUMBERS: std::ops::RangeInclusive<u16> = 1..=7;
+/// The numbers of the tree check, in the order in which they decide.
+pub const NUMBERS: [u16; 8] = [1, 2, 3, 4, 5, 6, 31, 7];
 
 /// An accepted table, spoiled with the rule of that number in view. What number it has afterwards is for the
 /// enumerator to say: two tips, for one, cannot break rule 7 alone.
@@ -17,6 +17,7 @@ pub fn damaged(table: &[u16], number: u16, random: &mut Random) -> Vec<u16> {
         4 => damage_length(&mut spoiled, random),
         5 => damage_parent(&mut spoiled, random),
         6 => damage_label(&mut spoiled, random),
+        31 => repeat_label(&mut spoiled, random),
         _ => damage_places(&mut spoiled, random),
     }
     spoiled
@@ -44,11 +45,22 @@ fn damage_parent(table: &mut [u16], random: &mut Random) {
 fn damage_label(table: &mut [u16], random: &mut Random) {
     let (n, m) = (table[0], usize::from(table[1]));
     let i = random.below(m);
-    match random.below(3) {
-        0 => table[2 + m + i] = *random.pick(&[n, n + 1, X - 1, X]),
-        1 => table[2 + m + i] = random.below(usize::from(n)) as u16,
-        _ => table.swap(2 + m, 2 + m + i),
+    match random.below(4) {
+        0 => table[2 + m + i] = *random.pick(&[n, n + 1, X - 1]),
+        1 => table[2 + m] = random.between(1, usize::from(n)) as u16,
+        2 => table.swap(2 + m, 2 + m + i),
+        _ => {
+            repeat_label(table, random);
+            table[2 + m + i] = n;
+        }
     }
+}
+
+/// Some node but node 0 gets any label, or that of an inner node.
+fn repeat_label(table: &mut [u16], random: &mut Random) {
+    let (n, m) = (usize::from(table[0]), usize::from(table[1]));
+    let i = random.between(1, m - 1);
+    table[2 + m + i] = if random.chance(70) { random.below(n) as u16 } else { X };
 }
 
 fn damage_places(table: &mut [u16], random: &mut Random) {

@@ -30,9 +30,12 @@ pub fn tree_refusal(table: &[u16]) -> u16 {
         return 5;
     }
     let label_stands = |&label: &u16| label == X || usize::from(label) < n;
-    let stands_once = |label: usize| labels.iter().filter(|&&word| usize::from(word) == label).count() == 1;
-    if labels[0] != 0 || !labels.iter().all(label_stands) || !(0..n).all(stands_once) {
+    if labels[0] != 0 || !labels.iter().all(label_stands) {
         return 6;
+    }
+    let stands_once = |label: usize| labels.iter().filter(|&&word| usize::from(word) == label).count() == 1;
+    if !(0..n).all(stands_once) {
+        return 31;
     }
     let children = |i: usize| (1..m).filter(|&child| usize::from(parents[child]) == i).count();
     let node_stands = |i: usize| match (i, labels[i]) {

@@ -59,6 +59,9 @@ fn check(table: &[u16]) -> Result<(), u16> {
     if parents[..2] != [0, 0] || later.clone().any(|(i, &p)| p < 1 || usize::from(p) >= i) {
         return Err(5);
     }
+    if labels[0] != 0 {
+        return Err(6);
+    }
     let mut stands = [0u16; 256];
     for &label in labels.iter().filter(|&&label| label != X) {
         if label >= n {
@@ -66,8 +69,8 @@ fn check(table: &[u16]) -> Result<(), u16> {
         }
         stands[usize::from(label)] += 1;
     }
-    if labels[0] != 0 || stands[..usize::from(n)].iter().any(|&count| count != 1) {
-        return Err(6);
+    if stands[..usize::from(n)].iter().any(|&count| count != 1) {
+        return Err(31);
     }
     let mut children = [0u16; 512];
     for (_, &p) in later {

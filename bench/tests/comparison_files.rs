@@ -5,7 +5,7 @@ use std::io::Write;
 use std::path::{Path, PathBuf};
 use std::process::{Command, Stdio};
 
-use bench::damage::{damaged, noise};
+use bench::damage::{damaged, noise, NUMBERS};
 use bench::generate::{pair, table, Partner, Shape};
 use bench::random::Random;
 use bench::reference::{P, Q, TABLES};
@@ -65,7 +65,7 @@ fn damaged_pairs() {
     for at in 0..500 {
         let shape = *random.pick(&Shape::ALL);
         let (mut first, mut second) = pair(shape, 2 + at % 24, Partner::Far, &mut random);
-        let number = 1 + (at % 7) as u16;
+        let number = NUMBERS[at % NUMBERS.len()];
         match at % 3 {
             0 => first = damaged(&first, number, &mut random),
             1 => second = damaged(&second, number, &mut random),

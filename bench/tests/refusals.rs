@@ -8,6 +8,8 @@ use bench::damage::{damaged, noise, NUMBERS};
 use bench::enumerate::{pair_refusal, tree_refusal};
 use bench::generate::{table, Shape};
 use bench::random::Random;
+use bench::reference::{W, X};
+use bench::straight;
 
 /// How often each number came up.
 #[derive(Default)]
@@ -61,21 +63,55 @@ fn damaged_pairs() {
         let cells = (usize::from(first[1]) - 1) * (usize::from(second[1]) - 1);
         let spoil = random.between(1, 3);
         if spoil & 1 != 0 {
-            first = damaged(&first, random.between(1, 7) as u16, &mut random);
+            first = damaged(&first, *random.pick(&NUMBERS), &mut random);
         }
         if spoil & 2 != 0 {
-            second = damaged(&second, random.between(1, 7) as u16, &mut random);
+            second = damaged(&second, *random.pick(&NUMBERS), &mut random);
         }
         let lent = *random.pick(&[cells, cells, cells + 3, cells - 1, 0]);
         let number = pair_refusal(&first, &second, lent);
         met.meet(number);
+        let straight = straight::quartet_table(&first, &second, &mut vec![0; lent]);
+        assert_eq!(straight.err().unwrap_or(0), number, "straight, of {first:?} and {second:?}");
         if number == 0 && n <= 14 {
             pair_agrees(&first, &second, &Expected::enumerated(&first, &second), &mut random);
         } else if number != 0 {
             assert_eq!(refusal_agrees(&first, &second, lent, &mut random), number);
         }
     }
-    met.at_least(100, NUMBERS.chain(NUMBERS.map(|number| 100 + number)));
+    met.at_least(100, NUMBERS.into_iter().chain(NUMBERS.map(|number| 100 + number)));
+}
+
+/// P's parents under other labels, and tables of a tree of four tips whose n is 5: each with its number.
+const LABEL_TROUBLE: [(&[u16], u16); 8] = [
+    // a label out of range, and another repeated
+    (&[5, 8, 0, 0, 1, 1, 3, 3, 5, 5, 0, X, 1, X, 1, X, 3, 9], 6),
+    // one repeated
+    (&[5, 8, 0, 0, 1, 1, 3, 3, 5, 5, 0, X, 1, X, 1, X, 3, 4], 31),
+    // node 0's label wrong, and thereby repeated
+    (&[5, 8, 0, 0, 1, 1, 3, 3, 5, 5, 1, X, 1, X, 2, X, 3, 4], 6),
+    // node 0's label that of an inner node, and 0 missing
+    (&[5, 8, 0, 0, 1, 1, 3, 3, 5, 5, X, X, 1, X, 2, X, 3, 4], 6),
+    // one repeated, and a tip with children
+    (&[5, 8, 0, 0, 1, 1, 3, 3, 5, 5, 0, X, 1, 2, 2, X, 3, 4], 31),
+    // one missing and none repeated, and an inner node without a child
+    (&[5, 8, 0, 0, 1, 1, 3, 3, 5, 5, 0, X, 1, X, 2, X, 3, X], 31),
+    // one missing and none repeated, and no other rule broken
+    (&[5, 6, 0, 0, 1, 1, 3, 3, 0, X, 1, X, 2, 3], 31),
+    // the same with a label out of range
+    (&[5, 6, 0, 0, 1, 1, 3, 3, 0, X, 1, X, 2, 5], 6),
+];
+
+#[test]
+fn label_trouble() {
+    let mut random = Random::seeded(515);
+    for (table, number) in LABEL_TROUBLE {
+        tree_agrees(table, &mut random);
+        assert_eq!(tree_refusal(table), number, "{table:?}");
+        assert_eq!(refusal_agrees(table, W, 100, &mut random), number, "{table:?}");
+        assert_eq!(refusal_agrees(W, table, 100, &mut random), 100 + number, "{table:?}");
+        assert_eq!(refusal_agrees(W, table, 0, &mut random), 100 + number, "{table:?} and no cells");
+    }
 }
 
 #[test]
@@ -116,7 +152,7 @@ fn words_with_little_plan() {
             number => assert_eq!(refusal_agrees(&words, &other, 100, &mut random), number),
         }
     }
-    met.at_least(200, NUMBERS.chain([0]));
+    met.at_least(200, NUMBERS.into_iter().chain([0]));
 }
 
 /// Every single word of the small reference tables, changed to each of many others.

@@ -134,12 +134,13 @@ impl Weight {
 /// ```
 /// use leskwyn::{check, INNER};
 /// assert!(check(&[3, 4, 0, 0, 1, 1, 0, INNER, 1, 2]).is_ok());
-/// assert_eq!(check(&[3, 4, 0, 0, 1, 1, 0, INNER, 1, 1]).unwrap_err().number(), 6);
+/// assert_eq!(check(&[3, 4, 0, 0, 1, 1, 0, INNER, 1, 3]).unwrap_err().number(), 6);
+/// assert_eq!(check(&[3, 4, 0, 0, 1, 1, 0, INNER, 1, 1]).unwrap_err().number(), 31);
 /// ```
 ///
 /// # Errors
 ///
-/// 1 to 7.
+/// 1 to 6, 31 and 7, in this order.
 pub fn check(table: &[u16]) -> Result<(), Refusal> {
     // SAFETY: the pointer and the length are those of one live slice.
     let number = unsafe { raw::leskwyn_check(table.as_ptr(), table.len()) };
@@ -158,7 +159,7 @@ pub fn check(table: &[u16]) -> Result<(), Refusal> {
 ///
 /// # Errors
 ///
-/// 1 to 7, then 12.
+/// 1 to 6, 31 and 7, then 12.
 pub fn walk(table: &[u16], cells: &mut [u16]) -> Result<(), Refusal> {
     // SAFETY: each pointer and length are those of one live slice, and `cells` is borrowed alone.
     let number = unsafe { raw::leskwyn_walk(table.as_ptr(), table.len(), cells.as_mut_ptr(), cells.len()) };
@@ -182,7 +183,7 @@ pub fn walk(table: &[u16], cells: &mut [u16]) -> Result<(), Refusal> {
 ///
 /// # Errors
 ///
-/// 1 to 7, then 13, then 12.
+/// 1 to 6, 31 and 7, then 13, then 12.
 pub fn beyond<'a>(table: &[u16], edge: u16, walk: &'a [u16]) -> Result<&'a [u16], Refusal> {
     // SAFETY: the pointer and the length are those of one live slice.
     let answer = unsafe { raw::leskwyn_beyond(table.as_ptr(), table.len(), edge, walk.len()) };
@@ -199,7 +200,7 @@ pub fn beyond<'a>(table: &[u16], edge: u16, walk: &'a [u16]) -> Result<&'a [u16]
 ///
 /// # Errors
 ///
-/// 1 to 7, then 10, then 11.
+/// 1 to 6, 31 and 7, then 10, then 11.
 pub fn centre(table: &[u16], a: u16, b: u16, c: u16) -> Result<u16, Refusal> {
     // SAFETY: the pointer and the length are those of one live slice.
     let answer = unsafe { raw::leskwyn_centre(table.as_ptr(), table.len(), a, b, c) };
@@ -217,7 +218,7 @@ pub fn centre(table: &[u16], a: u16, b: u16, c: u16) -> Result<u16, Refusal> {
 ///
 /// # Errors
 ///
-/// 1 to 7, then 10, then 11.
+/// 1 to 6, 31 and 7, then 10, then 11.
 pub fn topology(table: &[u16], a: u16, b: u16, c: u16, d: u16) -> Result<Topology, Refusal> {
     // SAFETY: the pointer and the length are those of one live slice.
     let answer = unsafe { raw::leskwyn_topology(table.as_ptr(), table.len(), a, b, c, d) };
@@ -240,7 +241,7 @@ fn asked<T>(function: raw::PairFunction<T>, first: &[u16], second: &[u16], work:
 ///
 /// # Errors
 ///
-/// 1 to 7 for the first tree, 101 to 107 for the second, then 8.
+/// 1 to 6, 31 and 7 for the first tree, 101 to 106, 131 and 107 for the second, then 8.
 pub fn work_cells(first: &[u16], second: &[u16]) -> Result<usize, Refusal> {
     match crossings(first, second, &mut []) {
         Err(refusal) if refusal != Refusal::FEW_CELLS => Err(refusal),
@@ -261,7 +262,7 @@ pub fn work_cells(first: &[u16], second: &[u16]) -> Result<usize, Refusal> {
 ///
 /// # Errors
 ///
-/// 1 to 7 for the first tree, 101 to 107 for the second, then 8, then 9.
+/// 1 to 6, 31 and 7 for the first tree, 101 to 106, 131 and 107 for the second, then 8, then 9.
 pub fn crossings(first: &[u16], second: &[u16], work: &mut [u16]) -> Result<(), Refusal> {
     Refusal::or(asked(raw::leskwyn_crossings, first, second, work), ())
 }

@@ -10,6 +10,8 @@ use std::num::NonZeroU16;
 /// let refusal = leskwyn::check(&[5]).unwrap_err();
 /// assert_eq!(refusal.number(), 1);
 /// assert_eq!(refusal.to_string(), "refused 1: fewer than two words");
+/// let repeated = leskwyn::check(&[3, 4, 0, 0, 1, 1, 0, leskwyn::INNER, 1, 1]).unwrap_err();
+/// assert_eq!(repeated.to_string(), "refused 31: a label from 0 to n - 1 does not stand exactly once");
 /// ```
 #[derive(Clone, Copy, Debug, PartialEq, Eq, Hash)]
 pub struct Refusal(NonZeroU16);
@@ -29,8 +31,8 @@ impl Refusal {
         }
     }
 
-    /// The number: 1 to 7 of a table or of the first of two; 101 to 107 of the second; 8 to 13; 15 of a file; 30 of a
-    /// weight.
+    /// The number: 1 to 7 or 31 of a table or of the first of two; 101 to 107 or 131 of the second; 8 to 13; 15 of a file;
+    /// 30 of a weight. 31 stands between 6 and 7 where several rules are broken, 131 between 106 and 107.
     #[must_use]
     pub fn number(self) -> u16 {
         self.0.get()
@@ -45,7 +47,8 @@ impl Refusal {
             3 | 103 => "m is not n to 2n - 2",
             4 | 104 => "the length is not 2 + 2m",
             5 | 105 => "a parent word breaks its rule",
-            6 | 106 => "a label breaks its rule, or does not stand exactly once",
+            6 | 106 => "node 0's label is not 0, or a label is neither 65535 nor below n",
+            31 | 131 => "a label from 0 to n - 1 does not stand exactly once",
             7 | 107 => "a tip other than node 0 has a child, or an inner node has fewer than two",
             8 => "the two n differ",
             9 => "the work has fewer than (m - 1)(m' - 1) cells",

@@ -46,5 +46,9 @@ fn large_files_that_are_refused() {
     assert_eq!(printed(&long(1)), "refused 104\n");
     assert_eq!(printed(&long(1_000_000)), "refused 104\n");
     assert_eq!(printed(&bytes(&table, &caterpillar(255))), "refused 8\n");
+    let last = |label: u16| [&table[..table.len() - 1], &[label]].concat();
+    assert_eq!(printed(&bytes(&last(256), &table)), "refused 6\n");
+    assert_eq!(printed(&bytes(&last(0), &table)), "refused 31\n");
+    assert_eq!(printed(&bytes(&table, &last(0))), "refused 131\n");
     assert_eq!(printed(&vec![255; 300_000]), "refused 2\n");
 }
