@@ -31,7 +31,7 @@ from cases import skips
 from cases.newick import star_text
 from cases.pairs import pair_refusal, split_counts
 from cases.shapes import balanced, caterpillar
-from cases.tables import P, Q, THREE, W, damaged
+from cases.tables import LABEL_TROUBLE, P, Q, THREE, W, X, damaged
 from cases.triplets import triplet_table
 
 import leskwyn
@@ -280,14 +280,22 @@ class Refusals(TreesTest):
         for table, number, words in ((changed(0, 257), 2, ["n is 257", "too small or too large"]),
                                      (changed(0, 9), 3, ["m is 8, not 9 to 16", "count them again"]),
                                      (changed(5, 3), 5, ["the parent of node 3 is 3, not 1 to 2", "after its parent"]),
-                                     (changed(16, 5), 6, ["the label of node 6 is 5", "population"]),
-                                     (changed(16, 4), 6, ["label 3 stands 0 times"]),
+                                     (changed(16, 5), 6, ["the label of node 6 is 5, neither below n", "mend the export"]),
+                                     (changed(10, 1), 6, ["the label of node 0 is 1, not 0", "mend the export"]),
+                                     (changed(16, 4), 31, ["label 3 stands 0 times, label 4 stands 2 times, not once",
+                                                           "a population that stands twice or is missing"]),
+                                     (changed(16, X), 31, ["label 3 stands 0 times, not once", "field sheet"]),
                                      (changed(9, 6), 7, ["inner node 5 has 1", "take out inner nodes"]),
                                      (changed(6, 2), 7, ["node 2 is a tip and has a child"])):
             self.refused(packed(table, Q), number, "first tree", *words)
             self.refused(packed(Q, table), 100 + number, "second tree", *words, "word 1")
         self.refused(packed(P, THREE), 8, "the first tree has 5 tips, the second 3", "take the populations out")
         self.refused(packed(P, Q) + b"\0", 15, "odd number of bytes", "make it again")
+
+    def test_label_trouble(self) -> None:
+        for table, number in LABEL_TROUBLE:
+            self.refused(packed(table, Q), number, "first tree")
+            self.refused(packed(Q, table), 100 + number, "second tree")
 
     def test_damaged_tables(self) -> None:
         for t, u in itertools.chain(((t, list(W)) for t in damaged(P)), ((list(P), t) for t in damaged(W))):

@@ -37,7 +37,7 @@ from cases.newick import Tree, random_names, random_tree, star_text, written_tre
 from cases.pairs import split_counts
 from cases.quartets import OUTSIDE_PAIRS, REFERENCE_PAIRS, cases_by_pairs
 from cases.shapes import balanced, caterpillar, related_pair, star, unrelated_pair
-from cases.tables import OUTSIDE, P, Q, REFERENCE, W, damaged
+from cases.tables import LABEL_TROUBLE, NUMBERS, OUTSIDE, P, Q, REFERENCE, W, damaged
 from cases.triplets import triplet_table
 
 import leskwyn
@@ -348,7 +348,8 @@ class Listings(CommandTest):
 
     def test_damaged_files(self) -> None:
         rng, numbers = random.Random(5), set()
-        contents = [packed(*pair) for t in damaged(P) for pair in ((t, W), (W, t))]
+        spoiled = [*damaged(P), *(t for t, _ in LABEL_TROUBLE)]
+        contents = [packed(*pair) for t in spoiled for pair in ((t, W), (W, t))]
         contents += [packed(P, [3, 4]), packed(P[:-3]), packed(P, REFERENCE[-1]), b"\5", b""]
         for case in range(150):
             content = bytearray(packed(P, Q) if case % 3 else rng.randbytes(rng.randrange(80)))
@@ -358,7 +359,7 @@ class Listings(CommandTest):
             contents.append(bytes(content[:len(content) - rng.choice([0, 0, 0, 1, 2, 5])]))
         for content in contents:
             numbers.add(self.assert_same_listing(content).split("\n")[0])
-        refusals = [*range(1, 9), 15, *range(101, 108)]
+        refusals = [*NUMBERS, *(100 + number for number in NUMBERS), 8, 15]
         self.assertEqual({line for line in numbers if line.startswith("refused")}, {f"refused {number}" for number in refusals})
 
     def test_larger_than_the_program_takes(self) -> None:
@@ -775,6 +776,18 @@ class Answers(unittest.TestCase):
         with self.assertRaises(leskwyn.LeskwynError) as raised:
             leskwyn.compare("(A,B);", "(A,C);")
         self.assertEqual((raised.exception.number, str(raised.exception)), (None, raised.exception.reason))
+
+    def test_label_trouble(self) -> None:
+        words = {6: ", (not 0|neither below n nor 65535); mend the export",
+                 31: r"label \d stands [02] times.*, not once; look in the field"}
+        for (table, number), second in itertools.product(LABEL_TROUBLE, (False, True)):
+            with tempfile.NamedTemporaryFile() as file:
+                file.write(packed(Q, table) if second else packed(table, Q))
+                file.flush()
+                with self.assertRaises(leskwyn.Refusal) as raised:
+                    leskwyn.compare(file.name)
+            self.assertEqual(raised.exception.number, 100 * second + number)
+            self.assertRegex(raised.exception.reason, f"{'second' if second else 'first'} tree: .*{words[number]}")
 
     def test_help(self) -> None:
         for name in leskwyn.__all__:

@@ -21,9 +21,9 @@ from collections.abc import Iterable
 sys.dont_write_bytecode = True
 from command_runs import ENVIRONMENT, LESKWYN, CommandTest, Run
 from cases.newick import Splits, Tree, caterpillar, random_names, random_tree, splits_from, star_text, written_tree
-from cases.tables import P, Q, R, THREE, TWO, W, X, tree_refusal
+from cases.tables import LABEL_TROUBLE, NUMBERS, P, Q, R, THREE, TWO, W, X, tree_refusal
 from leskwyn.newick import Source, read_trees
-from leskwyn.tables import broken_rule, newick_text
+from leskwyn.tables import RULES, broken_rule, newick_text
 from leskwyn.trees import table_of
 
 SOON = 3  # seconds within which a text that is too large is refused, on a busy machine
@@ -670,12 +670,43 @@ class Show(TableTest):
                                      (changed(0, 9), 3, "m is 8"), (changed(0, 4), 3, "m is 8"),
                                      (changed(2, 1), 5, "node 0"), (changed(3, 1), 5, "node 1"),
                                      (changed(4, 0), 5, "node 2"), (changed(5, 3), 5, "node 3"),
-                                     (changed(10, 1), 6, "node 0"), (changed(16, 5), 6, "node 6"),
-                                     (changed(16, 4), 6, "label 3"), (changed(16, X), 6, "label 3"),
+                                     (changed(10, 1), 6, "the label of node 0 is 1, not 0"),
+                                     (changed(10, X), 6, "the label of node 0 is 65535, not 0"),
+                                     (changed(16, 5), 6, "the label of node 6 is 5, neither below n nor 65535"),
+                                     (changed(16, 4), 31, "label 3 stands 0 times, label 4 stands 2 times, not once"),
+                                     (changed(16, X), 31, "refused 31: label 3 stands 0 times, not once"),
+                                     (changed(13, 1), 31, "refused 31: label 1 stands 2 times, not once"),
                                      (changed(9, 6), 7, "node 5"), (changed(6, 2), 7, "node 2")):
             self.assertEqual(tree_refusal(table), number)
             self.assert_faults(packed(table, Q), ["first tree", f"refused {number}: ", words])
             self.assert_faults(packed(Q, table), ["second tree", f"refused {number}: ", words])
+
+    def test_label_trouble(self) -> None:
+        for table, number in LABEL_TROUBLE:
+            self.assertEqual(tree_refusal(table), number)
+            self.assert_faults(packed(table, Q), [f"first tree refused {number}: "])
+            self.assert_faults(packed(Q, table), [f"second tree refused {number}: "])
+
+    def test_names_of_labels_that_do_not_stand_once(self) -> None:
+        self.file("names", "Azores\nBute\nColl\nFoula\nLundy\n")
+        for table, words in ((P[:16] + [4, 4], "label 4 stands 2 times, not once: 'Foula', 'Lundy'\n"),
+                             (P[:16] + [X, 4], "refused 31: label 3 stands 0 times, not once: 'Foula'\n"),
+                             (P[:16] + [5, 4], "refused 6: the label of node 6 is 5, neither below n nor 65535\n")):
+            self.file("pair.bin", packed(Q, table))
+            done = self.run_here("pair.bin", "--names", "names", command="show")
+            self.assertEqual((done.returncode, done.stderr.decode().count("\n")), (1, 1))
+            self.assertIn(words, done.stderr.decode())
+        # the second tree may have labels that the list has no names for
+        self.file("pair.bin", packed(P, [6, 7, 0, 0, 1, 1, 1, 1, 1, 0, X, 1, 2, 2, 3, 4]))
+        done = self.run_here("pair.bin", "--names", "names", command="show")
+        self.assertTrue(done.stderr.decode().endswith("label 2 stands 2 times, label 5 stands 0 times, not once: 'Coll'\n"))
+
+    def test_many_labels_that_do_not_stand_once(self) -> None:
+        labels = [0, X] + [1] * 40
+        table = [41, 42, 0, 0] + [1] * 40 + labels
+        self.assertEqual(tree_refusal(table), 31)
+        self.assert_faults(packed(table, Q), ["label 1 stands 40 times, label 2 stands 0 times, ",
+                                              "label 20 stands 0 times and 20 more labels, not once"])
 
     def test_too_short(self) -> None:
         self.assert_faults(b"", ["first tree refused 1: too short"])
@@ -740,7 +771,10 @@ class Show(TableTest):
             numbers.add(number)
             broken = broken_rule(table)
             self.assertEqual(broken.number if broken else 0, number, table)
-        self.assertEqual(numbers, set(range(8)))
+        self.assertEqual(numbers, {0, *NUMBERS})
+
+    def test_order_of_the_rules(self) -> None:
+        self.assertEqual(list(RULES), NUMBERS)
 
 
 if __name__ == "__main__":

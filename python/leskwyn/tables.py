@@ -7,7 +7,7 @@ import struct
 import typing
 from collections.abc import Sequence
 
-from leskwyn.errors import Refusal
+from leskwyn.errors import NAMED_AT_MOST, Refusal
 from leskwyn.trees import FEWEST_TIPS, INNER, MOST_TIPS, Table
 
 COMPARE_BYTES = 1016
@@ -70,17 +70,27 @@ def wrong_parent(table: Table) -> str:
     return ""
 
 
-def wrong_label(table: Table) -> str:
+def label_out_of_range(table: Table) -> str:
     n, labels = table[0], labels_of(table)
     if labels[0] != 0:
         return f"the label of node 0 is {labels[0]}, not 0"
     for node, label in enumerate(labels):
         if label != INNER and label >= n:
             return f"the label of node {node} is {label}, neither below n nor {INNER}"
-    for label in range(n):
-        if labels.count(label) != 1:
-            return f"label {label} stands {labels.count(label)} times, not once"
     return ""
+
+
+def labels_not_once(table: Table) -> list[int]:
+    """The labels from 0 to n - 1 that are missing or repeated."""
+    labels = labels_of(table)
+    return [label for label in range(table[0]) if labels.count(label) != 1]
+
+
+def label_not_once(table: Table) -> str:
+    labels, wrong = labels_of(table), labels_not_once(table)
+    told = [f"label {label} stands {labels.count(label)} times" for label in wrong[:NAMED_AT_MOST]]
+    more = f" and {len(wrong) - len(told)} more labels" if len(wrong) > len(told) else ""
+    return f"{', '.join(told)}{more}, not once" if wrong else ""
 
 
 def wrong_children(table: Table) -> str:
@@ -100,13 +110,15 @@ class Rule(typing.NamedTuple):
     advice: str
 
 
+# By their numbers, in the order in which they decide.
 RULES = {
     1: Rule(too_few_words, "the file is empty or ends too early: make it again"),
     2: Rule(tips_out_of_range, "the tree is too small or too large, or the file is no comparison file"),
     3: Rule(nodes_out_of_range, "nodes are missing, or an inner node has one child only: count them again"),
     4: Rule(wrong_length, "words are missing or left over: make the file again"),
     5: Rule(wrong_parent, "number each node after its parent; the nodes 0 and 1 have the parent word 0"),
-    6: Rule(wrong_label, "look for a population that stands twice, is missing, or has a wrong label"),
+    6: Rule(label_out_of_range, "mend the export: tips have the labels 0 to n - 1, node 0 the label 0"),
+    31: Rule(label_not_once, "look in the field sheet for a population that stands twice or is missing"),
     7: Rule(wrong_children, "take out inner nodes with one child or none; give tips no child"),
 }
 CUT_ADVICE = "; the second tree starts where the first tree's word 1 says"

@@ -5,10 +5,11 @@ import os
 import stat
 
 from leskwyn import files
-from leskwyn.errors import Refusal, counted, one_line
+from leskwyn.errors import Refusal, counted, one_line, some_of
 from leskwyn.labels import label_list, names_in_order, order_of_tips, outgroup_first
 from leskwyn.sources import trees_of_path
-from leskwyn.tables import COMPARE_BYTES, ORDINALS, broken_rule, cut, file_bytes, file_words, newick_text
+from leskwyn.tables import (COMPARE_BYTES, ORDINALS, Broken, broken_rule, cut, file_bytes, file_words, labels_not_once,
+                            newick_text)
 from leskwyn.trees import INNER, Placed, Table, checked, labels_of_names, table_of
 from leskwyn.usage import Parser, add_common, add_outgroup, with_common
 
@@ -155,6 +156,12 @@ def shown_table(ordinal: str, table: Table, is_tree: bool, names: list[str]) -> 
     return [header] + shown_rows(table, names) + [tree]
 
 
+def names_not_once(table: Table, names: list[str], broken: Broken) -> str:
+    """The names of the labels that are missing or repeated, where the list has them."""
+    named = [names[label] for label in labels_not_once(table) if label < len(names)] if broken.number == 31 else []
+    return f": {some_of(named)}" if named else ""
+
+
 def shown(content: bytes, names: list[str]) -> tuple[list[str], list[str]]:
     """The lines of both tables, and what is wrong with them."""
     faults = ["an odd number of bytes, the last left out here (refused 15)"] if len(content) % 2 else []
@@ -165,7 +172,8 @@ def shown(content: bytes, names: list[str]) -> tuple[list[str], list[str]]:
             break
         broken = broken_rule(table)
         lines += shown_table(ordinal, table, broken is None, names)
-        faults += [f"{ordinal} tree refused {broken.number}: {broken.fault}"] if broken else []
+        if broken:
+            faults.append(f"{ordinal} tree refused {broken.number}: {broken.fault}{names_not_once(table, names, broken)}")
         tips += [] if broken else table[:1]
     if len(tips) == 2 and tips[0] != tips[1]:
         faults.append(f"refused 8: the first tree has {tips[0]} tips, the second {tips[1]}")
