@@ -30,7 +30,7 @@ from cases import skips
 from cases.house import PROGRAM, ROOT, SECONDS, Done, House
 from cases.quartets import cases_by_pairs
 from cases.shapes import balanced, caterpillar, related_pair, star, unrelated_pair, with_labels_exchanged
-from cases.tables import OUTSIDE, P, Q, R, THREE, TWO, W, X, damaged, table, tree_refusal
+from cases.tables import LABEL_TROUBLE, NUMBERS, OUTSIDE, P, Q, R, THREE, TWO, W, X, damaged, table, tree_refusal
 
 MOST_BYTES = 1016
 ENUMERATED = 16  # the most tips for which every set of four and every claim is looked at
@@ -421,10 +421,17 @@ class Refusals(ProgramTest):
             self.assert_refused(105, packed(Q, t))
 
     def test_labels(self) -> None:
-        for t in (changed(P, 10, 1), changed(P, 10, X), changed(P, 17, 5), changed(P, 17, X - 1), changed(P, 17, 3),
-                  changed(P, 17, 0), changed(P, 17, X)):
+        for t in (changed(P, 10, 1), changed(P, 10, X), changed(P, 17, 5), changed(P, 17, X - 1)):
             self.assert_refused(6, packed(t, Q))
             self.assert_refused(106, packed(Q, t))
+        for t in (changed(P, 17, 3), changed(P, 17, 0), changed(P, 17, X), changed(P, 13, 1)):
+            self.assert_refused(31, packed(t, Q))
+            self.assert_refused(131, packed(Q, t))
+
+    def test_label_trouble(self) -> None:
+        for t, number in LABEL_TROUBLE:
+            self.assert_refused(number, packed(t, Q))
+            self.assert_refused(100 + number, packed(Q, t))
 
     def test_children(self) -> None:
         one = table(5, 8, [0, 0, 1, 1, 3, 4, 4, 4], [0, X, 1, X, X, 2, 3, 4])
@@ -439,8 +446,8 @@ class Refusals(ProgramTest):
             self.assert_refused(8, packed(t, u))
 
     def test_the_first_tree_decides_before_the_second(self) -> None:
-        bad = [changed(P, 0, 1), changed(P, 2, 1), changed(P, 10, 1), changed(P, 6, 2)]
-        for (t, u), number in zip(itertools.product(bad, repeat=2), [2] * 4 + [5] * 4 + [6] * 4 + [7] * 4):
+        bad = {2: changed(P, 0, 1), 5: changed(P, 2, 1), 6: changed(P, 10, 1), 31: changed(P, 17, 3), 7: changed(P, 6, 2)}
+        for (number, t), u in itertools.product(bad.items(), bad.values()):
             self.assert_refused(number, packed(t, u))
         self.assert_refused(103, packed(THREE, changed(P, 1, 4)))
 
@@ -465,7 +472,7 @@ class Refusals(ProgramTest):
                 self.assert_listed(packed(broken, u))
                 self.assert_listed(packed(u, broken))
         # damage of the first tree that shortens or lengthens it moves the cut, and the number with it
-        self.assertEqual(numbers, {2, 3, 5, 6, 7, *range(101, 108)})
+        self.assertEqual(numbers, {2, 3, 5, 6, 31, 7, *(100 + number for number in NUMBERS)})
 
     def test_random_damage(self) -> None:
         rng, numbers = random.Random(73), set()
@@ -480,7 +487,7 @@ class Refusals(ProgramTest):
                 content += rng.randbytes(rng.choice([1, 2, 4, 1000]))
             numbers.add(refusal(content))
             self.assert_listed(bytes(content))
-        self.assertLessEqual({0, *range(2, 8), *range(101, 107), 14, 15}, numbers)
+        self.assertLessEqual({0, *range(2, 8), 31, *range(101, 107), 131, 14, 15}, numbers)
 
 
 class Pipes(ProgramTest):
@@ -736,7 +743,7 @@ class Readme(unittest.TestCase):
     def test_every_refusal_number_is_explained(self) -> None:
         section = self.README.partition("## Refusals\n")[2].partition("\n## ")[0]
         rows = [line.split("|")[1].strip() for line in section.splitlines() if line.startswith("|")]
-        for number in (*map(str, range(1, 16)), "101 to 107"):
+        for number in (*map(str, range(1, 16)), "31", "101 to 107, 131"):
             self.assertEqual(rows.count(number), 1, number)
 
 
