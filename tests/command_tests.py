@@ -634,6 +634,16 @@ class Pages(unittest.TestCase):
         done = run_leskwyn("compare", "examples/feathers.nwk", "examples/wings.nwk", "--weight", "1/2")
         self.assertEqual([line[4:] for line in shown], [line for line in done.stdout.decode().split("\n") if "weighted" in line])
 
+    def test_refusals_on_the_commands_page(self) -> None:
+        """The lines of 6 and 31 for P with another label at node 6."""
+        page = " ".join((ROOT / "docs/COMMANDS.md").read_text(encoding="utf-8").split())
+        with tempfile.TemporaryDirectory() as folder:
+            for label, number in ((5, 6), (4, 31)):
+                (pathlib.Path(folder) / "pair.bin").write_bytes(packed(P[:16] + [label] + P[17:], Q))
+                message = run_leskwyn("compare", "pair.bin", cwd=folder).stderr.decode()
+                self.assertTrue(message.startswith(f"leskwyn: refused {number}: pair.bin: first tree: "), message)
+                self.assertIn(f"`{message.rstrip()}`", page)
+
     def test_readme(self) -> None:
         self.assert_examples("README.md", 2)
 

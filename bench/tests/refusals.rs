@@ -108,6 +108,10 @@ fn label_trouble() {
     for (table, number) in LABEL_TROUBLE {
         tree_agrees(table, &mut random);
         assert_eq!(tree_refusal(table), number, "{table:?}");
+        for refusal in [leskwyn::check(table), leskwyn::work_cells(W, table).map(|_| ())].map(Result::unwrap_err) {
+            let part = if number == 6 { "neither 65535 nor below n" } else { "does not stand exactly once" };
+            assert!(refusal.reason().ends_with(part), "{refusal}");
+        }
         assert_eq!(refusal_agrees(table, W, 100, &mut random), number, "{table:?}");
         assert_eq!(refusal_agrees(W, table, 100, &mut random), 100 + number, "{table:?}");
         assert_eq!(refusal_agrees(W, table, 0, &mut random), 100 + number, "{table:?} and no cells");

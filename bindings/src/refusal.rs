@@ -63,6 +63,13 @@ impl Refusal {
     }
 
     /// Whether the second of two tables is the one that is no tree.
+    ///
+    /// ```
+    /// let star = [3, 4, 0, 0, 1, 1, 0, leskwyn::INNER, 1, 2];
+    /// let repeated = [3, 4, 0, 0, 1, 1, 0, leskwyn::INNER, 1, 1];
+    /// let refusal = leskwyn::work_cells(&star, &repeated).unwrap_err();
+    /// assert_eq!((refusal.number(), refusal.is_of_second()), (131, true));
+    /// ```
     #[must_use]
     pub fn is_of_second(self) -> bool {
         self.number() > 100
