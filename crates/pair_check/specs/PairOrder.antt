@@ -19,7 +19,7 @@ plus k (r ∷ rs) = (k + r .0, r .1) ∷ plus k rs
 unfoldable pub tipsOrder : Table → Table → List Rule
 tipsOrder t u = (8, not (eqb (tips t) (tips u))) ∷ []
 
--- the first table by 1 to 7, the second by 101 to 107, then 8: what two tables alone are held to
+-- the first table by 1 to 7 and 31, the second by 100 more, then 8: what two tables alone are held to
 unfoldable pub tablesOrder : Table → Table → List Rule
 tablesOrder t u = treeOrder t ++ (plus 100 (treeOrder u) ++ tipsOrder t u)
 

@@ -66,7 +66,7 @@ module _ (ps ls : List ℕ) (n : ℕ) (f : ArraysFit ps ls n) where
           → refusal (arraysOrder n (length ps) (word ps) (word ls)) ≡ 0
       arrays-kept h = last ∙ refusal-next 7 _ [] h ∙ refusal-none
 
--- ---- 1 to 7
+-- ---- 1 to 7 and 31
 
 module _ (t : Table) where
   pub too-short : length t < 2 → refusal (treeOrder t) ≡ 1

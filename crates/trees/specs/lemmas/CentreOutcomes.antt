@@ -44,7 +44,7 @@ module _ (t : Table) (a b c : ℕ) where
   refused : (k : ℕ) → refusal (labelOrder t (a ∷ b ∷ c ∷ [])) ≡ k → k ≢ 0 → answer k 0 ≡ centreAnswer t a b c
   refused k e d = ap (answer k) (sym (if-refused k (centre t a b c) 0 d)) ∙ told k e
 
-  -- 1 to 7
+  -- 1 to 7 and 31
   pub centre-refused : (k : ℕ) → refusal (treeOrder t) ≡ k → k ≢ 0 → answer k 0 ≡ centreAnswer t a b c
   unfolding labelOrder
   centre-refused k e d = refused k (tree-refused t (askedOrder (tips t) (a ∷ b ∷ c ∷ [])) k e d) d
