@@ -1,2 +1,2 @@
 pub mod DemandThree
-pub mod FoursTable
+pub mod FourArithmetic

@@ -1,6 +1,5 @@
 // Two tree tables: crossings, claim sums, the quartet table, split counts and the triplet table. Every public function takes
 // any words in slices of any length, and answers in full or refuses with one number.
-mod fours; // fours.rt: the number of sets of four
 mod tables; // tables.rt: the quartet table of two trees
 
 pub use claims::ClaimSums;

@@ -1,13 +1,13 @@
 // The quartet table of two trees.
-use super::fours::sets_of_four;
 use claims::claim_sums;
 use pair_check::CheckedPair;
 use pair_check::check_work;
 use pair_check::pair_refusal;
 use table_words::Cell;
-use table_words::as_index;
 ghost use mathlib.Core.Path.{_≡_};
+ghost use Prim.Native.Nat.{_≤_};
 ghost use lib.ListN.{length};
+ghost use Rattle.sums.specs.Fours.{fours};
 ghost use Rattle.tree_pairs.specs.Crossings.{afterCrossings};
 ghost use Rattle.quartets.specs.lemmas.FormedTable.{TableFits, formed};
 ghost use Rattle.quartets.specs.QuartetAnswer.{DemandThree, quartetAnswer};
@@ -24,11 +24,30 @@ pub struct QuartetTable {
     pub distance: u64,
 }
 
+// A word as a wider number.
+fn wide(x: u16) -> u32
+    ensures { λ r. ⌜ r ≡ x ⌝ }
+{
+    x as u32
+}
+
 // A count as a wider one.
 fn widened(x: u32) -> u64
     ensures { λ r. ⌜ r ≡ x ⌝ }
 {
     x as u64
+}
+
+// How many sets of four there are among k labels: none below four, where k - 3 would go below 0; 4195023360 is the largest
+// product, at 256.
+fn sets_of_four(k: u32) -> u32
+    requires { ⌜ k ≤ 256 ⌝ }
+    ensures { λ r. ⌜ r ≡ fours k ⌝ }
+{
+    if k < 4 {
+        return 0;
+    }
+    k * (k - 1) * (k - 2) * (k - 3) / 24
 }
 
 // The five formulas, from the four claim sums and n alone.
@@ -40,7 +59,7 @@ fn form_table(first: u64, second: u64, same: u64, different: u64, n: u16) -> Qua
     let b = different / 4;
     let c = first / 2 - a - b;
     let d = second / 2 - a - b;
-    let all = widened(sets_of_four(as_index(n)));
+    let all = widened(sets_of_four(wide(n)));
     let e = all - a - b - c - d;
     let distance = b + c + d;
     QuartetTable {

@@ -20,11 +20,11 @@ sub-d c = omega (arith, c .pre .D-fits)
 sub-d-2 : tie.Need-sub-d-2
 sub-d-2 c = omega (arith, c .pre .D-fits)
 
-as-index-requires : tie.Need-as-index-requires
-as-index-requires c κs = search needs
+wide-requires : tie.Need-wide-requires
+wide-requires c κs = search needs
 
 sets-of-four-requires : tie.Need-sets-of-four-requires
-sets-of-four-requires c κs = omega (arith, c .as-index .ensures .0, c .before .pre .tips-few)
+sets-of-four-requires c κs = omega (arith, c .wide .ensures, c .before .pre .tips-few)
 
 widened-requires : tie.Need-widened-requires
 widened-requires c κs = search needs
@@ -32,25 +32,25 @@ widened-requires c κs = search needs
 sub-e : tie.Need-sub-e
 sub-e c =
     let s = c .before .before .before in
-    let all = c .widened .ensures ∙ c .before .sets-of-four .ensures ∙ ap fours (c .before .before .as-index .ensures .0) in
+    let all = c .widened .ensures ∙ c .before .sets-of-four .ensures ∙ ap fours (c .before .before .wide .ensures) in
     omega (arith, all, s .pre .E-fits)
 
 sub-e-2 : tie.Need-sub-e-2
 sub-e-2 c =
     let s = c .before .before .before in
-    let all = c .widened .ensures ∙ c .before .sets-of-four .ensures ∙ ap fours (c .before .before .as-index .ensures .0) in
+    let all = c .widened .ensures ∙ c .before .sets-of-four .ensures ∙ ap fours (c .before .before .wide .ensures) in
     omega (arith, all, s .pre .E-fits)
 
 sub-e-3 : tie.Need-sub-e-3
 sub-e-3 c =
     let s = c .before .before .before in
-    let all = c .widened .ensures ∙ c .before .sets-of-four .ensures ∙ ap fours (c .before .before .as-index .ensures .0) in
+    let all = c .widened .ensures ∙ c .before .sets-of-four .ensures ∙ ap fours (c .before .before .wide .ensures) in
     omega (arith, all, s .pre .E-fits)
 
 sub-e-4 : tie.Need-sub-e-4
 sub-e-4 c =
     let s = c .before .before .before in
-    let all = c .widened .ensures ∙ c .before .sets-of-four .ensures ∙ ap fours (c .before .before .as-index .ensures .0) in
+    let all = c .widened .ensures ∙ c .before .sets-of-four .ensures ∙ ap fours (c .before .before .wide .ensures) in
     rest-fits _ _ _ _ _ _ all (s .pre .E-fits)
 
 add-distance : tie.Need-add-distance
@@ -67,7 +67,7 @@ returns : tie.Need-returns
 returns c =
     let s = c .before .before .before in
     table-formed (s .args .n) _ _ _ _ _
-    (c .widened .ensures ∙ c .before .sets-of-four .ensures ∙ ap fours (c .before .before .as-index .ensures .0))
+    (c .widened .ensures ∙ c .before .sets-of-four .ensures ∙ ap fours (c .before .before .wide .ensures))
 
 pub form-table-spec : {M : Type 1} → statement M
 form-table-spec =
@@ -77,7 +77,7 @@ form-table-spec =
     sub-c-2
     sub-d
     sub-d-2
-    as-index-requires
+    wide-requires
     sets-of-four-requires
     widened-requires
     sub-e
