@@ -9,7 +9,7 @@ abbrev pub minor : ℕ
 minor = 5
 
 abbrev pub patch : ℕ
-patch = 0
+patch = 1
 
 -- the three as one number, so that a later release has a greater one
 abbrev pub version : ℕ

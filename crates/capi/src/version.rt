@@ -6,7 +6,7 @@ const MAJOR: u32 = 0;
 
 const MINOR: u32 = 5;
 
-const PATCH: u32 = 0;
+const PATCH: u32 = 1;
 
 // The version number as one number.
 #[no_mangle]
