@@ -578,9 +578,10 @@ class Surroundings(TreesTest):
         self.assertEqual((told.returncode, told.stdout.decode()), (0, f"leskwyn (Leskwyn) {leskwyn.__version__}\n"), told.stderr)
 
     def test_interrupted(self) -> None:
-        """While standard input is waited for."""
+        """While standard input is waited for; where the tests themselves run in the background, the interrupt is let through."""
         with subprocess.Popen([*LESKWYN, "compare", "-"], stdin=subprocess.PIPE, stdout=subprocess.PIPE, stderr=subprocess.PIPE,
-                              env={**ENVIRONMENT, "PYTHONUNBUFFERED": "1"}, cwd=self.folder) as process:
+                              env={**ENVIRONMENT, "PYTHONUNBUFFERED": "1"}, cwd=self.folder,
+                              preexec_fn=lambda: signal.signal(signal.SIGINT, signal.SIG_DFL)) as process:
             process.stdin.write(b"(A,")
             process.stdin.flush()
             time.sleep(1)
