@@ -5,11 +5,11 @@ use Prim.Native.Nat.{ℕ, _+_, _*_, _-_}
 use Rattle.shapes.specs.Splits.{splitsOf, commonOf, sameSplitsOf, SameSplits}
 use Rattle.tree_check.specs.Table.{Table, tips, nodes, beyond}
 
--- how many splits a tree has: edges with two tips or more on each side
+-- how many splits a tree has: different pairs of tip sets with two tips or more in each, each pair once
 unfoldable pub splits : Table → ℕ
 splits t = splitsOf (tips t) (nodes t - 1) (beyond t)
 
--- how many splits of the first tree have tip sets that the other tree has too
+-- how many splits of the first tree the other has too
 unfoldable pub commonSplits : Table → Table → ℕ
 commonSplits t u = commonOf (tips t) (nodes t - 1) (beyond t) (nodes u - 1) (beyond u)
 

@@ -3,6 +3,7 @@ pub mod CountingTheorem
 pub mod Degrees
 pub mod EdgeClaims
 pub mod FiveFormulas
+pub mod NewSplits
 pub mod NodePairSums
 pub mod QuartetTheorem
 pub mod ReferencePairs

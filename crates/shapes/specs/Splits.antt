@@ -25,13 +25,17 @@ sameSides n b c i j = every n (λ x. Bool·beq (b i x) (c j x)) || every n (λ x
 unfoldable pub occurs : ℕ → Sides → ℕ → Sides → ℕ → Bool
 occurs n b l c i = some l (λ j. sameSides n b c i (suc j))
 
--- how many splits a tree has
-unfoldable pub splitsOf : ℕ → ℕ → Sides → ℕ
-splitsOf n k b = count k (λ i. isSplit n b (suc i))
+-- edge i + 1 is a split, and no edge before it has its two tip sets
+unfoldable pub isNewSplit : ℕ → Sides → ℕ → Bool
+isNewSplit n b i = isSplit n b (suc i) && not (occurs n b i b (suc i))
 
--- how many of them have tip sets that the other tree has too
+-- how many splits a tree has: different pairs of tip sets, each once
+unfoldable pub splitsOf : ℕ → ℕ → Sides → ℕ
+splitsOf n k b = count k (isNewSplit n b)
+
+-- how many of them the other tree has too
 unfoldable pub commonOf : ℕ → ℕ → Sides → ℕ → Sides → ℕ
-commonOf n k b l c = count k (λ i. isSplit n b (suc i) && occurs n b l c (suc i))
+commonOf n k b l c = count k (λ i. isNewSplit n b i && occurs n b l c (suc i))
 
 -- the Robinson-Foulds distance, first + second − 2 · common
 unfoldable pub robinsonFouldsOf : ℕ → ℕ → Sides → ℕ → Sides → ℕ
@@ -57,6 +61,11 @@ pub record Split (n k : ℕ) (b : Sides) (i : ℕ) : Type 0 where
 pub data SameSides (n : ℕ) (b c : Sides) (i j : ℕ) : Type 0 where
   same : ((x : ℕ) → x < n → b i x ≡ c j x) → SameSides n b c i j
   turned : ((x : ℕ) → x < n → b i x ≡ not (c j x)) → SameSides n b c i j
+
+-- edge i + 1 is the first with its two tip sets
+pub record NewSplit (n k : ℕ) (b : Sides) (i : ℕ) : Type 0 where
+  pub split : Split n k b (suc i)
+  pub new : (j : ℕ) → j < i → SameSides n b b (suc i) (suc j) → ⊥
 
 abbrev pub Occurs : ℕ → Sides → ℕ → Sides → ℕ → Type 0
 Occurs n b l c i = (j : ℕ) × Split n l c j × SameSides n b c i j

@@ -14,7 +14,7 @@ use Rattle.shapes.specs.Directions.{edge, rising, head, behind}
 use Rattle.shapes.specs.Quartets.{parts, parted}
 use Rattle.shapes.specs.Claims.{sumIf, meet, sumClaimsOf, sumClaims, choose2}
 use Rattle.shapes.specs.Triplets.{lastBelow, lowest, resolved}
-use Rattle.shapes.specs.Splits.{isSplit, sameSides, occurs, splitsOf, commonOf, allOccur, sameSplitsOf}
+use Rattle.shapes.specs.Splits.{isSplit, sameSides, occurs, isNewSplit, splitsOf, commonOf, allOccur, sameSplitsOf}
 use Rattle.tree_check.specs.Table.{Table, tips, nodes, parents, labels, parent, label, nodeBelow, nodeOf, beyond}
 use Rattle.trees.specs.Topology.{butterfly, partner, named, topology}
 use Rattle.walks.specs.theorems.WalkExamples.{X, P, Q, R, W, TwoTips, ThreeTips}
@@ -49,7 +49,7 @@ pub reference-pairs :
     ∷ (0 ∷ 0 ∷ 0 ∷ 0 ∷ 0 ∷ 0 ∷ 0 ∷ 0 ∷ 0 ∷ 0 ∷ 0 ∷ 0 ∷ 0 ∷ 0 ∷ 0 ∷ 0 ∷ 0 ∷ 0 ∷ 0 ∷ []) ∷ []
 unfolding
     figures S S2 S3 codes behindEdge size crossing sumClaims sumClaimsOf sumIf meet choose2 quartets isCase caseNumber
-    caseOf splits commonSplits robinsonFoulds splitsOf commonOf isSplit sameSides occurs
+    caseOf splits commonSplits robinsonFoulds splitsOf commonOf isNewSplit isSplit sameSides occurs
     triplets triplet together resolved lowest lastBelow
     topology named partner butterfly parts parted sets2 sets3 sets4 sum bit some every
     ancIn anc edge rising head behind tips nodes parents labels parent label nodeBelow nodeOf beyond

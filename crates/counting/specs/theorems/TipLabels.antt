@@ -100,9 +100,9 @@ module _ (t u t' u' : Table) (g : IsTree t) (h : IsTree u) (g' : IsTree t') (h' 
   same-common : commonSplits t u ≡ commonSplits t' u'
   same-common =
       same-splits-in-common t u u' e r
-      ∙ common-from-either t u' g h' (omega arith)
+      ∙ common-from-either t u' (omega arith)
       ∙ same-splits-in-common u' t t' (omega arith) s
-      ∙ common-from-either u' t' h' g' (omega arith)
+      ∙ common-from-either u' t' (omega arith)
 
   -- a triplet is the topology of its labels with tip 0
   same-triplets : (k : Case) → triplets t u k ≡ triplets t' u' k
@@ -125,11 +125,11 @@ module _ (t u t' u' : Table) (g : IsTree t) (h : IsTree u) (g' : IsTree t') (h' 
     different = omega (arith, c .different, c' .different, b);
     counts = same-counts;
     distance = omega (arith, b, same-counts C, same-counts D);
-    first-splits = same-splits-as-many t t' g g' et s;
-    second-splits = same-splits-as-many u u' h h' eu r;
+    first-splits = same-splits-as-many t t' et s;
+    second-splits = same-splits-as-many u u' eu r;
     common = same-common;
     robinson-foulds = unfold robinsonFoulds in
-        rw (same-splits-as-many t t' g g' et s, same-splits-as-many u u' h h' eu r, same-common);
+        rw (same-splits-as-many t t' et s, same-splits-as-many u u' eu r, same-common);
     triplet-counts = same-triplets;
   }
     where

@@ -1,5 +1,5 @@
--- Different edges of a tree table have different tip sets; so common splits and the Robinson-Foulds distance are
--- the same counted from either tree.
+-- Different edges of a tree table have different tip sets, so that its splits are edges; common splits and the
+-- Robinson-Foulds distance are the same counted from either tree.
 -- Assumes nothing.
 use mathlib.Core.Path.{_≡_, refl, sym, _∙_, ap}
 use mathlib.Core.Logic.{inl, inr, _≢_, _↔_}
@@ -13,10 +13,10 @@ use Rattle.shapes.specs.Ancestors.{anc}
 use Rattle.shapes.specs.theorems.AncestorLaws.{parent-lt, anc-at-zero, anc-self, anc-down, anc-trans, anc-line}
 use Rattle.shapes.specs.theorems.AncestorLaws.{one-child}
 use Rattle.shapes.specs.theorems.PathLaws.{towards}
-use Rattle.shapes.specs.Splits.{splitsOf, commonOf, robinsonFouldsOf, SameSides, same, turned}
+use Rattle.shapes.specs.Splits.{isSplit, isNewSplit, splitsOf, commonOf, robinsonFouldsOf, SameSides, same, turned}
 use Rattle.shapes.specs.theorems.SplitLaws.{Distinct, same-splits-iff}
 use Rattle.shapes.specs.theorems.RobinsonFoulds as rf
-use Rattle.shapes.specs.theorems.RobinsonFoulds.{common-turned}
+use Rattle.shapes.specs.theorems.RobinsonFoulds.{new-where-distinct, common-turned}
 use Rattle.shapes.specs.theorems.SameSplits as ss
 use Rattle.tree_check.specs.Table.{Table, tips, nodes, parent, label, nodeOf, beyond}
 use Rattle.tree_check.specs.IsTree.{IsTree, Child}
@@ -121,17 +121,18 @@ module _ (t : Table) (g : IsTree t) where
   tree-distinct i j s r h =
       edges-distinct i j (s .above) (omega (arith, s .edge, s .above)) (r .above) (omega (arith, r .edge, r .above)) h
 
+  -- each edge with two tips or more on each side is a split of its own
+  pub new-edge : (i : ℕ) → i < nodes t - 1 → isNewSplit (tips t) (beyond t) i ≡ isSplit (tips t) (beyond t) (suc i)
+  new-edge = new-where-distinct (tips t) (nodes t - 1) (beyond t) tree-distinct
+
 -- ---- the four split counts of two tables
 
-module _ (t u : Table) (g : IsTree t) (h : IsTree u) (e : tips t ≡ tips u) where
-  distinct-in-second : Distinct (tips t) (nodes u - 1) (beyond u)
-  distinct-in-second = rw e (tree-distinct u h)
-
+module _ (t u : Table) (e : tips t ≡ tips u) where
   -- the common splits are as many counted from either tree
   pub common-from-either : commonSplits t u ≡ commonSplits u t
   unfolding commonSplits
   common-from-either =
-      common-turned (tips t) (nodes t - 1) (beyond t) (nodes u - 1) (beyond u) (tree-distinct t g) distinct-in-second
+      common-turned (tips t) (nodes t - 1) (beyond t) (nodes u - 1) (beyond u)
       ∙ ap (λ (n : ℕ). commonOf n (nodes u - 1) (beyond u) (nodes t - 1) (beyond t)) e
 
   second-splits : splits u ≡ splitsOf (tips t) (nodes u - 1) (beyond u)
@@ -142,19 +143,19 @@ module _ (t u : Table) (g : IsTree t) (h : IsTree u) (e : tips t ≡ tips u) whe
   pub robinson-foulds-fits : 2 * commonSplits t u ≤ splits t + splits u
   unfolding commonSplits splits
   robinson-foulds-fits = rw second-splits (rf.robinson-foulds-fits
-      (tips t) (nodes t - 1) (beyond t) (nodes u - 1) (beyond u) (tree-distinct t g) distinct-in-second)
+      (tips t) (nodes t - 1) (beyond t) (nodes u - 1) (beyond u))
 
   -- the Robinson-Foulds distance is 0 exactly if the splits are the same
   pub robinson-foulds-zero : (robinsonFoulds t u ≡ 0) ↔ HaveSameSplits t u
   unfolding robinsonFoulds robinsonFouldsOf commonSplits splits
   robinson-foulds-zero = rw second-splits (rf.robinson-foulds-zero
-      (tips t) (nodes t - 1) (beyond t) (nodes u - 1) (beyond u) (tree-distinct t g) distinct-in-second)
+      (tips t) (nodes t - 1) (beyond t) (nodes u - 1) (beyond u))
 
   -- two trees with the same splits have as many
   pub same-splits-as-many : HaveSameSplits t u → splits t ≡ splits u
   unfolding splits
   same-splits-as-many s = rw second-splits (ss.same-splits-as-many
-      (tips t) (nodes t - 1) (beyond t) (nodes u - 1) (beyond u) (tree-distinct t g) distinct-in-second s)
+      (tips t) (nodes t - 1) (beyond t) (nodes u - 1) (beyond u) s)
 
 -- .. and as many in common with any tree
 pub same-splits-in-common : (t u v : Table) → tips t ≡ tips u → HaveSameSplits u v

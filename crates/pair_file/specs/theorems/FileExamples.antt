@@ -13,7 +13,7 @@ use Rattle.shapes.specs.Directions.{edge, rising, head, behind}
 use Rattle.shapes.specs.Quartets.{parts, parted}
 use Rattle.shapes.specs.Claims.{sumIf, meet, sumClaimsOf, sumClaims, choose2}
 use Rattle.shapes.specs.Triplets.{lastBelow, lowest, resolved}
-use Rattle.shapes.specs.Splits.{isSplit, sameSides, occurs, splitsOf, commonOf}
+use Rattle.shapes.specs.Splits.{isSplit, sameSides, occurs, isNewSplit, splitsOf, commonOf}
 use Rattle.tree_check.specs.Table.{tips, nodes, parents, labels, parent, label, nodeBelow, nodeOf, beyond}
 use Rattle.tree_check.specs.Refusals.{refusal, ifAccepted}
 use Rattle.tree_check.specs.TreeOrder.{tipsFit, nodesFit, parentFits, labelFits, standing, labelsFit, labelsOnce}
@@ -50,7 +50,7 @@ unfolding
     pairOrder tablesOrder tipsOrder workOrder plus treeOrder arraysOrder tipsFit nodesFit parentFits labelFits standing labelsFit labelsOnce
     isChild children misplaced
     S S2 S3 codes behindEdge size crossing sumClaims sumClaimsOf sumIf meet choose2 quartets isCase caseNumber
-    caseOf splits commonSplits robinsonFoulds splitsOf commonOf isSplit sameSides occurs
+    caseOf splits commonSplits robinsonFoulds splitsOf commonOf isNewSplit isSplit sameSides occurs
     triplets triplet together resolved lowest lastBelow
     topology named partner butterfly parts parted sets2 sets3 sets4 sum bit some every
     ancIn anc edge rising head behind tips nodes parents labels parent label nodeBelow nodeOf beyond

@@ -3,14 +3,13 @@
 use mathlib.Core.Path.{_≡_, refl, sym, _∙_, ap}
 use mathlib.Core.Bool.{_&&_}
 use Prim.Native.Nat.{ℕ, suc, _<_}
-use native.Mathlib.Omega.{arith}
 use lib.Dec.{T}
 use Rattle.sums.specs.theorems.SumLaws.{sum-ext}
 use Rattle.sums.specs.Bits.{bit}
 use Rattle.sums.specs.theorems.TestLaws.{and-iff, same-test}
-use Rattle.shapes.specs.Splits.{Sides, isSplit, occurs, splitsOf, commonOf, same, Occurs, AllOccur, SameSplits}
-use Rattle.shapes.specs.theorems.SplitLaws.{Distinct, sides-trans, split-iff, occurs-iff}
-use Rattle.shapes.specs.theorems.RobinsonFoulds.{common-turned, common-all}
+use Rattle.shapes.specs.Splits.{Sides, occurs, isNewSplit, splitsOf, commonOf, same, Occurs, AllOccur, SameSplits}
+use Rattle.shapes.specs.theorems.SplitLaws.{sides-trans, occurs-iff}
+use Rattle.shapes.specs.theorems.RobinsonFoulds.{new-iff, common-turned, common-all}
 
 pub same-splits-refl : (n k : ℕ) (b : Sides) → SameSplits n k b k b
 same-splits-refl n k b = record { there = here; back = here }
@@ -26,11 +25,11 @@ occurs-trans : {n l m i : ℕ} {b c d : Sides} → Occurs n b l c i → AllOccur
 occurs-trans o h = let r = h (o .0) (o .1) in (r .0, r .1, sides-trans (o .2) (r .2))
 
 -- two trees with the same splits have as many
-pub same-splits-as-many : (n k : ℕ) (b : Sides) (l : ℕ) (c : Sides) → Distinct n k b → Distinct n l c
+pub same-splits-as-many : (n k : ℕ) (b : Sides) (l : ℕ) (c : Sides)
     → SameSplits n k b l c → splitsOf n k b ≡ splitsOf n l c
-same-splits-as-many n k b l c db dc h =
+same-splits-as-many n k b l c h =
     sym (common-all n k b l c .1 (h .there))
-    ∙ common-turned n k b l c db dc
+    ∙ common-turned n k b l c
     ∙ common-all n l c k b .1 (h .back)
 
 -- .. and as many in common with any tree
@@ -41,9 +40,9 @@ same-splits-in-common n k b l c m d h =
     sum-ext k _ _ (λ i li. ap bit (same-test _ _ (moved l c m d h i li) (moved m d l c (same-splits-sym h) i li)))
   where
     moved : (l : ℕ) (c : Sides) (m : ℕ) (d : Sides) → SameSplits n l c m d → (i : ℕ) → i < k
-        → T (isSplit n b (suc i) && occurs n b l c (suc i)) → T (isSplit n b (suc i) && occurs n b m d (suc i))
+        → T (isNewSplit n b i && occurs n b l c (suc i)) → T (isNewSplit n b i && occurs n b m d (suc i))
     moved l c m d h i li t =
-        let r = and-iff (isSplit n b (suc i)) _ .0 t in
-        let s = split-iff n k b (suc i) (omega arith) li .0 (r .0) in
+        let r = and-iff (isNewSplit n b i) _ .0 t in
+        let s = new-iff n k b i li .0 (r .0) .split in
         let o = occurs-trans (occurs-iff l c s .0 (r .1)) (h .there) in
-        and-iff (isSplit n b (suc i)) _ .1 (r .0, occurs-iff m d s .1 o)
+        and-iff (isNewSplit n b i) _ .1 (r .0, occurs-iff m d s .1 o)

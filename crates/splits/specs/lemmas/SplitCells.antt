@@ -14,12 +14,12 @@ use Rattle.sums.specs.Tests.{some}
 use Rattle.sums.specs.theorems.Products.{bit-and, bit-sq}
 use Rattle.sums.specs.Counts.{count}
 use Rattle.sums.specs.theorems.Matchings.{count-same}
-use Rattle.shapes.specs.Splits.{Sides, isSplit, sameSides, occurs, splitsOf, commonOf}
+use Rattle.shapes.specs.Splits.{Sides, isSplit, sameSides, occurs, isNewSplit, splitsOf, commonOf}
 use Rattle.shapes.specs.Splits.{SameSides, same, turned}
 use Rattle.shapes.specs.theorems.SplitLaws.{same-sides-iff}
 use Rattle.tree_check.specs.Table.{Table, word, tips, nodes, beyond}
 use Rattle.tree_check.specs.IsTree.{IsTree}
-use Rattle.counting.specs.theorems.TreeSplits.{zero-here}
+use Rattle.counting.specs.theorems.TreeSplits.{zero-here, new-edge}
 use Rattle.counting.specs.SplitCounts.{splits, commonSplits}
 use Rattle.tree_pairs.specs.Crossings.{edgeCrossing, crossed}
 use Rattle.tree_pairs.specs.theorems.CrossingLaws.{cell-of-edges}
@@ -114,8 +114,18 @@ module _ (t u : Table) (g : IsTree t) (h : IsTree u) (e : tips t ≡ tips u) whe
   module _ (work : List ℕ) where
     row-split : (i : ℕ) → i < nodes t - 1
         → splitSize (tips t) (word (crossed t u work) (i * (nodes u - 1)))
-        ≡ isSplit (tips t) (beyond t) (suc i)
-    row-split i l = ap (splitSize (tips t)) (row-cell t u g h e work i l) ∙ sym (split-by-size (tips t) (beyond t) (suc i))
+        ≡ isNewSplit (tips t) (beyond t) i
+    row-split i l =
+        ap (splitSize (tips t)) (row-cell t u g h e work i l)
+        ∙ sym (split-by-size (tips t) (beyond t) (suc i))
+        ∙ sym (new-edge t g i l)
+
+    column-split : (j : ℕ) → j < nodes u - 1
+        → splitSize (tips t) (word (crossed t u work) j) ≡ isNewSplit (tips t) (beyond u) j
+    column-split j l =
+        ap (splitSize (tips t)) (column-cell t u g h e work j l)
+        ∙ sym (split-by-size (tips t) (beyond u) (suc j))
+        ∙ rw e (sym (new-edge u h j l))
 
     shared-row : (i : ℕ) → i < nodes t - 1 → sharedRow (nodes u - 1) (crossed t u work) (i * (nodes u - 1))
         ≡ occurs (tips t) (beyond t) (nodes u - 1) (beyond u) (suc i)
@@ -133,8 +143,7 @@ module _ (t u : Table) (g : IsTree t) (h : IsTree u) (e : tips t ≡ tips u) whe
     pub column-splits : columnSplits (tips t) (nodes u - 1) (crossed t u work) ≡ splits u
     unfolding columnSplits splits splitsOf
     column-splits =
-        sum-ext (nodes u - 1) _ _ (λ j l. ap bit (
-        ap (splitSize (tips t)) (column-cell t u g h e work j l) ∙ sym (split-by-size (tips t) (beyond u) (suc j))))
+        sum-ext (nodes u - 1) _ _ (λ j l. ap bit (column-split j l))
         ∙ ap (λ (n : ℕ). splitsOf n (nodes u - 1) (beyond u)) e
 
     -- the common splits

@@ -111,7 +111,7 @@ module _ (t u : Table) (work : List ℕ) (h : PairWithCells t u (length work)) (
           rows-is,
           columns-is,
         );
-        fits = rw (first-is, second-is, common-is) (robinson-foulds-fits t u g k e);
+        fits = rw (first-is, second-is, common-is) (robinson-foulds-fits t u e);
       }
 
   pub split-accepted : counted (crossed t u work) rows columns n ≡ splitAnswer t u (length work)

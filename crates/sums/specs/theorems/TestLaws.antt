@@ -124,6 +124,17 @@ not-some-iff n q = (
   λ h. not-T (some n q) (λ t. let r = some-iff n q .0 t in T-not (q (r .0)) (h (r .0) (r .1)) (r .2)),
 )
 
+-- of those that pass, the first
+pub some-first : (n : ℕ) (q : ℕ → Bool) → T (some n q)
+    → (i : ℕ) × (i < n) × T (q i) × ((j : ℕ) → j < i → T (q j) → ⊥)
+some-first zero q t = absurd (omega (arith, some-iff 0 q .0 t .1))
+some-first (suc n) q t = elim (T-dec (some n q)) [
+  | inl y ↦ (let r = some-first n q y in (r .0, omega (arith, r .1), r .2, r .3))
+  | inr z ↦ (
+      let r = some-iff (suc n) q .0 t in
+      (r .0, r .1, r .2, λ j m p. T-not (some n q) z (some-iff n q .1 (j, omega (arith, r .1, m), p))))
+]
+
 -- ---- as a loop finds them
 
 -- all indices were looked at, and each passed
