@@ -1,6 +1,7 @@
 pub mod CellSizes
 pub mod Cleared
 pub mod CrossingTotals
+pub mod EdgeRows
 pub mod Filling
 pub mod Grid
 pub mod LentTables

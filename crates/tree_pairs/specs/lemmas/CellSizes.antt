@@ -35,7 +35,7 @@ module _ (t : Table) (g : IsTree t) where
           let r = g .parents-range (suc (suc w)) (omega arith) m in
           anc-down (parent t) (rooted t g) 1 (suc (suc w)) (omega arith) (h (r .0) (omega (arith, r .1)))
 
-  all-beyond : (x : ℕ) → x < tips t → 1 ≤ x → bit (beyond t 1 x) ≡ 1
+  pub all-beyond : (x : ℕ) → x < tips t → 1 ≤ x → bit (beyond t 1 x) ≡ 1
   unfolding beyond
   all-beyond x lx l = let a = node-at t g x lx in under-one (nodeOf t x) (other (nodeOf t x) (a .1)) (a .0)
     where

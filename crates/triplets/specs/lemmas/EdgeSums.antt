@@ -11,24 +11,9 @@ use Rattle.sums.specs.theorems.SumLaws.{sum-mono, sum-const}
 use Rattle.sums.specs.theorems.Products.{product-le}
 use Rattle.shapes.specs.theorems.TripletCounts.{edgeTerm}
 use Rattle.tree_check.specs.Table.{word}
-
--- ---- rows and columns: row i is that of edge i + 1
-
--- the row of the parent's edge, or the column
-abbrev pub aboveIn : List ℕ → ℕ → ℕ
-aboveIn ps i = word ps (i + 1) - 1
-
--- the parents of the edges from edge 2 on are earlier edges
-pub record EarlierParents (ps : List ℕ) : Type 0 where
-  pub some : 2 ≤ length ps
-  pub few : length ps ≤ nodeRoom
-  pub earlier : (i : ℕ) → 1 ≤ i → i < length ps - 1 → (1 ≤ word ps (i + 1)) × (word ps (i + 1) ≤ i)
+use Rattle.tree_pairs.specs.lemmas.EdgeRows.{aboveIn, EarlierParents, parent-word, sizeAt}
 
 -- ---- sizes
-
--- the size of the edge of row i
-abbrev pub sizeAt : List ℕ → ℕ → ℕ → ℕ
-sizeAt work step i = word work (i * step)
 
 -- the sizes are `step` cells apart, and none is above its parent's
 pub record SizeCells (work : List ℕ) (step : ℕ) (ps : List ℕ) : Type 0 where
@@ -73,13 +58,6 @@ edge-term-most s p l m =
 -- every term is at most b
 pub sum-most : (k b : ℕ) (f : ℕ → ℕ) → ((q : ℕ) → q < k → f q ≤ b) → sum k f ≤ k * b
 sum-most k b f h = omega (arith, sum-mono k f (λ q. b) h, sum-const k b)
-
--- the parent word of the edge of row i + 1
-pub parent-word : (ps : List ℕ) → EarlierParents ps → (i : ℕ) → i < length ps - 2
-    → (1 ≤ word ps (i + 2)) × (word ps (i + 2) ≤ i + 1)
-parent-word ps r i l =
-    let e : i + 1 + 1 ≡ i + 2 = omega arith in
-    rw e at (r .earlier (i + 1) (omega arith) (omega arith))
 
 -- the cells of an edge, whose parent's is in row `up`
 pub record EdgeCells (work : List ℕ) (step : ℕ) (ps : List ℕ) (i up : ℕ) : Type 0 where

@@ -17,7 +17,8 @@ use Rattle.sums.specs.theorems.Products.{product-le}
 use Rattle.shapes.specs.theorems.TripletCounts.{alikeTerm, apartTerm}
 use Rattle.tree_check.specs.Table.{word}
 use Rattle.tree_pairs.specs.theorems.CrossingLaws.{cell-inside}
-use Rattle.triplets.specs.lemmas.EdgeSums.{aboveIn, EarlierParents, sum-most}
+use Rattle.tree_pairs.specs.lemmas.EdgeRows.{aboveIn, EarlierParents}
+use Rattle.triplets.specs.lemmas.EdgeSums.{sum-most}
 use Rattle.triplets.specs.lemmas.PairCells.{Nested, CrossedCells, cellAt, alikeCell, apartCell, alikeRow, apartRow}
 use Rattle.triplets.specs.lemmas.PairCells.{alike-most, apart-most, alike-column-none, apart-column-zero}
 use Rattle.triplets.specs.lemmas.ListedColumns.{Listed, Place, isWide}

@@ -10,7 +10,8 @@ use Rattle.sums.specs.theorems.SumLaws.{sum-none}
 use Rattle.sums.specs.theorems.Products.{product-le}
 use Rattle.shapes.specs.theorems.TripletCounts.{alikeTerm, apartTerm}
 use Rattle.tree_check.specs.Table.{word}
-use Rattle.triplets.specs.lemmas.EdgeSums.{aboveIn, EarlierParents, square-low, square-less}
+use Rattle.tree_pairs.specs.lemmas.EdgeRows.{aboveIn, EarlierParents}
+use Rattle.triplets.specs.lemmas.EdgeSums.{square-low, square-less}
 
 -- ---- four cells: of two edges, of the first and the second's parent, of the first's parent and the second, of both parents
 

@@ -41,7 +41,9 @@ use Rattle.tree_pairs.specs.theorems.CrossingLaws.{cell-of-edges, cell-inside, 
 use Rattle.tree_pairs.specs.lemmas.CellSizes.{row-cell, column-cell, row-size, column-size}
 use Rattle.triplets.specs.declared.tables.TripletTable.{TripletTable}
 use Rattle.triplets.specs.TripletAnswer.{tripletsOfPair, refusedTriplets, tripletAnswer}
-use Rattle.triplets.specs.lemmas.EdgeSums.{aboveIn, sizeAt, EarlierParents, SizeCells, edgeSum}
+use Rattle.tree_pairs.specs.lemmas.EdgeRows.{aboveIn, sizeAt, earlier-parents, row-above}
+use Rattle.tree_pairs.specs.lemmas.EdgeRows.{size-above-row, size-of-column, size-above-column}
+use Rattle.triplets.specs.lemmas.EdgeSums.{SizeCells, edgeSum}
 use Rattle.triplets.specs.lemmas.PairCells.{Nested, CrossedCells, cellAt, alikeCell, apartCell, alikeRow, apartRow, alikeSum, apartSum}
 use Rattle.triplets.specs.lemmas.ListedColumns.{ColumnRoom}
 use Rattle.triplets.specs.lemmas.ListedRows.{nested-read, alike-read, apart-read}
@@ -130,19 +132,13 @@ module _ (t u : Table) (work : List ℕ) (p : PairWithCells t u (length work)) w
 
   up-first : (i : ℕ) → suc i < nodes t - 1 → (suc (aboveIn (parents t) (suc i)) ≡ first .up (suc (suc i)))
       × (aboveIn (parents t) (suc i) < nodes t - 1)
-  unfolding shapeOf parent
-  up-first i l =
-      let r = g .parents-range (suc (suc i)) (omega arith) (omega arith) in
-      let q = ap (parent t) (add-one (suc i)) in
-      (omega (arith, q, r .0), omega (arith, q, r .0, r .1))
+  unfolding shapeOf
+  up-first = row-above t g
 
   up-second : (l : ℕ) → suc l < nodes u - 1 → (suc (aboveIn (parents u) (suc l)) ≡ second .up (suc (suc l)))
       × (aboveIn (parents u) (suc l) < nodes u - 1)
-  unfolding shapeOf parent
-  up-second l m =
-      let r = h .parents-range (suc (suc l)) (omega arith) (omega arith) in
-      let q = ap (parent u) (add-one (suc l)) in
-      (omega (arith, q, r .0), omega (arith, q, r .0, r .1))
+  unfolding shapeOf
+  up-second = row-above u h
 
   cell-up-column : (i l : ℕ) → i < nodes t - 1 → suc l < nodes u - 1
       → cellAt cells (parents u) i (aboveIn (parents u) (suc l)) ≡ beyondBoth first second (suc i) (second .up (suc (suc l)))
@@ -191,24 +187,6 @@ module _ (t u : Table) (work : List ℕ) (p : PairWithCells t u (length work)) w
         few = both-few _ _;
       })
 
-  first-parents : EarlierParents (parents t)
-  unfolding parent
-  first-parents = record {
-    some = omega (arith, long, few);
-    few = omega (arith, long, few);
-    earlier = λ i l m.
-        let r = g .parents-range (i + 1) (omega arith) (omega (arith, long)) in (r .0, omega (arith, r .1));
-  }
-
-  second-parents : EarlierParents (parents u)
-  unfolding parent
-  second-parents = record {
-    some = omega (arith, long', few);
-    few = omega (arith, long', few);
-    earlier = λ i l m.
-        let r = h .parents-range (i + 1) (omega arith) (omega (arith, long')) in (r .0, omega (arith, r .1));
-  }
-
   -- a cell is at most the size of either edge
   in-first : (i j : ℕ) → edgeCrossing t u i j ≤ count (tips t) (beyond t i)
   unfolding edgeCrossing
@@ -226,8 +204,8 @@ module _ (t u : Table) (work : List ℕ) (p : PairWithCells t u (length work)) w
 
   pub crossed-cells : CrossedCells (crossed t u work) (parents t) (parents u)
   crossed-cells = record {
-    first = first-parents;
-    second = second-parents;
+    first = earlier-parents t g;
+    second = earlier-parents u h;
     inside = rw (long, long', crossed-length t u work (p .room)) (p .room);
     row-most = λ i l li ll.
         omega (
@@ -268,26 +246,12 @@ module _ (t u : Table) (work : List ℕ) (p : PairWithCells t u (length work)) w
   size-few s i = omega (arith, count-le (tips t) (beyond s i), g .tips-range .1)
 
   first-up : (i : ℕ) → suc i < nodes t - 1
-      → word cells (aboveIn (parents t) (suc i) * (length (parents u) - 1)) ≡ count (tips t) (beyond t (parent t (suc (suc i))))
-  unfolding shapeOf
-  first-up i l =
-      let r = up-first i l in
-      row-size-is (aboveIn (parents t) (suc i)) (r .1) ∙ ap (λ (v : ℕ). count (tips t) (beyond t v)) (r .0)
-
-  second-up : (l : ℕ) → suc l < nodes u - 1
-      → word cells (aboveIn (parents u) (suc l) * 1) ≡ count (tips t) (beyond u (parent u (suc (suc l))))
-  unfolding shapeOf
-  second-up l m =
-      let r = up-second l m in
-      let o : aboveIn (parents u) (suc l) * 1 ≡ aboveIn (parents u) (suc l) = omega arith in
-      rw o (column-size-is (aboveIn (parents u) (suc l)) (r .1)) ∙ ap (λ (v : ℕ). count (tips t) (beyond u v)) (r .0)
-
-  second-here : (l : ℕ) → l < nodes u - 1 → word cells (l * 1) ≡ count (tips t) (beyond u (suc l))
-  second-here l m = let o : l * 1 ≡ l = omega arith in rw o (column-size-is l m)
+      → sizeAt cells (length (parents u) - 1) (aboveIn (parents t) (suc i)) ≡ count (tips t) (beyond t (parent t (suc (suc i))))
+  first-up i l = rw long' (size-above-row t u g h e work i l)
 
   pub first-sizes : SizeCells (crossed t u work) (length (parents u) - 1) (parents t)
   first-sizes = record {
-    parents = first-parents;
+    parents = earlier-parents t g;
     narrow = omega (arith, long', few);
     inside = λ i l. rw (long', crossed-length t u work (p .room)) (inside i (omega (arith, long)));
     low = low;
@@ -309,11 +273,11 @@ module _ (t u : Table) (work : List ℕ) (p : PairWithCells t u (length work)) w
 
   pub second-sizes : SizeCells (crossed t u work) 1 (parents u)
   second-sizes = record {
-    parents = second-parents;
+    parents = earlier-parents u h;
     narrow = omega arith;
     inside = λ i l. rw (crossed-length t u work (p .room)) (inside i (omega (arith, long')));
     low = low;
-    most = λ i l. omega (arith, second-here i (omega (arith, long')), size-few u (suc i));
+    most = λ i l. omega (arith, size-of-column t u g h e work i (omega (arith, long')), size-few u (suc i));
   }
     where
       inside : (i : ℕ) → i < nodes u - 1 → i * 1 < length work
@@ -323,8 +287,8 @@ module _ (t u : Table) (work : List ℕ) (p : PairWithCells t u (length work)) w
       low zero a b = absurd (omega arith)
       low (suc i) a b = omega (
         arith,
-        second-here (suc i) (omega (arith, long')),
-        second-up i (omega (arith, long')),
+        size-of-column t u g h e work (suc i) (omega (arith, long')),
+        size-above-column t u g h e work i (omega (arith, long')),
         size-up u h (suc (suc i)) (omega arith),
       )
 
@@ -356,7 +320,7 @@ module _ (t u : Table) (work : List ℕ) (p : PairWithCells t u (length work)) w
       (λ i. edgeTerm (sizeAt cells 1 i) (sizeAt cells 1 (aboveIn (parents u) i)))
       ∙ ap (λ (k : ℕ). sum k (λ i. edgeTerm (sizeAt cells 1 (suc i)) (sizeAt cells 1 (aboveIn (parents u) (suc i)))))
       (omega (arith, long'))
-      ∙ sum-ext (nodes u - 1 - 1) _ _ (λ i l. ap₂ edgeTerm (second-here (suc i) (omega arith)) (second-up i (omega arith)))
+      ∙ sum-ext (nodes u - 1 - 1) _ _ (λ i l. ap₂ edgeTerm (size-of-column t u g h e work (suc i) (omega arith)) (size-above-column t u g h e work i (omega arith)))
       ∙ counts .second
       ∙ sym (rw (s A, s B, s D) refl)
 

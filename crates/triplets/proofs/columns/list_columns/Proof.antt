@@ -5,7 +5,7 @@ use mathlib.Core.Logic.{⊎-elim}
 use Prim.Native.Nat.{ℕ, _-_, _≤_, _<_}
 use native.Mathlib.Omega.{arith}
 use lib.ListN.{length}
-use Rattle.triplets.specs.lemmas.EdgeSums.{parent-word}
+use Rattle.tree_pairs.specs.lemmas.EdgeRows.{parent-word}
 use Rattle.triplets.specs.lemmas.ListedColumns.{ListedTo, listed-none, listed-skip, listed-more}
 use borrow.Author.Needs.{needs}
 use Rattle.triplets.proofs.columns.list_columns.Statement.{statement}

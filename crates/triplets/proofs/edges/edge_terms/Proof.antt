@@ -8,8 +8,9 @@ use Rattle.sums.specs.Sum.{sum}
 use Rattle.sums.specs.theorems.SumLaws.{sum-step}
 use Rattle.shapes.specs.theorems.TripletCounts.{edgeTerm}
 use Rattle.tree_check.specs.Table.{word}
-use Rattle.triplets.specs.lemmas.EdgeSums.{aboveIn, sizeAt, edgeSum, sum-start, edge-term-most}
-use Rattle.triplets.specs.lemmas.EdgeSums.{EdgeCells, parent-word, edge-cells, edges-low}
+use Rattle.tree_pairs.specs.lemmas.EdgeRows.{aboveIn, sizeAt, parent-word}
+use Rattle.triplets.specs.lemmas.EdgeSums.{edgeSum, sum-start, edge-term-most}
+use Rattle.triplets.specs.lemmas.EdgeSums.{EdgeCells, edge-cells, edges-low}
 use borrow.Author.Needs.{needs}
 use Rattle.triplets.proofs.edges.edge_terms.Statement.{statement}
 use Rattle.triplets.proofs.edges.edge_terms.Tie as tie

@@ -5,7 +5,7 @@ use Prim.Native.Nat.{ℕ, _+_, _*_, _-_, _≤_, _<_}
 use native.Mathlib.Omega.{arith}
 use lib.ListN.{length}
 use Rattle.tree_check.specs.Table.{word}
-use Rattle.triplets.specs.lemmas.EdgeSums.{aboveIn}
+use Rattle.tree_pairs.specs.lemmas.EdgeRows.{aboveIn}
 use Rattle.triplets.specs.lemmas.PairCells.{alike-row-none, apart-row-zero}
 use Rattle.triplets.specs.lemmas.ListedRows.{row-starts, row-cells-at, row-is}
 use borrow.Author.Needs.{needs}

@@ -1,0 +1,80 @@
+-- Edges by rows and columns: the row of the edge above, and sizes in the cells. Row i is that of edge i + 1.
+-- Assumes nothing.
+use mathlib.Core.Path.{_≡_, _∙_, ap}
+use mathlib.Core.List.{List}
+use Prim.Native.Nat.{ℕ, suc, _+_, _*_, _-_, _≤_, _<_}
+use native.Mathlib.Numerals.{add-one}
+use native.Mathlib.Omega.{arith}
+use lib.ListN.{length}
+use Rattle.table_words.specs.Sizes.{nodeRoom}
+use Rattle.sums.specs.Counts.{count}
+use Rattle.tree_check.specs.Table.{Table, word, tips, nodes, parents, parent, beyond}
+use Rattle.tree_check.specs.IsTree.{IsTree}
+use Rattle.tree_check.specs.lemmas.TableParts.{parents-length}
+use Rattle.tree_pairs.specs.Crossings.{crossed}
+use Rattle.tree_pairs.specs.lemmas.CellSizes.{row-cell, column-cell}
+
+-- the row of the parent's edge, or the column
+abbrev pub aboveIn : List ℕ → ℕ → ℕ
+aboveIn ps i = word ps (i + 1) - 1
+
+-- the parents of the edges from edge 2 on are earlier edges
+pub record EarlierParents (ps : List ℕ) : Type 0 where
+  pub some : 2 ≤ length ps
+  pub few : length ps ≤ nodeRoom
+  pub earlier : (i : ℕ) → 1 ≤ i → i < length ps - 1 → (1 ≤ word ps (i + 1)) × (word ps (i + 1) ≤ i)
+
+-- the parent word of the edge of row i + 1
+pub parent-word : (ps : List ℕ) → EarlierParents ps → (i : ℕ) → i < length ps - 2
+    → (1 ≤ word ps (i + 2)) × (word ps (i + 2) ≤ i + 1)
+parent-word ps r i l =
+    let e : i + 1 + 1 ≡ i + 2 = omega arith in
+    rw e at (r .earlier (i + 1) (omega arith) (omega arith))
+
+-- the size of the edge of row i, with `step` cells from one size to the next
+abbrev pub sizeAt : List ℕ → ℕ → ℕ → ℕ
+sizeAt work step i = word work (i * step)
+
+-- ---- of a table
+
+module _ (t : Table) (g : IsTree t) where
+  long : length (parents t) ≡ nodes t
+  long = parents-length t (g .words)
+
+  pub earlier-parents : EarlierParents (parents t)
+  unfolding parent
+  earlier-parents = let a = g .tips-range in let b = g .nodes-range in record {
+    some = omega (arith, long);
+    few = omega (arith, long);
+    earlier = λ i l m.
+        let r = g .parents-range (i + 1) (omega arith) (omega (arith, long)) in (r .0, omega (arith, r .1));
+  }
+
+  pub row-above : (i : ℕ) → suc i < nodes t - 1 → (suc (aboveIn (parents t) (suc i)) ≡ parent t (suc (suc i)))
+      × (aboveIn (parents t) (suc i) < nodes t - 1)
+  unfolding parent
+  row-above i l =
+      let r = g .parents-range (suc (suc i)) (omega arith) (omega arith) in
+      let q = ap (parent t) (add-one (suc i)) in
+      (omega (arith, q, r .0), omega (arith, q, r .0, r .1))
+
+-- ---- of two tables: what stands in the cells
+
+module _ (t u : Table) (g : IsTree t) (h : IsTree u) (e : tips t ≡ tips u) (work : List ℕ) where
+  pub size-above-row : (i : ℕ) → suc i < nodes t - 1
+      → sizeAt (crossed t u work) (nodes u - 1) (aboveIn (parents t) (suc i))
+      ≡ count (tips t) (beyond t (parent t (suc (suc i))))
+  size-above-row i l =
+      let r = row-above t g i l in
+      row-cell t u g h e work (aboveIn (parents t) (suc i)) (r .1)
+      ∙ ap (λ (v : ℕ). count (tips t) (beyond t v)) (r .0)
+
+  pub size-of-column : (j : ℕ) → j < nodes u - 1 → sizeAt (crossed t u work) 1 j ≡ count (tips t) (beyond u (suc j))
+  size-of-column j l = let o : j * 1 ≡ j = omega arith in rw o (column-cell t u g h e work j l)
+
+  pub size-above-column : (j : ℕ) → suc j < nodes u - 1
+      → sizeAt (crossed t u work) 1 (aboveIn (parents u) (suc j)) ≡ count (tips t) (beyond u (parent u (suc (suc j))))
+  size-above-column j l =
+      let r = row-above u h j l in
+      size-of-column (aboveIn (parents u) (suc j)) (r .1)
+      ∙ ap (λ (v : ℕ). count (tips t) (beyond u v)) (r .0)
