@@ -1,7 +1,6 @@
 // The split counts of two trees.
-use super::cells::column_splits;
 use super::cells::common_rows;
-use super::cells::row_splits;
+use super::cells::edge_splits;
 use pair_check::CheckedPair;
 use pair_check::pair_refusal;
 use table_words::Cell;
@@ -22,14 +21,15 @@ pub struct SplitCounts {
     pub distance: u16,
 }
 
-// The splits of rows and columns, counted in the cells.
-fn count_splits(work: &[Cell], rows: usize, width: usize, n: u64) -> SplitCounts
-    requires { ⌜ SplitsCountable (now work) rows width n ⌝ }
-    ensures { λ r. ⌜ r ≡ counted (now (work .entry)) rows width n ⌝ }
+// The splits of two trees given by their parents, whose crossings are in the cells.
+fn count_splits(first_parents: &[u16], second_parents: &[u16], work: &[Cell], n: u64) -> SplitCounts
+    requires { ⌜ SplitsCountable (now work) n (now «first_parents») (now «second_parents») ⌝ }
+    ensures { λ r. ⌜ r ≡ counted (now (work .entry)) n (now («first_parents» .entry)) (now («second_parents» .entry)) ⌝ }
 {
-    let first = row_splits(work, rows, width, n);
-    let second = column_splits(work, rows, width, n);
-    let common = common_rows(work, rows, width, n);
+    let width = second_parents.len() - 1;
+    let first = edge_splits(work, width, first_parents, n);
+    let second = edge_splits(work, 1, second_parents, n);
+    let common = common_rows(work, width, first_parents, n);
     SplitCounts {
         refusal: 0,
         first,
@@ -61,5 +61,7 @@ pub fn split_counts(first: &[u16], second: &[u16], work: &mut [Cell]) -> SplitCo
             distance: 0,
         };
     };
-    count_splits(work, rows, columns, as_count(tips))
+    let m = rows + 1;
+    let k = columns + 1;
+    count_splits(&first[2..2 + m], &second[2..2 + k], work, as_count(tips))
 }

@@ -1,14 +1,16 @@
 -- The split counts of two tables, read off their crossings: first cells of rows and columns are the sizes.
 -- Assumes nothing.
-use mathlib.Core.Path.{_≡_, sym, _∙_, ap, ap₂}
+use mathlib.Core.Path.{_≡_, sym, _∙_, ap, ap₂, subst}
 use mathlib.Core.Bool.{Bool, not, _&&_}
 use mathlib.Core.List.{List}
 use Prim.Native.Nat.{ℕ, zero, suc, _+_, _*_, _-_, _≤_, _<_}
 use native.Mathlib.Omega.{arith}
-use lib.Dec.{T, eqb, leb}
-use Rattle.sums.specs.theorems.SumLaws.{sum-ext, sum-add, sum-const}
+use native.Mathlib.Numerals.{add-one}
+use lib.Dec.{T, T-not, eqb, leb}
+use lib.ListN.{length}
+use Rattle.sums.specs.theorems.SumLaws.{sum-first, sum-ext, sum-add, sum-const}
 use Rattle.sums.specs.Bits.{bit}
-use Rattle.sums.specs.theorems.BitLaws.{bit-not}
+use Rattle.sums.specs.theorems.BitLaws.{bit-not, bit-no, T-bit}
 use Rattle.sums.specs.theorems.TestLaws.{and-iff, eq-iff, le-iff, same-test, some-ext}
 use Rattle.sums.specs.Tests.{some}
 use Rattle.sums.specs.theorems.Products.{bit-and, bit-sq}
@@ -17,34 +19,42 @@ use Rattle.sums.specs.theorems.Matchings.{count-same}
 use Rattle.shapes.specs.Splits.{Sides, isSplit, sameSides, occurs, isNewSplit, splitsOf, commonOf}
 use Rattle.shapes.specs.Splits.{SameSides, same, turned}
 use Rattle.shapes.specs.theorems.SplitLaws.{same-sides-iff}
-use Rattle.tree_check.specs.Table.{Table, word, tips, nodes, beyond}
+use Rattle.shapes.specs.theorems.RobinsonFoulds.{new-iff}
+use Rattle.tree_check.specs.Table.{Table, word, tips, nodes, parents, parent, beyond}
 use Rattle.tree_check.specs.IsTree.{IsTree}
-use Rattle.counting.specs.theorems.TreeSplits.{zero-here, new-edge}
+use Rattle.tree_check.specs.lemmas.TableParts.{parents-length}
+use Rattle.counting.specs.theorems.TreeSplits.{zero-here}
+use Rattle.counting.specs.theorems.NewSplits.{sizeBeyond, new-by-size}
 use Rattle.counting.specs.SplitCounts.{splits, commonSplits}
 use Rattle.tree_pairs.specs.Crossings.{edgeCrossing, crossed}
 use Rattle.tree_pairs.specs.theorems.CrossingLaws.{cell-of-edges}
-use Rattle.tree_pairs.specs.lemmas.CellSizes.{row-cell, column-cell}
+use Rattle.tree_pairs.specs.lemmas.CellSizes.{all-beyond, row-cell, column-cell}
+use Rattle.tree_pairs.specs.lemmas.EdgeRows.{aboveIn, sizeAt, size-above-row, size-of-column, size-above-column}
 
 -- an edge with s of n tips beyond it is a split
 unfoldable pub splitSize : ℕ → ℕ → Bool
 splitSize n s = leb 2 s && leb (s + 2) n
 
--- in rows of w cells whose first column and first row are the sizes: how many rows are splits, ..
-unfoldable pub rowSplits : ℕ → ℕ → ℕ → List ℕ → ℕ
-rowSplits n k w work = count k (λ i. splitSize n (word work (i * w)))
+-- .. that the edge above is not: fewer tips lie beyond it
+unfoldable pub newSize : ℕ → ℕ → ℕ → Bool
+newSize n s above = not (eqb s above) && splitSize n s
 
--- .. how many columns, ..
-unfoldable pub columnSplits : ℕ → ℕ → List ℕ → ℕ
-columnSplits n w work = count w (λ j. splitSize n (word work j))
+-- the edge of row i + 1, with sizes `step` cells apart
+unfoldable pub newEdge : ℕ → List ℕ → ℕ → List ℕ → ℕ → Bool
+newEdge n work step ps i = newSize n (sizeAt work step (i + 1)) (sizeAt work step (aboveIn ps (i + 1)))
+
+-- how many edges from edge 2 on are splits, each pair of tip sets once
+unfoldable pub edgeSplits : ℕ → List ℕ → ℕ → List ℕ → ℕ
+edgeSplits n work step ps = count (length ps - 2) (newEdge n work step ps)
 
 -- (some column has the tip set of the row that begins at base)
 unfoldable pub sharedRow : ℕ → List ℕ → ℕ → Bool
 sharedRow w work base =
     some w (λ j. eqb (word work (base + j)) (word work base) && eqb (word work (base + j)) (word work j))
 
--- .. and how many rows are splits of both trees
-unfoldable pub commonRows : ℕ → ℕ → ℕ → List ℕ → ℕ
-commonRows n k w work = count k (λ i. splitSize n (word work (i * w)) && sharedRow w work (i * w))
+-- how many rows of w cells from the second on are splits of both trees
+unfoldable pub commonRows : ℕ → List ℕ → ℕ → List ℕ → ℕ
+commonRows n work w ps = count (length ps - 2) (λ i. newEdge n work w ps i && sharedRow w work ((i + 1) * w))
 
 -- ---- one split, by sizes and crossings
 
@@ -65,6 +75,42 @@ split-by-size n b i =
     all : count n (b i) + here ≡ n
     all = sym (sum-add n (λ x. bit (b i x)) (λ x. bit (not (b i x))))
         ∙ sum-ext n _ (λ x. 1) (λ x l. bit-not (b i x)) ∙ sum-const n 1 ∙ omega arith
+
+module _ (t : Table) (g : IsTree t) where
+  -- an edge is the first with its tip sets by sizes alone
+  new-sizes : (i : ℕ) → i < nodes t - 1
+      → newSize (tips t) (sizeBeyond t (suc i)) (sizeBeyond t (parent t (suc i))) ≡ isNewSplit (tips t) (beyond t) i
+  unfolding newSize
+  new-sizes i l =
+      same-test _ _
+      (λ y. let z = and-iff (not (eqb (sizeBeyond t (suc i)) (sizeBeyond t (parent t (suc i))))) _ .0 y in
+      subst T (sym (new-by-size t g i l))
+      (and-iff (isSplit (tips t) (beyond t) (suc i)) _ .1 (subst T (sym (split-by-size (tips t) (beyond t) (suc i))) (z .1), z .0)))
+      (λ y. let z = and-iff (isSplit (tips t) (beyond t) (suc i)) _ .0 (subst T (new-by-size t g i l) y) in
+      and-iff (not (eqb (sizeBeyond t (suc i)) (sizeBeyond t (parent t (suc i))))) _ .1
+      (z .1, subst T (split-by-size (tips t) (beyond t) (suc i)) (z .0)))
+
+  -- edge 1 has one tip on the other side, so it is no split
+  edge-1 : T (isNewSplit (tips t) (beyond t) 0) → ⊥
+  edge-1 y =
+      let few = g .tips-range in
+      let many = g .nodes-range in
+      let s = new-iff (tips t) (nodes t - 1) (beyond t) 0 (omega arith) .0 y .split .here in
+      T-not (beyond t 1 (s .1)) (s .5)
+      (T-bit (beyond t 1 (s .1)) (omega (arith, all-beyond t g (s .1) (s .3) (omega (arith, s .2)))))
+
+  -- a count of edges from edge 2 on, if edge 1 does not pass
+  from-second : (p q : ℕ → Bool) → ((i : ℕ) → suc i < nodes t - 1 → p i ≡ q (suc i)) → (T (q 0) → ⊥)
+      → count (length (parents t) - 2) p ≡ count (nodes t - 1) q
+  from-second p q h z =
+      let few = g .tips-range in
+      let many = g .nodes-range in
+      let k : length (parents t) - 2 ≡ nodes t - 2 = omega (arith, parents-length t (g .words)) in
+      let d : nodes t - 1 ≡ suc (nodes t - 2) = omega arith in
+      ap (λ (m : ℕ). count m p) k
+      ∙ sum-ext (nodes t - 2) _ _ (λ i l. ap bit (h i (omega arith)))
+      ∙ omega (arith, sum-first (nodes t - 2) (λ i. bit (q i)), bit-no (q 0) z)
+      ∙ ap (λ (m : ℕ). count m q) (sym d)
 
 module _ (t u : Table) (g : IsTree t) (h : IsTree u) (e : tips t ≡ tips u) where
   -- two edges have the same tip sets exactly if all beyond either lie beyond both
@@ -112,20 +158,23 @@ module _ (t u : Table) (g : IsTree t) (h : IsTree u) (e : tips t ≡ tips u) whe
   -- ---- the cells
 
   module _ (work : List ℕ) where
-    row-split : (i : ℕ) → i < nodes t - 1
-        → splitSize (tips t) (word (crossed t u work) (i * (nodes u - 1)))
-        ≡ isNewSplit (tips t) (beyond t) i
-    row-split i l =
-        ap (splitSize (tips t)) (row-cell t u g h e work i l)
-        ∙ sym (split-by-size (tips t) (beyond t) (suc i))
-        ∙ sym (new-edge t g i l)
+    row-new : (i : ℕ) → suc i < nodes t - 1
+        → newEdge (tips t) (crossed t u work) (nodes u - 1) (parents t) i ≡ isNewSplit (tips t) (beyond t) (suc i)
+    unfolding newEdge newSize
+    row-new i l =
+        ap (λ (k : ℕ). newSize (tips t) (sizeAt (crossed t u work) (nodes u - 1) k)
+        (sizeAt (crossed t u work) (nodes u - 1) (aboveIn (parents t) k))) (add-one i)
+        ∙ ap₂ (newSize (tips t)) (row-cell t u g h e work (suc i) l) (size-above-row t u g h e work i l)
+        ∙ new-sizes t g (suc i) l
 
-    column-split : (j : ℕ) → j < nodes u - 1
-        → splitSize (tips t) (word (crossed t u work) j) ≡ isNewSplit (tips t) (beyond u) j
-    column-split j l =
-        ap (splitSize (tips t)) (column-cell t u g h e work j l)
-        ∙ sym (split-by-size (tips t) (beyond u) (suc j))
-        ∙ rw e (sym (new-edge u h j l))
+    column-new : (j : ℕ) → suc j < nodes u - 1
+        → newEdge (tips t) (crossed t u work) 1 (parents u) j ≡ isNewSplit (tips t) (beyond u) (suc j)
+    unfolding newEdge newSize
+    column-new j l =
+        ap (λ (k : ℕ). newSize (tips t) (sizeAt (crossed t u work) 1 k)
+        (sizeAt (crossed t u work) 1 (aboveIn (parents u) k))) (add-one j)
+        ∙ ap₂ (newSize (tips t)) (size-of-column t u g h e work (suc j) l) (size-above-column t u g h e work j l)
+        ∙ rw e (new-sizes u h (suc j) l)
 
     shared-row : (i : ℕ) → i < nodes t - 1 → sharedRow (nodes u - 1) (crossed t u work) (i * (nodes u - 1))
         ≡ occurs (tips t) (beyond t) (nodes u - 1) (beyond u) (suc i)
@@ -135,19 +184,27 @@ module _ (t u : Table) (g : IsTree t) (h : IsTree u) (e : tips t ≡ tips u) whe
         (sym (sides-by-crossing (suc i) (suc j) (omega arith) (omega arith))))
 
     -- the splits of the first tree
-    pub row-splits : rowSplits (tips t) (nodes t - 1) (nodes u - 1) (crossed t u work) ≡ splits t
-    unfolding rowSplits splits splitsOf
-    row-splits = sum-ext (nodes t - 1) _ _ (λ i l. ap bit (row-split i l))
+    pub row-splits : edgeSplits (tips t) (crossed t u work) (nodes u - 1) (parents t) ≡ splits t
+    unfolding edgeSplits splits splitsOf
+    row-splits =
+        from-second t g (newEdge (tips t) (crossed t u work) (nodes u - 1) (parents t)) (isNewSplit (tips t) (beyond t))
+        row-new (edge-1 t g)
 
     -- the splits of the second tree
-    pub column-splits : columnSplits (tips t) (nodes u - 1) (crossed t u work) ≡ splits u
-    unfolding columnSplits splits splitsOf
+    pub column-splits : edgeSplits (tips t) (crossed t u work) 1 (parents u) ≡ splits u
+    unfolding edgeSplits splits splitsOf
     column-splits =
-        sum-ext (nodes u - 1) _ _ (λ j l. ap bit (column-split j l))
-        ∙ ap (λ (n : ℕ). splitsOf n (nodes u - 1) (beyond u)) e
+        from-second u h (newEdge (tips t) (crossed t u work) 1 (parents u)) (isNewSplit (tips t) (beyond u))
+        column-new (rw e (edge-1 u h))
+        ∙ ap (λ (n : ℕ). count (nodes u - 1) (isNewSplit n (beyond u))) e
 
     -- the common splits
-    pub common-rows : commonRows (tips t) (nodes t - 1) (nodes u - 1) (crossed t u work) ≡ commonSplits t u
+    pub common-rows : commonRows (tips t) (crossed t u work) (nodes u - 1) (parents t) ≡ commonSplits t u
     unfolding commonRows commonSplits commonOf
-    common-rows = sum-ext (nodes t - 1) _ _ (λ i l.
-        ap bit (ap₂ (λ (a b : Bool). a && b) (row-split i l) (shared-row i l)))
+    common-rows =
+        from-second t g (λ i. newEdge (tips t) (crossed t u work) (nodes u - 1) (parents t) i
+        && sharedRow (nodes u - 1) (crossed t u work) ((i + 1) * (nodes u - 1)))
+        (λ i. isNewSplit (tips t) (beyond t) i && occurs (tips t) (beyond t) (nodes u - 1) (beyond u) (suc i))
+        (λ i l. ap₂ (λ (a b : Bool). a && b) (row-new i l)
+        (ap (λ (k : ℕ). sharedRow (nodes u - 1) (crossed t u work) (k * (nodes u - 1))) (add-one i) ∙ shared-row (suc i) l))
+        (λ y. edge-1 t g (and-iff (isNewSplit (tips t) (beyond t) 0) _ .0 y .0))

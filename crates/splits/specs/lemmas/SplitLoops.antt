@@ -2,12 +2,14 @@
 -- Assumes nothing.
 use mathlib.Core.Path.{_≡_, refl, sym, ap, subst, _∙_}
 use mathlib.Core.Bool.{Bool, true, false}
-use Prim.Native.Nat.{ℕ, _+_, _*_, _≤_, _<_}
+use mathlib.Core.List.{List}
+use Prim.Native.Nat.{ℕ, _+_, _*_, _-_, _≤_, _<_}
 use native.Mathlib.Nat.{mul-le-mul-right}
 use native.Mathlib.Numerals.{add-one}
 use native.Mathlib.Omega.{arith}
 use lib.Dec.{T}
-use Rattle.table_words.specs.Sizes.{nodeRoom, tipsMost}
+use lib.ListN.{length}
+use Rattle.table_words.specs.Sizes.{nodeRoom}
 use Rattle.sums.specs.Sum.{sum}
 use Rattle.sums.specs.theorems.SumLaws.{sum-suc}
 use Rattle.sums.specs.Bits.{bit}
@@ -15,16 +17,21 @@ use Rattle.sums.specs.theorems.BitLaws.{bit-T, bit-no}
 use Rattle.sums.specs.theorems.Products.{product-le}
 use Rattle.sums.specs.Counts.{count}
 use Rattle.sums.specs.theorems.CountLaws.{count-le}
+use Rattle.tree_check.specs.Table.{word}
+use Rattle.tree_pairs.specs.lemmas.EdgeRows.{aboveIn, EarlierParents, parent-word}
 
 -- ---- room
 
+-- `cells` cells hold the sizes of the edges, `step` cells apart
+pub record EdgeRoom (cells step : ℕ) (ps : List ℕ) : Type 0 where
+  pub parents : EarlierParents ps
+  pub narrow : step ≤ nodeRoom
+  pub inside : (i : ℕ) → i < length ps - 1 → i * step < cells
+
 -- `cells` cells hold the rows
-pub record SplitRoom (cells rows width n : ℕ) : Type 0 where
-  pub few : rows ≤ nodeRoom
-  pub narrow : width ≤ nodeRoom
+pub record RowsRoom (cells width : ℕ) (ps : List ℕ) : Type 0 where
   pub some : 1 ≤ width
-  pub inside : rows * width ≤ cells
-  pub tips : n ≤ tipsMost
+  pub rows : (length ps - 1) * width ≤ cells
 
 -- `cells` cells hold the row that begins at `base`
 pub record RowRoom (cells base width : ℕ) : Type 0 where
@@ -32,15 +39,36 @@ pub record RowRoom (cells base width : ℕ) : Type 0 where
   pub narrow : width ≤ nodeRoom
   pub inside : base + width ≤ cells
 
-pub row-room : (cells rows width n : ℕ) → SplitRoom cells rows width n → (i : ℕ) → i < rows
-    → RowRoom cells (i * width) width
-row-room cells rows width n a i l = record {
-  low = omega (arith, product-le nodeRoom nodeRoom i width (omega (arith, a .few)) (a .narrow));
+-- row i + 1 and that of the edge above, `up`, begin where there are cells
+pub record EdgeCells (cells step : ℕ) (ps : List ℕ) (i up : ℕ) : Type 0 where
+  pub low : ((i + 1) * step ≤ 262144) × (up * step ≤ 262144)
+  pub inside : ((i + 1) * step < cells) × (up * step < cells)
+  pub above : up ≡ aboveIn ps (i + 1)
+
+pub edge-cells : (cells step : ℕ) (ps : List ℕ) → EdgeRoom cells step ps → (i up : ℕ) → i < length ps - 2
+    → up ≡ word ps (i + 2) - 1 → EdgeCells cells step ps i up
+edge-cells cells step ps a i up l e =
+    let w = parent-word ps (a .parents) i l in
+    let below : up < length ps - 1 = omega (arith, w .0, w .1) in
+    let d : i + 1 + 1 ≡ i + 2 = omega arith in
+    record {
+      low = (start (i + 1) (omega arith), start up below);
+      inside = (a .inside (i + 1) (omega arith), a .inside up below);
+      above = rw d e;
+    }
+  where
+    start : (r : ℕ) → r < length ps - 1 → r * step ≤ 262144
+    start r m = omega (arith, product-le nodeRoom nodeRoom r step (omega (arith, a .parents .few)) (a .narrow))
+
+pub row-room : (cells width : ℕ) (ps : List ℕ) → EdgeRoom cells width ps → RowsRoom cells width ps → (i : ℕ)
+    → i < length ps - 2 → RowRoom cells ((i + 1) * width) width
+row-room cells width ps a b i l = record {
+  low = omega (arith, product-le nodeRoom nodeRoom (i + 1) width (omega (arith, a .parents .few)) (a .narrow));
   narrow = a .narrow;
-  inside = omega (arith, a .inside, ends);
+  inside = omega (arith, b .rows, ends);
 }
   where
-    ends : (i + 1) * width ≤ rows * width
+    ends : (i + 1 + 1) * width ≤ (length ps - 1) * width
     ends = mul-le-mul-right width (omega arith)
 
 -- ---- counts, as a loop finds them

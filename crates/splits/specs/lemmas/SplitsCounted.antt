@@ -1,26 +1,29 @@
 -- The split counts as they are counted in the cells.
 -- Assumes nothing.
-use mathlib.Core.Path.{_≡_, sym, _∙_}
+use mathlib.Core.Path.{_≡_, refl, sym, _∙_, subst}
 use mathlib.Core.Logic.{_≢_}
 use mathlib.Core.List.{List}
-use Prim.Native.Nat.{ℕ, _+_, _*_, _-_, _≤_}
+use Prim.Native.Nat.{ℕ, _+_, _*_, _-_, _≤_, _<_}
 use native.Mathlib.Omega.{arith}
 use lib.ListN.{length}
 use Rattle.sums.specs.theorems.CountLaws.{count-le}
 use Rattle.counting.specs.SplitCounts.{splits, commonSplits, robinsonFoulds}
 use Rattle.counting.specs.theorems.TreeSplits.{robinson-foulds-fits}
-use Rattle.tree_check.specs.Table.{Table, tips, nodes}
+use Rattle.tree_check.specs.Table.{Table, tips, nodes, parents}
+use Rattle.tree_check.specs.lemmas.TableParts.{parents-length, to-parts, of-parts}
 use Rattle.tree_check.specs.Refusals.{refusal}
 use Rattle.tree_check.specs.theorems.RefusalLaws.{if-accepted, if-refused}
 use Rattle.tree_check.specs.IsTree.{IsTree}
 use Rattle.splits.specs.declared.counts.SplitCounts.{SplitCounts}
 use Rattle.pair_check.specs.PairOrder.{PairWithCells, pairOrder}
 use Rattle.pair_check.specs.theorems.PairCheck.{pair-check}
-use Rattle.tree_pairs.specs.Crossings.{crossed}
-use Rattle.tree_pairs.specs.theorems.CrossingLaws.{crossed-length}
-use Rattle.splits.specs.lemmas.SplitCells.{rowSplits, columnSplits, commonRows}
+use Rattle.tree_pairs.specs.Crossings.{crossed, afterCrossings}
+use Rattle.tree_pairs.specs.theorems.CrossingLaws.{cell-inside, crossed-length}
+use Rattle.tree_pairs.specs.lemmas.EdgeRows.{earlier-parents}
+use Rattle.tree_pairs.specs.lemmas.LentTables.{lentParents, crossings-are}
+use Rattle.splits.specs.lemmas.SplitCells.{edgeSplits, commonRows}
 use Rattle.splits.specs.lemmas.SplitCells.{row-splits, column-splits, common-rows}
-use Rattle.splits.specs.lemmas.SplitLoops.{SplitRoom}
+use Rattle.splits.specs.lemmas.SplitLoops.{EdgeRoom, RowsRoom}
 use Rattle.splits.specs.SplitAnswer.{splitsOfPair, refusedSplits, splitAnswer}
 
 -- ---- the two answers
@@ -32,26 +35,23 @@ split-refused t u cells k e d = rw e (sym (if-refused _ _ _ (λ z. d (e ∙ z)))
 
 -- ---- counted in the cells
 
-row-splits-most : (n k w : ℕ) (work : List ℕ) → rowSplits n k w work ≤ k
-unfolding rowSplits
-row-splits-most n k w work = count-le k _
-
-column-splits-most : (n w : ℕ) (work : List ℕ) → columnSplits n w work ≤ w
-unfolding columnSplits
-column-splits-most n w work = count-le w _
+edge-splits-most : (n : ℕ) (work : List ℕ) (step : ℕ) (ps : List ℕ) → edgeSplits n work step ps ≤ length ps - 2
+unfolding edgeSplits
+edge-splits-most n work step ps = count-le (length ps - 2) _
 
 -- what the counts ask of the cells
-pub record SplitsCountable (work : List ℕ) (rows width n : ℕ) : Type 0 where
-  pub room : SplitRoom (length work) rows width n
-  pub some : 1 ≤ rows
-  pub few : rowSplits n rows width work + columnSplits n width work ≤ 65535
-  pub fits : 2 * commonRows n rows width work ≤ rowSplits n rows width work + columnSplits n width work
+pub record SplitsCountable (work : List ℕ) (n : ℕ) (ps qs : List ℕ) : Type 0 where
+  pub first-room : EdgeRoom (length work) (length qs - 1) ps
+  pub second-room : EdgeRoom (length work) 1 qs
+  pub rows : RowsRoom (length work) (length qs - 1) ps
+  pub few : edgeSplits n work (length qs - 1) ps + edgeSplits n work 1 qs ≤ 65535
+  pub fits : 2 * commonRows n work (length qs - 1) ps ≤ edgeSplits n work (length qs - 1) ps + edgeSplits n work 1 qs
 
-unfoldable pub counted : List ℕ → ℕ → ℕ → ℕ → SplitCounts
-counted work rows width n =
-    let first = rowSplits n rows width work in
-    let second = columnSplits n width work in
-    let common = commonRows n rows width work in
+unfoldable pub counted : List ℕ → ℕ → List ℕ → List ℕ → SplitCounts
+counted work n ps qs =
+    let first = edgeSplits n work (length qs - 1) ps in
+    let second = edgeSplits n work 1 qs in
+    let common = commonRows n work (length qs - 1) ps in
     record {
       refusal = 0;
       first = first;
@@ -61,60 +61,103 @@ counted work rows width n =
     }
 
 -- from the three counts
-pub counted-is : (work : List ℕ) (rows width n a b c : ℕ) → a ≡ rowSplits n rows width work
-    → b ≡ columnSplits n width work → c ≡ commonRows n rows width work
+pub counted-is : (work : List ℕ) (n : ℕ) (ps qs : List ℕ) (a b c : ℕ) → a ≡ edgeSplits n work (length qs - 1) ps
+    → b ≡ edgeSplits n work 1 qs → c ≡ commonRows n work (length qs - 1) ps
     → record { refusal = 0; first = a; second = b; common = c; distance = a + b - 2 * c }
-    ≡ counted work rows width n
+    ≡ counted work n ps qs
 unfolding counted
-counted-is work rows width n a b c ea eb ec = rw (ea, eb, ec)
+counted-is work n ps qs a b c ea eb ec = rw (ea, eb, ec)
 
--- the cells of a pair, and what the pair check tells of it
-module _ (t u : Table) (work : List ℕ) (h : PairWithCells t u (length work)) (n rows columns : ℕ)
-    (n-is : n ≡ tips t) (rows-is : rows ≡ nodes t - 1) (columns-is : columns ≡ nodes u - 1) where
+-- the cells of a pair
+module _ (t u : Table) (work : List ℕ) (p : PairWithCells t u (length work)) where
   g : IsTree t
-  g = h .pair .first
+  g = p .pair .first
 
-  k : IsTree u
-  k = h .pair .second
+  h : IsTree u
+  h = p .pair .second
 
   e : tips t ≡ tips u
-  e = h .pair .same-tips
+  e = p .pair .same-tips
 
-  first-is : rowSplits n rows columns (crossed t u work) ≡ splits t
-  first-is = rw (n-is, rows-is, columns-is) (row-splits t u g k e work)
+  long : length (parents t) ≡ nodes t
+  long = parents-length t (g .words)
 
-  second-is : columnSplits n columns (crossed t u work) ≡ splits u
-  second-is = rw (n-is, columns-is) (column-splits t u g k e work)
+  long' : length (parents u) ≡ nodes u
+  long' = parents-length u (h .words)
 
-  common-is : commonRows n rows columns (crossed t u work) ≡ commonSplits t u
-  common-is = rw (n-is, rows-is, columns-is) (common-rows t u g k e work)
+  first-is : edgeSplits (tips t) (crossed t u work) (length (parents u) - 1) (parents t) ≡ splits t
+  first-is = rw long' (row-splits t u g h e work)
 
-  pub split-cells : SplitsCountable (crossed t u work) rows columns n
-  split-cells =
+  second-is : edgeSplits (tips t) (crossed t u work) 1 (parents u) ≡ splits u
+  second-is = column-splits t u g h e work
+
+  common-is : commonRows (tips t) (crossed t u work) (length (parents u) - 1) (parents t) ≡ commonSplits t u
+  common-is = rw long' (common-rows t u g h e work)
+
+  in-row : (i : ℕ) → i < nodes t - 1 → i * (nodes u - 1) < length work
+  in-row i l =
+      let few = h .tips-range in
+      let many = h .nodes-range in
+      omega (arith, cell-inside i 0 (nodes t - 1) (nodes u - 1) l (omega arith), p .room)
+
+  in-column : (j : ℕ) → j < nodes u - 1 → j * 1 < length work
+  in-column j l =
       let few = g .tips-range in
-      let some-rows = g .nodes-range in
-      let some-columns = k .nodes-range in
-      let more = k .tips-range in
+      let many = g .nodes-range in
+      omega (arith, cell-inside 0 j (nodes t - 1) (nodes u - 1) (omega arith) l, p .room)
+
+  split-cells : SplitsCountable (crossed t u work) (tips t) (parents t) (parents u)
+  split-cells =
+      let few = h .tips-range in
+      let many = h .nodes-range in
+      let less = g .tips-range in
+      let more = g .nodes-range in
       record {
-        room = record {
-          few = omega (arith, rows-is);
-          narrow = omega (arith, columns-is);
-          some = omega (arith, columns-is);
-          inside = rw (rows-is, columns-is, crossed-length t u work (h .room)) (h .room);
-          tips = omega (arith, n-is);
+        first-room = record {
+          parents = earlier-parents t g;
+          narrow = omega (arith, long');
+          inside = λ i l. rw (long', crossed-length t u work (p .room)) (in-row i (omega (arith, long)));
         };
-        some = omega (arith, rows-is);
+        second-room = record {
+          parents = earlier-parents u h;
+          narrow = omega arith;
+          inside = λ j l. rw (crossed-length t u work (p .room)) (in-column j (omega (arith, long')));
+        };
+        rows = record {
+          some = omega (arith, long');
+          rows = rw (long, long', crossed-length t u work (p .room)) (p .room);
+        };
         few = omega (
           arith,
-          row-splits-most n rows columns (crossed t u work),
-          column-splits-most n columns (crossed t u work),
-          rows-is,
-          columns-is,
+          edge-splits-most (tips t) (crossed t u work) (length (parents u) - 1) (parents t),
+          edge-splits-most (tips t) (crossed t u work) 1 (parents u),
+          long,
+          long',
         );
         fits = rw (first-is, second-is, common-is) (robinson-foulds-fits t u e);
       }
 
-  pub split-accepted : counted (crossed t u work) rows columns n ≡ splitAnswer t u (length work)
+  split-accepted : counted (crossed t u work) (tips t) (parents t) (parents u) ≡ splitAnswer t u (length work)
   unfolding counted splitAnswer robinsonFoulds
   split-accepted = rw (first-is, second-is, common-is)
-      (sym (if-accepted _ (splitsOfPair t u) _ (pair-check t u (length work) .1 h)))
+      (sym (if-accepted _ (splitsOfPair t u) _ (pair-check t u (length work) .1 p)))
+
+-- ---- through the parts that code lends, after the crossings were written
+
+module _ (t u : Table) (work new : List ℕ) (p : PairWithCells t u (length work)) (w : new ≡ afterCrossings t u work)
+    (n m k : ℕ) (en : n ≡ tips t) (em : m ≡ nodes t) (ek : k ≡ nodes u) where
+  pub lent-countable : SplitsCountable new n (lentParents t m) (lentParents u k)
+  lent-countable =
+      subst (λ (c : List ℕ). SplitsCountable c n (lentParents t m) (lentParents u k)) (sym (crossings-are t u work new p w))
+      (to-parts (λ x ps ls. SplitsCountable (crossed t u work) x ps (lentParents u k)) t n m (p .pair .first .words) en em
+      (to-parts (λ x qs ls. SplitsCountable (crossed t u work) (tips t) (parents t) qs) u (tips u) k (p .pair .second .words)
+      refl ek (split-cells t u work p)))
+
+  pub lent-splits : (r : SplitCounts) → r ≡ counted new n (lentParents t m) (lentParents u k)
+      → r ≡ splitAnswer t u (length work)
+  lent-splits r q =
+      of-parts (λ x qs ls. r ≡ counted (crossed t u work) (tips t) (parents t) qs) u (tips u) k (p .pair .second .words)
+      refl ek
+      (of-parts (λ x ps ls. r ≡ counted (crossed t u work) x ps (lentParents u k)) t n m (p .pair .first .words) en em
+      (subst (λ (c : List ℕ). r ≡ counted c n (lentParents t m) (lentParents u k)) (crossings-are t u work new p w) q))
+      ∙ split-accepted t u work p

@@ -8,38 +8,46 @@ use borrow.Author.Needs.{needs}
 use Rattle.splits.proofs.cells.is_common.Statement.{statement}
 use Rattle.splits.proofs.cells.is_common.Tie as tie
 
-mul-is-split : tie.Need-mul-is-split
-mul-is-split c = search needs
+mul-is-new : tie.Need-mul-is-new
+mul-is-new c = search needs
 
-shared-slice-read-is-split : tie.Need-shared-slice-read-is-split
-shared-slice-read-is-split c = search needs
+shared-slice-read-is-new : tie.Need-shared-slice-read-is-new
+shared-slice-read-is-new c = search needs
 
-is-split-requires : tie.Need-is-split-requires
-is-split-requires c κs = search needs
+mul-is-new-2 : tie.Need-mul-is-new-2
+mul-is-new-2 c = search needs
+
+shared-slice-read-is-new-2 : tie.Need-shared-slice-read-is-new-2
+shared-slice-read-is-new-2 c = search needs
+
+is-new-requires : tie.Need-is-new-requires
+is-new-requires c κs = search needs
 
 returns : tie.Need-returns
 returns c =
-    let a = c .before .before .before .before .args in
+    let a = c .before .before .before .before .before .args in
     ap (λ (b : Bool). b && sharedRow (a .width) (a .work .now) (a .base))
-    (sym (not-true _ (c .if1 .taken)) ∙ c .before .is-split .ensures)
+    (sym (not-true _ (c .if1 .taken)) ∙ c .before .is-new .ensures)
 
 shared-row-requires : tie.Need-shared-row-requires
 shared-row-requires c κs = search needs
 
 returns-2 : tie.Need-returns-2
 returns-2 c =
-    let a = c .before .before .before .before .before .args in
+    let a = c .before .before .before .before .before .before .args in
     c .shared-row .ensures
     ∙ ap (λ (b : Bool). b && sharedRow (a .width) (a .work .now) (a .base))
-    (sym (not-false _ (c .before .if1 .left)) ∙ c .before .before .is-split .ensures)
+    (sym (not-false _ (c .before .if1 .left)) ∙ c .before .before .is-new .ensures)
 
 pub is-common-spec : {M : Type 1} → statement M
 is-common-spec =
     tie.close
     (tie.spec
-    mul-is-split
-    shared-slice-read-is-split
-    is-split-requires
+    mul-is-new
+    shared-slice-read-is-new
+    mul-is-new-2
+    shared-slice-read-is-new-2
+    is-new-requires
     returns
     shared-row-requires
     returns-2)

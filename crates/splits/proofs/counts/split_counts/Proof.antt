@@ -1,43 +1,53 @@
 -- A refused pair gives zeros; the cells of an accepted one are its crossings, and the counts are read from them.
 -- Assumes nothing.
-use mathlib.Core.Path.{_≡_, sym, _∙_, ap, subst}
-use mathlib.Core.List.{List}
-use Prim.Native.Nat.{ℕ, _-_}
+use mathlib.Core.Path.{_≡_, sym, _∙_}
+use Prim.Native.Nat.{_+_, _≤_}
+use native.Mathlib.Omega.{arith}
 use lib.ListN.{length}
 use Rattle.tree_check.specs.Table.{tips, nodes}
 use Rattle.pair_check.specs.PairOrder.{PairWithCells}
-use Rattle.pair_check.specs.lemmas.PairOutcomes.{work-says, work-passed}
-use Rattle.tree_pairs.specs.lemmas.LentTables.{crossings-are}
-use Rattle.splits.specs.lemmas.SplitsCounted.{SplitsCountable, counted, split-refused, split-cells}
-use Rattle.splits.specs.lemmas.SplitsCounted.{split-accepted}
+use Rattle.pair_check.specs.lemmas.PairOutcomes.{work-says, work-passed, edges-some}
+use Rattle.tree_pairs.specs.lemmas.LentTables.{nodes-are, lent-words}
+use Rattle.splits.specs.lemmas.SplitsCounted.{split-refused, lent-countable, lent-splits}
 use borrow.Author.Needs.{needs}
 use Rattle.splits.proofs.counts.split_counts.Statement.{statement}
 use Rattle.splits.proofs.counts.split_counts.Tie as tie
 
--- ---- the points of the program
+-- ---- the points of the program, once the answer is known to be a pair
 
--- the pair is crossed, ..
-abbrev start : tie.After-cross-pair → tie.Start
-start c = c .before .before .before .before .before
+abbrev start : tie.After-known-told → tie.Start
+start c = c .before .before .before .before .before .before .before .before .before .before
 
--- .. and is told accepted ..
 abbrev crossed : tie.After-known-told → tie.After-cross-pair
 crossed c = c .before .before .before .before .before
 
--- .. or refused
-abbrev crossed-refused : tie.After-pair-refusal → tie.After-cross-pair
-crossed-refused c = c .before .before .before .before .before
+-- the parts and n are lent
+abbrev lent : tie.After-as-count → tie.After-known-told
+lent c = c .before .before .before .before
 
--- ---- what is known there
+-- ---- what is asked there
 
--- a pair with cells enough, with n, rows and columns as told
-pair : (c : tie.After-known-told)
-    → let s = start (crossed c) .args in
-    let told = c .before .answer .given .0 in
-    PairWithCells (s .first .now) (s .second .now) (length (s .work .now)) × (told .0 ≡ tips (s .first .now))
-    × (told .1 .0 ≡ nodes (s .first .now) - 1) × (told .1 .1 .0 ≡ nodes (s .second .now) - 1)
-pair c =
-    work-says _ _ _ _ _ _ (sym (crossed c .cross-pair .ensures .0) ∙ c .before .answer .given .1)
+-- a pair with cells enough, with n and the edges of both trees as told
+record Told (c : tie.After-known-told) : Type 0 where
+  pair : PairWithCells (start c .args .first .now) (start c .args .second .now) (length (start c .args .work .now))
+  n-is : c .before .answer .given .0 .0 ≡ tips (start c .args .first .now)
+  m-is : c .before .answer .given .0 .1 .0 + 1 ≡ nodes (start c .args .first .now)
+  k-is : c .before .answer .given .0 .1 .1 .0 + 1 ≡ nodes (start c .args .second .now)
+
+told : (c : tie.After-known-told) → Told c
+told c =
+    let p = work-says _ _ _ _ _ _ (sym (crossed c .cross-pair .ensures .0) ∙ c .before .answer .given .1) in
+    let q = nodes-are _ _ _ (p .0) _ _ (p .2) (p .3) in
+    record { pair = p .0; n-is = p .1; m-is = q .0; k-is = q .1 }
+
+-- each has at most 510 nodes, and its parents among its words
+few : (c : tie.After-known-told)
+    → (c .before .answer .given .0 .1 .0 ≤ 509) × (c .before .answer .given .0 .1 .1 .0 ≤ 509)
+few c =
+    let t = told c in (
+      omega (arith, t .m-is, edges-some _ (t .pair .pair .first)),
+      omega (arith, t .k-is, edges-some _ (t .pair .pair .second)),
+    )
 
 cross-pair-requires : tie.Need-cross-pair-requires
 cross-pair-requires c κs = search needs
@@ -56,37 +66,61 @@ same-length c = search needs
 
 returns : tie.Need-returns
 returns c =
-    let x = crossed-refused c .cross-pair .ensures in
+    let x = c .before .before .before .before .before .cross-pair .ensures in
     let h = work-passed _ _ _ _ _ _ (x .0) (c .before .enum-told .given .1) (c .pair-refusal .ensures) in
     (split-refused _ _ _ _ (h .0) (h .1), x .2)
+
+add-m : tie.Need-add-m
+add-m c = omega (arith, few c)
+
+add-k : tie.Need-add-k
+add-k c = omega (arith, few c)
+
+add-count-splits : tie.Need-add-count-splits
+add-count-splits c = omega (arith, few c)
+
+sub-count-splits : tie.Need-sub-count-splits
+sub-count-splits c = search needs
+
+part-count-splits-start : tie.Need-part-count-splits-start
+part-count-splits-start c = search needs
+
+part-count-splits-end : tie.Need-part-count-splits-end
+part-count-splits-end c = let t = told c in lent-words _ _ _ (t .pair) _ _ (t .m-is) (t .k-is) .0
+
+add-count-splits-2 : tie.Need-add-count-splits-2
+add-count-splits-2 c = omega (arith, few (c .before))
+
+sub-count-splits-2 : tie.Need-sub-count-splits-2
+sub-count-splits-2 c = search needs
+
+part-count-splits-start-2 : tie.Need-part-count-splits-start-2
+part-count-splits-start-2 c = search needs
+
+part-count-splits-end-2 : tie.Need-part-count-splits-end-2
+part-count-splits-end-2 c = let t = told (c .before) in lent-words _ _ _ (t .pair) _ _ (t .m-is) (t .k-is) .1
 
 as-count-requires : tie.Need-as-count-requires
 as-count-requires c κs = search needs
 
 count-splits-requires : tie.Need-count-splits-requires
 count-splits-requires c κs =
-    let k = c .before .before in
-    let p = pair k in
-    let told = k .before .answer .given .0 in
-    let x = crossed k .cross-pair .ensures in
-    subst (λ (cells : List ℕ). SplitsCountable cells (told .1 .0) (told .1 .1 .0) (c .as-count .result))
-    (sym (crossings-are _ _ _ _ (p .0) (x .2)))
-    (split-cells _ _ _ (p .0) _ _ _ (c .as-count .ensures .0 ∙ p .1) (p .2) (p .3))
+    let k = lent c in
+    let t = told k in
+    lent-countable _ _ _ _ (t .pair) (crossed k .cross-pair .ensures .2)
+    _ _ _ (c .as-count .ensures .0 ∙ t .n-is) (t .m-is) (t .k-is)
 
 same-length-2 : tie.Need-same-length-2
 same-length-2 c = search needs
 
 returns-2 : tie.Need-returns-2
 returns-2 c =
-    let k = c .before .before .before in
-    let p = pair k in
-    let told = k .before .answer .given .0 in
-    let x = crossed k .cross-pair .ensures in (
-      c .count-splits .ensures
-          ∙ ap (λ (cells : List ℕ). counted cells (told .1 .0) (told .1 .1 .0) (c .before .as-count .result))
-          (crossings-are _ _ _ _ (p .0) (x .2))
-          ∙ split-accepted _ _ _ (p .0) _ _ _ (c .before .as-count .ensures .0 ∙ p .1) (p .2) (p .3),
-      x .2,
+    let k = lent (c .before) in
+    let t = told k in
+    let x = crossed k .cross-pair .ensures .2 in (
+      lent-splits _ _ _ _ (t .pair) x _ _ _ (c .before .as-count .ensures .0 ∙ t .n-is) (t .m-is) (t .k-is) _
+          (c .count-splits .ensures),
+      x,
     )
 
 pub split-counts-spec : {M : Type 1} → statement M
@@ -99,6 +133,16 @@ split-counts-spec =
     pair-refusal-requires
     same-length
     returns
+    add-m
+    add-k
+    add-count-splits
+    sub-count-splits
+    part-count-splits-start
+    part-count-splits-end
+    add-count-splits-2
+    sub-count-splits-2
+    part-count-splits-start-2
+    part-count-splits-end-2
     as-count-requires
     count-splits-requires
     same-length-2
