@@ -61,19 +61,24 @@ fn is_both(x: Cell, y: Cell, z: Cell) -> bool
     x == z
 }
 
-// Whether a cell of the row that begins at `base` has the row's size and the column's.
+// Whether a cell of the row that begins at `base` has the row's size and the column's. Every column is looked at, so that
+// several are compared at a time.
 pub(crate) fn shared_row(work: &[Cell], base: usize, width: usize) -> bool
     requires { ⌜ RowRoom (length (now work)) base width ⌝ }
     ensures { λ r. ⌜ r ≡ sharedRow width (now (work .entry)) base ⌝ }
 {
+    let mut found = 0u16;
     let mut j = 0;
     while j < width {
         if is_both(work[base + j], work[base], work[j]) {
-            return true;
+            found += 1;
         }
         j += 1;
     }
-    false
+    if found == 0 {
+        return false;
+    }
+    true
 }
 
 // Whether the row that begins at `base` is a split of both trees, and the row that begins at `up`, that of the edge above, has

@@ -2,6 +2,7 @@
 -- Assumes nothing.
 use mathlib.Core.Path.{_≡_, refl, sym, ap, subst, _∙_}
 use mathlib.Core.Bool.{Bool, true, false}
+use mathlib.Core.Logic.{_≢_}
 use mathlib.Core.List.{List}
 use Prim.Native.Nat.{ℕ, _+_, _*_, _-_, _≤_, _<_}
 use native.Mathlib.Nat.{mul-le-mul-right}
@@ -13,10 +14,12 @@ use Rattle.table_words.specs.Sizes.{nodeRoom}
 use Rattle.sums.specs.Sum.{sum}
 use Rattle.sums.specs.theorems.SumLaws.{sum-suc}
 use Rattle.sums.specs.Bits.{bit}
-use Rattle.sums.specs.theorems.BitLaws.{bit-T, bit-no}
+use Rattle.sums.specs.theorems.BitLaws.{bit-T, bit-no, T-true, T-false}
+use Rattle.sums.specs.Tests.{some}
+use Rattle.sums.specs.theorems.TestLaws.{some-iff}
 use Rattle.sums.specs.theorems.Products.{product-le}
 use Rattle.sums.specs.Counts.{count}
-use Rattle.sums.specs.theorems.CountLaws.{count-le}
+use Rattle.sums.specs.theorems.CountLaws.{count-le, count-none, count-pos}
 use Rattle.tree_check.specs.Table.{word}
 use Rattle.tree_pairs.specs.lemmas.EdgeRows.{aboveIn, EarlierParents, parent-word}
 
@@ -91,3 +94,11 @@ count-miss k q total b h e d = omega (arith, h, count-more k q, bit-no (q k) (λ
 
 pub count-few : (k : ℕ) (q : ℕ → Bool) (total : ℕ) → total ≡ count k q → total ≤ k
 count-few k q total h = omega (arith, h, count-le k q)
+
+-- some index passed exactly if the count is not 0
+pub count-found : (k : ℕ) (q : ℕ → Bool) (total : ℕ) → total ≡ count k q → total ≢ 0 → true ≡ some k q
+count-found k q total h d = sym (T-true (some k q) (some-iff k q .1 (count-pos k q .0 (omega (arith, h, d)))))
+
+pub count-not-found : (k : ℕ) (q : ℕ → Bool) (total : ℕ) → total ≡ count k q → total ≡ 0 → false ≡ some k q
+count-not-found k q total h e = sym (T-false (some k q) (λ t.
+    let r = some-iff k q .0 t in count-none k q .0 (sym h ∙ e) (r .0) (r .1) (r .2)))

@@ -1,26 +1,26 @@
--- The invariant: no cell before column `j` has both sizes.
+-- The invariant: `found` counts the cells before column `j` that have both sizes.
 -- Assumes nothing.
-use Prim.Native.Nat.{ℕ, _+_, _-_, _≤_, _<_}
-use mathlib.Core.Path.{_≡_, sym, _∙_}
-use mathlib.Core.Bool.{false, _&&_}
+use Prim.Native.Nat.{ℕ, _+_, _-_, _≤_}
+use mathlib.Core.Path.{_≡_}
+use mathlib.Core.Bool.{_&&_}
+use mathlib.Core.Logic.{⊎-elim}
 use native.Mathlib.Omega.{arith}
-use borrow.Author.Count.{below-more}
 use lib.Dec.{eqb}
-use Rattle.sums.specs.theorems.TestLaws.{some-true, some-false}
+use Rattle.sums.specs.Counts.{count}
 use Rattle.tree_check.specs.Table.{word}
 use Rattle.splits.specs.lemmas.SplitCells.{sharedRow}
+use Rattle.splits.specs.lemmas.SplitLoops.{count-start, count-hit, count-miss, count-few, count-found, count-not-found}
 use borrow.Author.Needs.{needs}
 use Rattle.splits.proofs.cells.shared_row.Statement.{statement}
 use Rattle.splits.proofs.cells.shared_row.Tie as tie
 
 abbrev Inv-loop : tie.InvT-loop
-Inv-loop work base width j₀ j =
+Inv-loop work base width found₀ j₀ found j =
     (j ≤ width)
-    × ((k : ℕ) → k < j
-    → (eqb (word work (base + k)) (word work base) && eqb (word work (base + k)) (word work k)) ≡ false)
+    × (found ≡ count j (λ k. eqb (word work (base + k)) (word work base) && eqb (word work (base + k)) (word work k)))
 
 abbrev μ-loop : tie.MeasureT-loop
-μ-loop work base width j₀ j = width - j
+μ-loop work base width found₀ j₀ found j = width - j
 
 -- ---- the points of the program
 
@@ -34,7 +34,7 @@ turn c = c .before .before .before .before
 -- ---- the needs
 
 loop-holds : tie.Need-loop-holds Inv-loop μ-loop
-loop-holds c = (omega arith, λ k l. absurd (omega arith))
+loop-holds c = (omega arith, count-start _)
 
 add-is-both : tie.Need-add-is-both Inv-loop μ-loop
 add-is-both c =
@@ -69,11 +69,10 @@ shared-slice-read-is-both-3 c =
 is-both-requires : tie.Need-is-both-requires Inv-loop μ-loop
 is-both-requires c κs = search needs
 
-returns : tie.Need-returns Inv-loop μ-loop
-unfolding sharedRow
-returns c =
+add-found : tie.Need-add-found Inv-loop μ-loop
+add-found c =
     let l = turn (c .before) in
-    sym (some-true _ _ (l .before .loop .j) (l .loop-test .taken) (sym (c .before .is-both .ensures) ∙ c .if1 .taken))
+    omega (arith, l .before .loop .inv .0, count-few _ _ _ (l .before .loop .inv .1), start l .pre .narrow)
 
 add-j : tie.Need-add-j Inv-loop μ-loop
 add-j c = search needs
@@ -85,14 +84,25 @@ loop-again : tie.Need-loop-again Inv-loop μ-loop
 loop-again c =
     let l = turn (c .before) in (
       omega (arith, l .loop-test .taken),
-      below-more _ _ (l .before .loop .inv .1)
-          (sym (c .before .is-both .ensures) ∙ c .if1 .left),
+      ⊎-elim
+          (λ h. rw (h .1) (count-hit _ _ _ _ (l .before .loop .inv .1) (c .before .is-both .ensures) (h .0 .taken)))
+          (λ h. rw (h .1) (count-miss _ _ _ _ (l .before .loop .inv .1) (c .before .is-both .ensures) (h .0 .left)))
+          (c .if1 .came),
     )
+
+returns : tie.Need-returns Inv-loop μ-loop
+unfolding sharedRow
+returns c =
+    let l = c .before .before .loop in
+    let e : l .j ≡ c .before .before .before .before .args .width = omega (arith, l .inv .0, c .before .loop-test .left) in
+    rw (← e) (count-not-found _ _ _ (l .inv .1) (c .if2 .taken))
 
 returns-2 : tie.Need-returns-2 Inv-loop μ-loop
 unfolding sharedRow
 returns-2 c =
-    sym (some-false _ _ (λ k m. c .before .loop .inv .1 k (omega (arith, c .loop-test .left))))
+    let l = c .before .before .loop in
+    let e : l .j ≡ c .before .before .before .before .args .width = omega (arith, l .inv .0, c .before .loop-test .left) in
+    rw (← e) (count-found _ _ _ (l .inv .1) (c .if2 .left))
 
 pub shared-row-spec : {M : Type 1} → statement M
 shared-row-spec =
@@ -109,8 +119,9 @@ shared-row-spec =
     mul-is-both-3
     shared-slice-read-is-both-3
     is-both-requires
-    returns
+    add-found
     add-j
     loop-less
     loop-again
+    returns
     returns-2)
