@@ -1,6 +1,6 @@
 -- A kind of weight that there is not is refused, as a fraction that is no k/256.
 -- Assumes nothing.
-use mathlib.Core.Path.{_≡_, sym, _∙_}
+use mathlib.Core.Path.{_≡_, sym}
 use Prim.Native.Nat.{ℕ, suc}
 use lib.Ieee.{Float}
 use Rattle.tree_check.specs.Refusals.{refusal}

@@ -5,7 +5,6 @@ use mathlib.Core.Logic.{_≢_}
 use Prim.Native.Nat.{ℕ, zero, suc, _+_, _*_, _-_, _≤_, _<_}
 use native.Mathlib.Omega.{arith}
 use lib.Dec.{eqb}
-use Rattle.table_words.specs.Sizes.{tipsMost}
 use Rattle.sums.specs.Bits.{bit, is}
 use Rattle.sums.specs.theorems.BitLaws.{is-self, is-other}
 use Rattle.sums.specs.SetsOfFour.{sets3, sets4}
@@ -13,16 +12,15 @@ use Rattle.sums.specs.theorems.SetLaws.{sets3-ext, sets4-first, sets4-none}
 use Rattle.sums.specs.Threes.{threes}
 use Rattle.sums.specs.theorems.ThreesLaws.{threes-count, threes-exact, threes-none, threes-of-255, threes-mono}
 use Rattle.shapes.specs.theorems.FourLabels.{Four}
-use Rattle.shapes.specs.theorems.Topologies.{firstPassed, caseIn}
 use Rattle.shapes.specs.theorems.PartedFours.{AtMostOne}
 use Rattle.shapes.specs.theorems.TripletCounts.{Outgroup, tripletIn, tripletsIn, resolved-butterfly, one-resolved, triplet-sums}
 use Rattle.trees.specs.declared.quartet.Topology.{Topology}
-use Rattle.tree_check.specs.Table.{Table, tips, nodes, parent, nodeOf}
+use Rattle.tree_check.specs.Table.{Table, tips}
 use Rattle.tree_check.specs.IsTree.{IsTree}
 use Rattle.walks.specs.theorems.NodeLabels.{node-only}
-use Rattle.trees.specs.Topology.{butterfly, named, topology}
+use Rattle.trees.specs.Topology.{butterfly, topology}
 use Rattle.trees.specs.theorems.PartnerLaws.{partner-of-smallest}
-use Rattle.trees.specs.theorems.TopologyLaws.{any-order, Rearranged, as-is, middle, last-two}
+use Rattle.trees.specs.theorems.TopologyLaws.{any-order, as-is, middle, last-two}
 use Rattle.counting.specs.Cases.{Case, A, B, C, D, E, caseOf, caseNumber, isCase}
 use Rattle.counting.specs.Triplets.{together, triplet, triplets}
 use Rattle.counting.specs.theorems.CasesInShapes.{case-named}

@@ -3,7 +3,7 @@
 use mathlib.Core.Path.{_≡_, refl, sym, _∙_, ap}
 use mathlib.Core.Bool.{Bool, _&&_}
 use mathlib.Core.Logic.{_↔_}
-use Prim.Native.Nat.{ℕ, zero, suc, _+_, _*_, _≤_, _<_}
+use Prim.Native.Nat.{ℕ, suc, _+_, _*_, _≤_, _<_}
 use native.Mathlib.Decide.{decLt}
 use native.Mathlib.Omega.{arith}
 use lib.Dec.{T, T-not, not-T}
@@ -14,7 +14,7 @@ use Rattle.sums.specs.Tests.{some}
 use Rattle.sums.specs.Counts.{count}
 use Rattle.sums.specs.theorems.Matchings.{count-mono, count-same, partners}
 use Rattle.shapes.specs.Splits.{Sides, isSplit, sameSides, occurs, isNewSplit, splitsOf, commonOf, robinsonFouldsOf}
-use Rattle.shapes.specs.Splits.{Split, SameSides, same, NewSplit, Occurs, AllOccur, SameSplits}
+use Rattle.shapes.specs.Splits.{Split, SameSides, same, NewSplit, AllOccur, SameSplits}
 use Rattle.shapes.specs.theorems.SplitLaws.{Distinct, sides-sym}
 use Rattle.shapes.specs.theorems.SplitLaws.{sides-trans, split-moves, split-iff, same-sides-iff, occurs-iff}
 

@@ -1,13 +1,13 @@
 -- The triplets of two shapes with the label 0 at the root, counted by sums over pairs of edges.
 -- Assumes nothing.
-use mathlib.Core.Path.{_≡_, refl, sym, _∙_, ap, ap₂, subst}
+use mathlib.Core.Path.{_≡_, refl, sym, _∙_, ap, ap₂}
 use mathlib.Core.Bool.{Bool, true, false, not, _&&_}
 use mathlib.Core.Logic.{_≢_, inl, inr}
 use Prim.Native.Nat.{ℕ, zero, suc, _+_, _*_, _-_, _≤_, _<_}
 use native.Mathlib.Omega.{arith}
 use lib.Dec.{T, eqb}
 use Rattle.sums.specs.Sum.{sum}
-use Rattle.sums.specs.theorems.SumLaws.{sum-ext, sum-cong, sum-add, sum-none, sum-first}
+use Rattle.sums.specs.theorems.SumLaws.{sum-cong, sum-add, sum-none, sum-first}
 use Rattle.sums.specs.Bits.{bit, is, ne}
 use Rattle.sums.specs.theorems.BitLaws.{bit-le, bit-cases, bit-not, bit-T, T-bit, is-other, ne-self, ne-other}
 use Rattle.sums.specs.theorems.TestLaws.{same-test}

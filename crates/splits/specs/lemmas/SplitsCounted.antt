@@ -1,6 +1,6 @@
 -- The split counts as they are counted in the cells.
 -- Assumes nothing.
-use mathlib.Core.Path.{_≡_, refl, sym, _∙_, subst}
+use mathlib.Core.Path.{_≡_, sym, _∙_}
 use mathlib.Core.Logic.{_≢_}
 use mathlib.Core.List.{List}
 use Prim.Native.Nat.{ℕ, _+_, _*_, _-_, _≤_, _<_}
@@ -10,7 +10,7 @@ use Rattle.sums.specs.theorems.CountLaws.{count-le}
 use Rattle.counting.specs.SplitCounts.{splits, commonSplits, robinsonFoulds}
 use Rattle.counting.specs.theorems.TreeSplits.{robinson-foulds-fits}
 use Rattle.tree_check.specs.Table.{Table, tips, nodes, parents}
-use Rattle.tree_check.specs.lemmas.TableParts.{parents-length, to-parts, of-parts}
+use Rattle.tree_check.specs.lemmas.TableParts.{parents-length}
 use Rattle.tree_check.specs.Refusals.{refusal}
 use Rattle.tree_check.specs.theorems.RefusalLaws.{if-accepted, if-refused}
 use Rattle.tree_check.specs.IsTree.{IsTree}
@@ -20,7 +20,7 @@ use Rattle.pair_check.specs.theorems.PairCheck.{pair-check}
 use Rattle.tree_pairs.specs.Crossings.{crossed, afterCrossings}
 use Rattle.tree_pairs.specs.theorems.CrossingLaws.{cell-inside, crossed-length}
 use Rattle.tree_pairs.specs.lemmas.EdgeRows.{earlier-parents}
-use Rattle.tree_pairs.specs.lemmas.LentTables.{lentParents, crossings-are}
+use Rattle.tree_pairs.specs.lemmas.LentTables.{lentParents, to-lent, of-lent}
 use Rattle.splits.specs.lemmas.SplitCells.{edgeSplits, commonRows}
 use Rattle.splits.specs.lemmas.SplitCells.{row-splits, column-splits, common-rows}
 use Rattle.splits.specs.lemmas.SplitLoops.{EdgeRoom, RowsRoom}
@@ -147,17 +147,9 @@ module _ (t u : Table) (work : List ℕ) (p : PairWithCells t u (length work)) w
 module _ (t u : Table) (work new : List ℕ) (p : PairWithCells t u (length work)) (w : new ≡ afterCrossings t u work)
     (n m k : ℕ) (en : n ≡ tips t) (em : m ≡ nodes t) (ek : k ≡ nodes u) where
   pub lent-countable : SplitsCountable new n (lentParents t m) (lentParents u k)
-  lent-countable =
-      subst (λ (c : List ℕ). SplitsCountable c n (lentParents t m) (lentParents u k)) (sym (crossings-are t u work new p w))
-      (to-parts (λ x ps ls. SplitsCountable (crossed t u work) x ps (lentParents u k)) t n m (p .pair .first .words) en em
-      (to-parts (λ x qs ls. SplitsCountable (crossed t u work) (tips t) (parents t) qs) u (tips u) k (p .pair .second .words)
-      refl ek (split-cells t u work p)))
+  lent-countable = to-lent SplitsCountable t u work new p w n m k en em ek (split-cells t u work p)
 
   pub lent-splits : (r : SplitCounts) → r ≡ counted new n (lentParents t m) (lentParents u k)
       → r ≡ splitAnswer t u (length work)
   lent-splits r q =
-      of-parts (λ x qs ls. r ≡ counted (crossed t u work) (tips t) (parents t) qs) u (tips u) k (p .pair .second .words)
-      refl ek
-      (of-parts (λ x ps ls. r ≡ counted (crossed t u work) x ps (lentParents u k)) t n m (p .pair .first .words) en em
-      (subst (λ (c : List ℕ). r ≡ counted c n (lentParents t m) (lentParents u k)) (crossings-are t u work new p w) q))
-      ∙ split-accepted t u work p
+      of-lent (λ c x ps qs. r ≡ counted c x ps qs) t u work new p w n m k en em ek q ∙ split-accepted t u work p

@@ -1,6 +1,6 @@
 -- Sums over three labels of products of sums over indices: over the indices first, then over each label by itself.
 -- Assumes nothing.
-use mathlib.Core.Path.{_≡_, refl, sym, _∙_, ap}
+use mathlib.Core.Path.{_≡_, sym, _∙_, ap}
 use Prim.Native.Nat.{ℕ, zero, suc, _+_, _*_, _-_}
 use native.Mathlib.Omega.{arith}
 use Rattle.sums.specs.Sum.{sum}

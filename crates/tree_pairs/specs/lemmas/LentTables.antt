@@ -1,6 +1,6 @@
 -- Two tables filled through their arrays, as code lends them.
 -- Assumes nothing.
-use mathlib.Core.Path.{_≡_, sym, _∙_, ap₂, subst}
+use mathlib.Core.Path.{_≡_, refl, sym, _∙_, ap₂, subst}
 use mathlib.Core.Logic.{_≢_}
 use mathlib.Core.List.{List}
 use Prim.Native.Nat.{ℕ, _+_, _*_, _-_, _≤_}
@@ -96,3 +96,19 @@ pub crossings-refused : (t u : Table) (work : List ℕ) (k : ℕ) → k ≡ refu
     → k ≢ 0 → work ≡ afterCrossings t u work
 unfolding afterCrossings
 crossings-refused t u work k e d = sym (if-refused _ _ _ (λ z. d (e ∙ z)))
+
+-- what holds of the crossings and the parents of a pair holds of the cells and the parts that code lends, and back
+module _ (P : List ℕ → ℕ → List ℕ → List ℕ → Type 0) (t u : Table) (work new : List ℕ)
+    (p : PairWithCells t u (length work)) (w : new ≡ afterCrossings t u work)
+    (n m k : ℕ) (en : n ≡ tips t) (em : m ≡ nodes t) (ek : k ≡ nodes u) where
+  pub to-lent : P (crossed t u work) (tips t) (parents t) (parents u) → P new n (lentParents t m) (lentParents u k)
+  to-lent h =
+      subst (λ (c : List ℕ). P c n (lentParents t m) (lentParents u k)) (sym (crossings-are t u work new p w))
+      (to-parts (λ x ps ls. P (crossed t u work) x ps (lentParents u k)) t n m (p .pair .first .words) en em
+      (to-parts (λ x qs ls. P (crossed t u work) (tips t) (parents t) qs) u (tips u) k (p .pair .second .words) refl ek h))
+
+  pub of-lent : P new n (lentParents t m) (lentParents u k) → P (crossed t u work) (tips t) (parents t) (parents u)
+  of-lent h =
+      of-parts (λ x qs ls. P (crossed t u work) (tips t) (parents t) qs) u (tips u) k (p .pair .second .words) refl ek
+      (of-parts (λ x ps ls. P (crossed t u work) x ps (lentParents u k)) t n m (p .pair .first .words) en em
+      (subst (λ (c : List ℕ). P c n (lentParents t m) (lentParents u k)) (crossings-are t u work new p w) h))

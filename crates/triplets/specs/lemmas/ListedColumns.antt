@@ -16,7 +16,6 @@ use Rattle.sums.specs.theorems.BitLaws.{bit-T, bit-no}
 use Rattle.sums.specs.theorems.TestLaws.{le-iff}
 use Rattle.tree_check.specs.Table.{word}
 use Rattle.tree_pairs.specs.lemmas.EdgeRows.{aboveIn, EarlierParents}
-use Rattle.triplets.specs.lemmas.EdgeSums.{sum-start}
 
 -- the first row is in the cells, and there is room for the lists
 pub record ColumnRoom (work qs columns above : List ℕ) : Type 0 where

@@ -1,6 +1,6 @@
 -- What a row adds, from the listed columns; and the bounds that keep the sums in 64 bits.
 -- Assumes nothing.
-use mathlib.Core.Path.{_≡_, refl, sym, _∙_, ap}
+use mathlib.Core.Path.{_≡_, refl, _∙_, ap}
 use mathlib.Core.List.{List}
 use Prim.Native.Nat.{ℕ, _+_, _*_, _-_, _≤_, _<_}
 use native.Mathlib.Nat.{mul-le-mul-right, lt-of-not-le}
@@ -17,11 +17,11 @@ use Rattle.sums.specs.theorems.Products.{product-le}
 use Rattle.shapes.specs.theorems.TripletCounts.{alikeTerm, apartTerm}
 use Rattle.tree_check.specs.Table.{word}
 use Rattle.tree_pairs.specs.theorems.CrossingLaws.{cell-inside}
-use Rattle.tree_pairs.specs.lemmas.EdgeRows.{aboveIn, EarlierParents}
+use Rattle.tree_pairs.specs.lemmas.EdgeRows.{aboveIn}
 use Rattle.triplets.specs.lemmas.EdgeSums.{sum-most}
-use Rattle.triplets.specs.lemmas.PairCells.{Nested, CrossedCells, cellAt, alikeCell, apartCell, alikeRow, apartRow}
+use Rattle.triplets.specs.lemmas.PairCells.{Nested, CrossedCells, alikeCell, apartCell, alikeRow, apartRow}
 use Rattle.triplets.specs.lemmas.PairCells.{alike-most, apart-most, alike-column-none, apart-column-zero}
-use Rattle.triplets.specs.lemmas.ListedColumns.{Listed, Place, isWide}
+use Rattle.triplets.specs.lemmas.ListedColumns.{Listed, isWide}
 
 -- ---- a row with listed columns: the row begins at base, its parent's at up
 

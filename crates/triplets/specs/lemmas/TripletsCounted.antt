@@ -1,18 +1,17 @@
 -- The triplets of two trees, counted in the cells.
 -- Assumes nothing.
 use mathlib.Core.Path.{_≡_, refl, sym, _∙_, ap, ap₂}
-use mathlib.Core.Bool.{Bool, _&&_}
+use mathlib.Core.Bool.{_&&_}
 use mathlib.Core.Logic.{_≢_}
 use mathlib.Core.List.{List}
-use Prim.Native.Nat.{ℕ, zero, suc, _+_, _*_, _-_, _/_, _≤_, _<_}
+use Prim.Native.Nat.{ℕ, zero, suc, _+_, _*_, _-_, _≤_, _<_}
 use native.Mathlib.Nat.{mul-le-mul-right}
 use native.Mathlib.Numerals.{add-one}
 use native.Mathlib.Omega.{arith}
 use lib.ListN.{length}
 use Rattle.table_words.specs.Sizes.{nodeRoom}
 use Rattle.sums.specs.Sum.{sum}
-use Rattle.sums.specs.theorems.SumLaws.{sum-ext, sum-cong, sum-mono, sum-add}
-use Rattle.sums.specs.Bits.{bit}
+use Rattle.sums.specs.theorems.SumLaws.{sum-ext, sum-cong, sum-mono}
 use Rattle.sums.specs.Counts.{count}
 use Rattle.sums.specs.theorems.CountLaws.{count-le}
 use Rattle.sums.specs.theorems.Matchings.{count-mono}
@@ -23,7 +22,7 @@ use Rattle.shapes.specs.Ancestors.{anc}
 use Rattle.shapes.specs.theorems.LowestAncestors.{leaves-once}
 use Rattle.shapes.specs.theorems.Shape.{Shape}
 use Rattle.shapes.specs.theorems.TripletCounts.{Outgroup, leave-both, leave-first, leave-second}
-use Rattle.shapes.specs.theorems.TripletCounts.{TripletSums, triplet-sums, alikeTerm, apartTerm, edgeTerm, beyondBoth, beyondCount}
+use Rattle.shapes.specs.theorems.TripletCounts.{TripletSums, triplet-sums, edgeTerm, beyondBoth}
 use Rattle.tree_check.specs.Table.{Table, word, tips, nodes, parents, parent, beyond, nodeOf}
 use Rattle.tree_check.specs.IsTree.{IsTree}
 use Rattle.tree_check.specs.Refusals.{refusal}
@@ -38,7 +37,7 @@ use Rattle.pair_check.specs.PairOrder.{PairWithCells, pairOrder}
 use Rattle.pair_check.specs.theorems.PairCheck.{pair-check}
 use Rattle.tree_pairs.specs.Crossings.{edgeCrossing, crossed}
 use Rattle.tree_pairs.specs.theorems.CrossingLaws.{cell-of-edges, cell-inside, crossed-length}
-use Rattle.tree_pairs.specs.lemmas.CellSizes.{row-cell, column-cell, row-size, column-size}
+use Rattle.tree_pairs.specs.lemmas.CellSizes.{row-cell, column-cell}
 use Rattle.triplets.specs.declared.tables.TripletTable.{TripletTable}
 use Rattle.triplets.specs.TripletAnswer.{tripletsOfPair, refusedTriplets, tripletAnswer}
 use Rattle.tree_pairs.specs.lemmas.EdgeRows.{aboveIn, sizeAt, earlier-parents, row-above}

@@ -1,14 +1,11 @@
 -- What the weighted distance's call answers, as its code finds it.
 -- Assumes nothing.
 use mathlib.Core.Path.{_≡_, refl, sym, _∙_, ap}
-use mathlib.Core.Bool.{false}
 use mathlib.Core.Logic.{_≢_}
 use mathlib.Core.List.{List}
 use Prim.Native.Nat.{ℕ, _+_, _*_, _≤_}
-use native.Mathlib.Omega.{arith}
-use lib.IntN.{pos}
 use lib.ListN.{length}
-use lib.Ieee.{Float, fin}
+use lib.Ieee.{Float}
 use borrow.Author.Tests.{eq-eqb, ne-eqb}
 use Rattle.sums.specs.Fours.{fours}
 use Rattle.tree_check.specs.Table.{Table, tips}
@@ -21,7 +18,7 @@ use Rattle.tree_pairs.specs.Crossings.{crossed}
 use Rattle.weights.specs.declared.weight.Weight.{Weight}
 use Rattle.weights.specs.Weights.{over256, pOf, numeratorOf}
 use Rattle.weights.specs.WeightedAnswer.{fractionOrder, weightedOrder, weightedOfPair, refusedWeight, weightedAnswer, afterWeighted}
-use Rattle.weights.specs.theorems.WeightedDistance.{fraction-check, then-fraction, tables-first, weighted-check}
+use Rattle.weights.specs.theorems.WeightedDistance.{fraction-check, then-fraction, tables-first}
 
 -- ---- the number of a fraction
 

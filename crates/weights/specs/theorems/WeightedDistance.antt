@@ -4,7 +4,7 @@ use mathlib.Core.Path.{_≡_, refl, sym, _∙_, subst}
 use mathlib.Core.Bool.{Bool, false, not}
 use mathlib.Core.List.{[]}
 use mathlib.Core.Logic.{_≢_, _↔_}
-use Prim.Native.Nat.{ℕ, _+_, _*_, _^_, _≤_, _<_}
+use Prim.Native.Nat.{ℕ, _+_, _*_, _≤_, _<_}
 use native.Mathlib.Nat.{mul-le-mul-right, lt-of-lt-of-le}
 use native.Mathlib.Decide.{ℕ-discrete}
 use native.Mathlib.Omega.{arith}
@@ -27,7 +27,7 @@ use Rattle.weights.specs.declared.weight.Weight.{Weight}
 use Rattle.weights.specs.declared.weight.Weight.the-variants.{None, Full}
 use Rattle.weights.specs.Weights.{over256, pOf, numeratorOf}
 use Rattle.weights.specs.WeightedAnswer.{fractionOrder, weightedOrder, weightedOfPair}
-use Rattle.weights.specs.theorems.Fractions.{IsFraction, over-256-exact, numerator-iff, numerator-le}
+use Rattle.weights.specs.theorems.Fractions.{over-256-exact, numerator-iff, numerator-le}
 
 -- ---- acceptance
 

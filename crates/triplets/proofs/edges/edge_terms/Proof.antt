@@ -1,13 +1,12 @@
 -- The invariant: `total` is what the edges before row `i + 1` add.
 -- Assumes nothing.
-use mathlib.Core.Path.{_≡_, sym, _∙_, ap, ap₂}
-use Prim.Native.Nat.{ℕ, _+_, _*_, _-_, _≤_, _<_}
+use mathlib.Core.Path.{_≡_, _∙_, ap, ap₂}
+use Prim.Native.Nat.{ℕ, _+_, _-_, _≤_}
 use native.Mathlib.Omega.{arith}
 use lib.ListN.{length}
 use Rattle.sums.specs.Sum.{sum}
 use Rattle.sums.specs.theorems.SumLaws.{sum-step}
 use Rattle.shapes.specs.theorems.TripletCounts.{edgeTerm}
-use Rattle.tree_check.specs.Table.{word}
 use Rattle.tree_pairs.specs.lemmas.EdgeRows.{aboveIn, sizeAt, parent-word}
 use Rattle.triplets.specs.lemmas.EdgeSums.{edgeSum, sum-start, edge-term-most}
 use Rattle.triplets.specs.lemmas.EdgeSums.{EdgeCells, edge-cells, edges-low}

@@ -1,6 +1,6 @@
 -- i² − i is i(i − 1), and the product is low.
 -- Assumes nothing.
-use mathlib.Core.Path.{sym, _∙_, ap}
+use mathlib.Core.Path.{ap}
 use Prim.Native.Nat.{ℕ, _+_, _*_, _-_, _≤_}
 use native.Mathlib.Omega.{arith}
 use Rattle.shapes.specs.theorems.TripletCounts.{alikeTerm}

@@ -1,7 +1,6 @@
 -- The four cells, and the terms of them.
 -- Assumes nothing.
 use mathlib.Core.Path.{_≡_, _∙_}
-use native.Mathlib.Omega.{arith}
 use Prim.Native.Nat.{_+_}
 use Rattle.tree_check.specs.Table.{word}
 use Rattle.triplets.specs.lemmas.PairCells.{Nested}

@@ -1,13 +1,12 @@
 -- The invariant: the sums are those of the columns listed before `q`.
 -- Assumes nothing.
-use mathlib.Core.Path.{_≡_, sym, _∙_, ap}
-use Prim.Native.Nat.{ℕ, _+_, _-_, _≤_, _<_}
+use mathlib.Core.Path.{_≡_, ap}
+use Prim.Native.Nat.{_-_, _≤_}
 use native.Mathlib.Omega.{arith}
 use Rattle.sums.specs.theorems.SumLaws.{sum-step}
-use Rattle.tree_check.specs.Table.{word}
 use Rattle.triplets.specs.lemmas.EdgeSums.{sum-start}
 use Rattle.triplets.specs.lemmas.PairCells.{alike-most, apart-most}
-use Rattle.triplets.specs.lemmas.ListedRows.{alikeAt, apartAt, alikeListed, apartListed, listed-low}
+use Rattle.triplets.specs.lemmas.ListedRows.{alikeListed, apartListed, listed-low}
 use borrow.Author.Needs.{needs}
 use Rattle.triplets.proofs.pairs.row_terms.Statement.{statement}
 use Rattle.triplets.proofs.pairs.row_terms.Tie as tie

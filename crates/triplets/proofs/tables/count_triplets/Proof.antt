@@ -8,7 +8,6 @@ use Rattle.table_words.specs.Sizes.{nodeRoom}
 use Rattle.triplets.specs.lemmas.EdgeSums.{edgeSum}
 use Rattle.triplets.specs.lemmas.ListedColumns.{Listed}
 use Rattle.triplets.specs.lemmas.TripletsCounted.{column-room, sums-fit, counted-is}
-use borrow.Author.Needs.{needs}
 use Rattle.triplets.proofs.tables.count_triplets.Statement.{statement}
 use Rattle.triplets.proofs.tables.count_triplets.Tie as tie
 

@@ -1,7 +1,6 @@
 -- 30 exactly if there is no numerator.
 -- Assumes nothing.
 use mathlib.Core.Path.{sym, _∙_}
-use native.Mathlib.Omega.{arith}
 use Rattle.weights.specs.lemmas.WeightedOutcomes.{no-fraction, a-fraction}
 use borrow.Author.Needs.{needs}
 use Rattle.weights.proofs.distances.fraction_refusal.Statement.{statement}

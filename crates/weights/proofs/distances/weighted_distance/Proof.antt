@@ -1,6 +1,6 @@
 -- The pair is checked, then the fraction; only then the table is counted.
 -- Assumes nothing.
-use mathlib.Core.Path.{_≡_, sym, _∙_, ap}
+use mathlib.Core.Path.{sym, _∙_}
 use lib.ListN.{length}
 use lib.Ieee.{ofBits}
 use Rattle.pair_check.specs.PairOrder.{PairWithCells}

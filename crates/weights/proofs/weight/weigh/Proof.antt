@@ -1,10 +1,8 @@
 -- The sum and the product are exact.
 -- Assumes nothing.
 use mathlib.Core.Path.{refl}
-use native.Mathlib.Omega.{arith}
 use Rattle.weights.specs.theorems.Fractions.{numerator-iff}
 use Rattle.weights.specs.lemmas.ExactProducts.{is-float, weigh-fraction}
-use borrow.Author.Needs.{needs}
 use Rattle.weights.proofs.weight.weigh.Statement.{statement}
 use Rattle.weights.proofs.weight.weigh.Tie as tie
 
