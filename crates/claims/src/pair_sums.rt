@@ -3,7 +3,7 @@ use super::node_pair::node_pair;
 use super::terms::PairTerms;
 use code_lists::inner_nodes;
 use table_words::Cell;
-use table_words::NODES;
+use table_words::STARTS;
 use table_words::TIPS;
 ghost use mathlib.Core.Path.{_≡_};
 ghost use Prim.Native.Nat.{_-_, _≤_};
@@ -101,7 +101,7 @@ pub(crate) fn pair_sums(
         ⌝ }
 {
     let width = second_parents.len() - 1;
-    let mut inner = [0usize; NODES];
+    let mut inner = [0usize; STARTS];
     let count = inner_nodes(&second_starts[..second_parents.len() + 1], &mut inner);
     let mut block: [Cell; BLOCK] = [0; BLOCK];
     let mut sums = [0u64; TIPS];

@@ -6,7 +6,7 @@ use pair_check::CheckedPair;
 use pair_check::pair_refusal;
 use table_words::CODES;
 use table_words::Cell;
-use table_words::NODES;
+use table_words::STARTS;
 use table_words::TIPS;
 use tree_pairs::cross_pair;
 ghost use mathlib.Core.Path.{_≡_};
@@ -29,10 +29,10 @@ fn sums_of(first_parents: &[u16], second_parents: &[u16], work: &[Cell], n: u16)
     requires { ⌜ Summable (now work) n (now «first_parents») (now «second_parents») ⌝ }
     ensures { λ r. ⌜ r ≡ summed (now (work .entry)) n (now («first_parents» .entry)) (now («second_parents» .entry)) ⌝ }
 {
-    let mut first_starts = [0usize; NODES];
+    let mut first_starts = [0usize; STARTS];
     let mut first_edges = [0usize; CODES];
     list_codes(first_parents, &mut first_starts, &mut first_edges);
-    let mut second_starts = [0usize; NODES];
+    let mut second_starts = [0usize; STARTS];
     let mut second_edges = [0usize; CODES];
     list_codes(second_parents, &mut second_starts, &mut second_edges);
     let mut sizes: [Cell; TIPS] = [0; TIPS];

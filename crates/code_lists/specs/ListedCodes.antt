@@ -38,7 +38,7 @@ unfoldable pub ifPassed : Bool → ℕ → ℕ → ℕ
 ifPassed true x y = x
 ifPassed false x y = y
 
--- 1 to 510 parent words, each node's parent before it
+-- 1 to `nodesMost` parent words, each node's parent before it
 unfoldable pub parentsFit : List ℕ → Bool
 parentsFit ps =
     leb 1 (length ps) && (leb (length ps) nodesMost && every (length ps - 1) (λ i. ltb (word ps (suc i)) (suc i)))

@@ -4,7 +4,7 @@ use table_words::as_index;
 ghost use mathlib.Core.Path.{_≡_};
 ghost use Rattle.code_lists.specs.ListedCodes.{parentsFit, codesFit};
 
-// Whether there are 1 to 510 parent words, each node's parent before it.
+// Whether there are 1 to MOST_NODES parent words, each node's parent before it.
 fn parents_fit(parents: &[u16]) -> bool
     ensures { λ r. ⌜ r ≡ parentsFit (now (parents .entry)) ⌝ }
 {

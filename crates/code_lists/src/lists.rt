@@ -64,7 +64,7 @@ fn edge_list(parents: &[u16], next: &mut [usize; NODES], edges: &mut [usize])
 }
 
 // The edges of the codes into the nodes, node after node, and where those of each node begin. Nothing is written
-// where the parents are none, more than 510 or not each before its node, or the cells are too few.
+// where the parents are none, more than MOST_NODES or not each before its node, or the cells are too few.
 pub fn list_codes(parents: &[u16], starts: &mut [usize], edges: &mut [usize])
     ensures { λ _. ⌜
         ((v : ℕ) → word (now (starts .exit)) v

@@ -4,4 +4,5 @@ pub mod QuartetTable
 pub mod SplitCounts
 pub mod Triplets
 pub mod LabelsAlone
+pub mod PassThrough
 pub mod theorems

@@ -2,9 +2,12 @@ pub mod CasesInShapes
 pub mod CountingTheorem
 pub mod Degrees
 pub mod EdgeClaims
+pub mod EdgesAsSplits
 pub mod FiveFormulas
 pub mod NewSplits
 pub mod NodePairSums
+pub mod PassThroughNodes
+pub mod PassingThrough
 pub mod QuartetTheorem
 pub mod ReferencePairs
 pub mod Renumbered

@@ -37,7 +37,7 @@ fn cells_of(thousands: u16, units: u16) -> usize {
     thousands as usize * 1000 + units as usize
 }
 
-// The most cells that a case of this kind gets. Two tables of 256 tips and 510 nodes need 259081.
+// The most cells that a case of this kind gets. Two tables of 510 nodes need 259081; those of the cases have no more.
 fn most_cells(kind: u16) -> usize
     ensures { λ r. ⌜ r ≤ 259081 ⌝ }
 {

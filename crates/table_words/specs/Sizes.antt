@@ -8,7 +8,7 @@ tipsMost = 256
 
 -- the most nodes of a tree
 abbrev pub nodesMost : ℕ
-nodesMost = 510
+nodesMost = 1024
 
 -- the label of an inner node
 abbrev pub innerLabel : ℕ
@@ -20,8 +20,16 @@ cellMost = 65535
 
 -- how long an array is that has a cell for each node, or for each label
 abbrev pub nodeRoom : ℕ
-nodeRoom = 512
+nodeRoom = 1024
+
+-- how many cells are enough for each two nodes: `nodeRoom` · `nodeRoom`
+abbrev pub workRoom : ℕ
+workRoom = 1048576
+
+-- how long an array is that has a cell for where the directed edges into each node begin, and one for their end
+abbrev pub startRoom : ℕ
+startRoom = 1025
 
 -- how long an array is that has a cell for each directed edge
 abbrev pub codeRoom : ℕ
-codeRoom = 1024
+codeRoom = 2048

@@ -8,16 +8,19 @@ ghost use Rattle.table_words.specs.Sizes.{cellMost};
 pub const TIPS: usize = 256;
 
 // The most nodes of a tree.
-pub const MOST_NODES: usize = 510;
+pub const MOST_NODES: usize = 1024;
 
 // The label of an inner node.
 pub const INNER: usize = 65535;
 
 // The length of an array that has a cell for each node, or for each label.
-pub const NODES: usize = 512;
+pub const NODES: usize = 1024;
+
+// The length of an array that has a cell for where the directed edges into each node begin, and one for their end.
+pub const STARTS: usize = 1025;
 
 // The length of an array that has a cell for each directed edge.
-pub const CODES: usize = 1024;
+pub const CODES: usize = 2048;
 
 // A cell of the work: how many labels lie beyond two edges.
 pub type Cell = u16;

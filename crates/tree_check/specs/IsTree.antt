@@ -2,7 +2,7 @@
 -- Assumes nothing.
 use mathlib.Core.Path.{_≡_}
 use mathlib.Core.Logic.{_⊎_, _↔_}
-use Prim.Native.Nat.{ℕ, _+_, _*_, _-_, _≤_, _<_}
+use Prim.Native.Nat.{ℕ, _+_, _*_, _≤_, _<_}
 use lib.ListN.{length}
 use Rattle.table_words.specs.Sizes.{innerLabel, tipsMost}
 use Rattle.tree_check.specs.Table.{Table, tips, nodes, parent, label}
@@ -20,20 +20,12 @@ pub record StandsOnce (t : Table) (x : ℕ) : Type 0 where
   pub labelled : label t at ≡ x
   pub only : (j : ℕ) → j < nodes t → label t j ≡ x → j ≡ at
 
--- node i has two different children
-pub record TwoChildren (t : Table) (i : ℕ) : Type 0 where
-  pub one : ℕ
-  pub two : ℕ
-  pub apart : one < two
-  pub first : Child t i one
-  pub second : Child t i two
-
 pub record IsTree (t : Table) : Type 0 where
   -- it has 2 + 2m words, no fewer and no more
   pub words : length t ≡ 2 + 2 * nodes t
-  -- n is 2 to 256, and m is n to 2n − 2
+  -- n is 2 to 256, and m is n to 4n
   pub tips-range : (2 ≤ tips t) × (tips t ≤ tipsMost)
-  pub nodes-range : (tips t ≤ nodes t) × (nodes t ≤ 2 * tips t - 2)
+  pub nodes-range : (tips t ≤ nodes t) × (nodes t ≤ 4 * tips t)
   -- node 0 is tip 0, and its parent word is 0
   pub root-label : label t 0 ≡ 0
   pub root-parent : parent t 0 ≡ 0
@@ -47,5 +39,5 @@ pub record IsTree (t : Table) : Type 0 where
   pub once : (x : ℕ) → x < tips t → StandsOnce t x
   -- a tip other than node 0 has no children
   pub tip-bare : (i : ℕ) → 1 ≤ i → i < nodes t → label t i < tips t → (j : ℕ) → Child t i j → ⊥
-  -- an inner node has at least two children
-  pub inner-two : (i : ℕ) → i < nodes t → label t i ≡ innerLabel → TwoChildren t i
+  -- an inner node has at least one child
+  pub inner-child : (i : ℕ) → i < nodes t → label t i ≡ innerLabel → (j : ℕ) × Child t i j

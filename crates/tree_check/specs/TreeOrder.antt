@@ -2,7 +2,7 @@
 -- Assumes nothing.
 use mathlib.Core.Bool.{Bool, true, false, not, _&&_, _||_}
 use mathlib.Core.List.{List, [], _∷_}
-use Prim.Native.Nat.{ℕ, _+_, _*_, _-_}
+use Prim.Native.Nat.{ℕ, _+_, _*_}
 use lib.Dec.{eqb, ltb, leb}
 use lib.ListN.{length}
 use Rattle.table_words.specs.Sizes.{innerLabel, tipsMost}
@@ -17,7 +17,7 @@ unfoldable pub tipsFit : ℕ → Bool
 tipsFit n = leb 2 n && leb n tipsMost
 
 unfoldable pub nodesFit : ℕ → ℕ → Bool
-nodesFit n m = leb n m && leb m (2 * n - 2)
+nodesFit n m = leb n m && leb m (4 * n)
 
 -- the parent word p of node i: 0 for the nodes 0 and 1, and from node 2 on 1 to i − 1
 unfoldable pub parentFits : ℕ → ℕ → Bool
@@ -46,10 +46,9 @@ isChild up i j = leb 1 j && eqb (up j) i
 unfoldable pub children : ℕ → (ℕ → ℕ) → ℕ → ℕ
 children m up i = count m (isChild up i)
 
--- node i, with label l and k children: an inner node with fewer than two children, or a tip other than
--- node 0 with a child
+-- node i, with label l and k children: an inner node without a child, or a tip other than node 0 with one
 unfoldable pub misplaced : ℕ → ℕ → ℕ → Bool
-misplaced i l k = elim (eqb l innerLabel) [ true ↦ ltb k 2 | false ↦ leb 1 i && leb 1 k ]
+misplaced i l k = elim (eqb l innerLabel) [ true ↦ ltb k 1 | false ↦ leb 1 i && leb 1 k ]
 
 -- the rules that the two arrays are held to
 unfoldable pub arraysOrder : ℕ → ℕ → (ℕ → ℕ) → (ℕ → ℕ) → List Rule

@@ -118,12 +118,12 @@ fn labels_once(labels: &[u16], n: usize) -> bool
     all_one(&counts, n)
 }
 
-// Whether node i with label l and k children is an inner node with fewer than two, or a tip other than node 0 with one.
+// Whether node i with label l and k children is an inner node without one, or a tip other than node 0 with one.
 fn is_misplaced(i: usize, l: usize, k: usize) -> bool
     ensures { λ r. ⌜ r ≡ misplaced i l k ⌝ }
 {
     if l == INNER {
-        return k < 2;
+        return k < 1;
     }
     if i < 1 {
         return false;
@@ -189,7 +189,7 @@ fn nodes_fit(n: usize, m: usize) -> bool
     if m < n {
         return false;
     }
-    m <= 2 * n - 2
+    m <= 4 * n
 }
 
 // The number of the first rule of a tree table that is broken, or 0.

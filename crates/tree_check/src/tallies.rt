@@ -7,7 +7,7 @@ ghost use lib.ListN.{length};
 ghost use Rattle.table_words.specs.Sizes.{nodeRoom};
 ghost use Rattle.tree_check.specs.lemmas.Tally.{Tallied};
 
-// How often each number below 512 stands among the words.
+// How often each number below NODES stands among the words.
 pub(crate) fn tally(words: &[u16]) -> [u16; NODES]
     requires { ⌜ length (now words) ≤ nodeRoom ⌝ }
     ensures { λ r. ⌜ Tallied (now (words .entry)) (length (now (words .entry))) r ⌝ }

@@ -20,6 +20,6 @@ unfoldable pub addedBelow : List ℕ → ℕ → List ℕ → List ℕ
 addedBelow ps zero cells = cells
 addedBelow ps (suc i) cells = addedBelow ps i (passedUp ps i cells)
 
--- every node; 512 cells belong to at most 512 nodes, and for more the cells stay
+-- every node; `nodeRoom` cells belong to at most as many nodes, and for more the cells stay
 unfoldable pub addedUp : List ℕ → List ℕ → List ℕ
 addedUp ps cells = elim (ltb nodeRoom (length ps)) [ true ↦ cells | false ↦ addedBelow ps (length ps) cells ]

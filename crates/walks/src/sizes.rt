@@ -15,7 +15,7 @@ ghost use Rattle.walks.specs.lemmas.TreeArrays.{TreeArrays};
 ghost use Rattle.walks.specs.lemmas.Positions.{TipsMarked, Sizes, Ends};
 
 // Each node's cell is added to its parent's, from the highest node down, modulo 2^64. A parent word that is no smaller
-// than the node plays no part; for more than 512 nodes the cells stay.
+// than the node plays no part; for more than NODES nodes the cells stay.
 pub fn add_up(parents: &[u16], cells: &mut [usize; NODES])
     ensures { λ _. ⌜ now (cells .exit) ≡ addedUp (now (parents .entry)) (now (cells .entry)) ⌝ }
 {

@@ -6,7 +6,7 @@ use Prim.Native.Nat.{ℕ, zero, suc, _+_, _*_, _-_, _≤_, _<_}
 use native.Mathlib.Nat.{mul-le-mul-right}
 use native.Mathlib.Omega.{arith}
 use lib.ListN.{length}
-use Rattle.table_words.specs.Sizes.{nodeRoom, tipsMost}
+use Rattle.table_words.specs.Sizes.{nodeRoom, tipsMost, workRoom}
 use Rattle.sums.specs.theorems.Products.{product-le}
 use Rattle.tree_check.specs.Table.{word}
 
@@ -56,7 +56,7 @@ module _ (work : List ℕ) (base : ℕ) (c : ℕ → ℕ) where
 -- a cell is no more than the sizes of its row and of its column
 pub record CellRoom (work : List ℕ) (base c : ℕ) : Type 0 where
   pub inside : base + c < length work
-  pub low : base ≤ 262144
+  pub low : base ≤ workRoom
   pub narrow : c ≤ nodeRoom
   pub in-row : word work (base + c) ≤ word work base
   pub in-column : word work (base + c) ≤ word work c
@@ -77,7 +77,7 @@ pub record Crossed (work : List ℕ) (rows w n : ℕ) : Type 0 where
 
 -- the first cell of row r
 pub row-start : (work : List ℕ) (rows w n : ℕ) → Crossed work rows w n → (r : ℕ) → r < rows → 1 ≤ w
-    → (r * w < length work) × (r * w ≤ 262144)
+    → (r * w < length work) × (r * w ≤ workRoom)
 row-start work rows w n h r lr some = (
   omega (arith, ends, h .inside),
   omega (arith, product-le nodeRoom nodeRoom r w (omega (arith, h .rows-few)) (h .narrow)),

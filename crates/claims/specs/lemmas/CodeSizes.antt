@@ -5,7 +5,7 @@ use mathlib.Core.List.{List}
 use Prim.Native.Nat.{ℕ, zero, suc, _*_, _-_, _≤_, _<_}
 use native.Mathlib.Omega.{arith}
 use lib.ListN.{length}
-use Rattle.table_words.specs.Sizes.{tipsMost}
+use Rattle.table_words.specs.Sizes.{tipsMost, workRoom}
 use Rattle.tree_check.specs.Table.{word}
 
 -- Edge r has its size in cell r * step. The i-th code into a node belongs to edge r i: the node's own edge first, which
@@ -27,7 +27,7 @@ module _ (work : List ℕ) (step n : ℕ) (r : ℕ → ℕ) where
 -- the cell of edge r
 pub record SizeCell (work : List ℕ) (n at : ℕ) : Type 0 where
   pub inside : at < length work
-  pub low : at ≤ 262144
+  pub low : at ≤ workRoom
   pub most : word work at ≤ n
 
 -- the edges of the codes into a node, and room for as many sizes in `size` cells

@@ -6,7 +6,7 @@ use Prim.Native.Nat.{ℕ, suc, _+_, _-_, _≤_, _<_}
 use native.Mathlib.Omega.{arith}
 use lib.ListN.{length, take}
 use lib.Seq.{getD-take, length-take-le}
-use Rattle.table_words.specs.Sizes.{nodeRoom}
+use Rattle.table_words.specs.Sizes.{startRoom}
 use Rattle.tree_check.specs.Table.{word}
 use Rattle.code_lists.specs.ListedCodes.{degreeAt, innerCount, nodesSeen, innerCell}
 use Rattle.code_lists.specs.lemmas.CodesAt.{Parents, Starts, starts-suc}
@@ -35,7 +35,7 @@ module _ (ps starts : List ℕ) (p : Parents ps) (s : Starts ps starts) where
   )
 
   -- the nodes that the list has
-  pub lent-inner : (old list : List ℕ) (count : ℕ) → nodeRoom ≤ length old
+  pub lent-inner : (old list : List ℕ) (count : ℕ) → startRoom ≤ length old
       → count ≡ innerCount (lentStarts ps starts) (nodesSeen (lentStarts ps starts) old)
       → ((i : ℕ) → word list i ≡ innerCell (lentStarts ps starts) old i)
       → InnerNodes ps list count (length ps)

@@ -41,7 +41,7 @@ module _ (cells : List ℕ) (gap step len : ℕ) (h : FewLines cells gap 3 step 
     low = λ a m. h .low i a l m;
     few = h .len-few;
     step-few = h .step-few;
-    at-few = product-le 2 tipsMost i gap (omega arith) (h .gap-few);
+    at-few = omega (arith, product-le 2 tipsMost i gap (omega arith) (h .gap-few));
   })
 
   total-le : (i at : ℕ) → i < 3 → at ≡ i * gap → sum len (lineCell cells at step) ≤ tipsMost

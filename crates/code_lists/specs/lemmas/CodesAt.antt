@@ -7,7 +7,7 @@ use Prim.Native.Nat.{ℕ, zero, suc, _+_, _*_, _-_, _/_, _≤_, _<_}
 use native.Mathlib.Nat.{eq-or-lt-of-le}
 use native.Mathlib.Omega.{arith}
 use lib.ListN.{length}
-use Rattle.table_words.specs.Sizes.{codeRoom, nodeRoom, nodesMost}
+use Rattle.table_words.specs.Sizes.{codeRoom, nodesMost, startRoom}
 use Rattle.sums.specs.Sum.{sum}
 use Rattle.sums.specs.theorems.SumLaws.{sum-suc, sum-none, sum-swap, sum-mono, sum-const, sum-ge, sum-part}
 use Rattle.sums.specs.Bits.{is, ne}
@@ -28,7 +28,7 @@ pub record Parents (ps : List ℕ) : Type 0 where
 
 -- where the codes into each node begin, and where the last of all ends
 pub record Starts (ps starts : List ℕ) : Type 0 where
-  pub long : length starts ≡ nodeRoom
+  pub long : length starts ≡ startRoom
   pub at : (v : ℕ) → v ≤ length ps → word starts v ≡ codesBefore ps v
 
 -- in the list, the edge of each code: code 2j and code 2j + 1 belong to edge j, counted from 0

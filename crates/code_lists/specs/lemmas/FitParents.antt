@@ -1,4 +1,4 @@
--- The parent words whose codes are listed: those of a tree with at most 510 nodes.
+-- The parent words whose codes are listed: those of a tree with at most `nodesMost` nodes.
 -- Assumes nothing.
 use mathlib.Core.Path.{_≡_, sym, ap, subst}
 use mathlib.Core.Bool.{Bool, true, false, _&&_}

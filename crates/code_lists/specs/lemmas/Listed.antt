@@ -9,7 +9,7 @@ use native.Mathlib.Nat.{eq-or-lt-of-le, le-of-suc-le-suc, lt-of-not-le}
 use native.Mathlib.Decide.{decLt}
 use native.Mathlib.Omega.{arith}
 use lib.ListN.{length}
-use Rattle.table_words.specs.Sizes.{codeRoom, nodeRoom}
+use Rattle.table_words.specs.Sizes.{codeRoom, startRoom}
 use Rattle.sums.specs.Sum.{sum}
 use Rattle.sums.specs.theorems.SumLaws.{sum-part}
 use Rattle.tree_check.specs.Table.{word}
@@ -63,7 +63,7 @@ module _ (ps starts edges : List ℕ) where
   starts-stay e v = sym (if-not _ _ _ (first-false _ _ e))
 
   -- where the codes into a tree's nodes begin
-  pub listed-starts : Fit ps starts edges → (new : List ℕ) → length new ≡ nodeRoom
+  pub listed-starts : Fit ps starts edges → (new : List ℕ) → length new ≡ startRoom
       → ((v : ℕ) → word new v ≡ startCell ps starts edges v) → Starts ps new
   listed-starts p new l h = record { long = l; at = λ v m. h v ∙ start-in p v m }
 

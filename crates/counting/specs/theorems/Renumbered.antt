@@ -33,7 +33,7 @@ pub record Renumbered (t t' : Table) : Type 0 where
   pub parents : (i : ℕ) → i < nodes t → parent t' (to i) ≡ to (parent t i)
 
 -- the parent of a node is a node
-parent-node : (t : Table) → IsTree t → (i : ℕ) → i < nodes t → parent t i < nodes t
+pub parent-node : (t : Table) → IsTree t → (i : ℕ) → i < nodes t → parent t i < nodes t
 parent-node t g zero l = omega (arith, g .root-parent)
 parent-node t g (suc w) l = omega (arith, rooted t g .falls w)
 

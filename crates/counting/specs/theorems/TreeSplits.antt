@@ -1,5 +1,5 @@
--- Different edges of a tree table have different tip sets, so that its splits are edges; common splits and the
--- Robinson-Foulds distance are the same counted from either tree.
+-- Some label lies beyond each edge of a tree table, and label 0 beyond none; common splits and the Robinson-Foulds distance
+-- are the same counted from either tree.
 -- Assumes nothing.
 use mathlib.Core.Path.{_≡_, refl, sym, _∙_, ap}
 use mathlib.Core.Logic.{inl, inr, _≢_, _↔_}
@@ -25,7 +25,7 @@ use Rattle.walks.specs.theorems.NodeLabels.{node-only}
 use Rattle.counting.specs.SplitCounts.{splits, commonSplits, robinsonFoulds, sameSplits, HaveSameSplits}
 
 module _ (t : Table) (g : IsTree t) where
-  child-above : (i j : ℕ) → Child t i j → bit (anc (parent t) i j) ≡ 1
+  pub child-above : (i j : ℕ) → Child t i j → bit (anc (parent t) i j) ≡ 1
   child-above i j c =
       anc-down (parent t) (rooted t g) i j (c .other) (rw (c .below) (anc-self (parent t) (rooted t g) i))
 
@@ -35,9 +35,9 @@ module _ (t : Table) (g : IsTree t) where
   labelled zero v lv f = absurd (omega arith)
   labelled (suc k) v lv f = elim (g .labels-range v lv) [
     | inl e ↦ (
-        let two = g .inner-two v lv e in
-        let j = two .one in
-        let c = two .first in
+        let child = g .inner-child v lv e in
+        let j = child .0 in
+        let c = child .1 in
         let below = parent-lt (parent t) (rooted t g) j (c .other) in
         let r = labelled k j (c .node) (omega (arith, c .below)) in
         (r .0, r .1, anc-trans (parent t) (rooted t g) v j (nodeOf t (r .0)) (child-above v j c) (r .2)))
@@ -48,42 +48,6 @@ module _ (t : Table) (g : IsTree t) where
     )
   ]
 
-  -- node i has a child, and another one
-  another : (i w : ℕ) → 1 ≤ i → i < nodes t → Child t i w → (d : ℕ) × Child t i d × (d ≢ w)
-  another i w l1 li c = elim (g .labels-range i li) [
-    | inl e ↦ (let two = g .inner-two i li e in elim (ℕ-discrete (two .one) w) [
-      | yes q ↦ (two .two, two .second, omega (arith, two .apart))
-      | no d ↦ (two .one, two .first, d)
-    ])
-    | inr m ↦ absurd (g .tip-bare i l1 li m w c)
-  ]
-
-  -- a label beyond i and not beyond a node j at or below its child w: one beyond another child d
-  beside : (i j w d : ℕ) → Child t i w → bit (anc (parent t) w j) ≡ 1 → Child t i d → d ≢ w
-      → (x : ℕ) × (x < tips t) × (bit (beyond t i x) ≡ 1) × (bit (beyond t j x) ≡ 0)
-  unfolding beyond
-  beside i j w d c h e n =
-      let r = rooted t g in
-      let x = labelled (nodes t) d (e .node) (omega arith) in
-      let v = nodeOf t (x .0) in (
-        x .0,
-        x .1,
-        anc-trans (parent t) r i d v (child-above i d e) (x .2),
-        bit-no (anc (parent t) j v) (λ y.
-            let a = anc-trans (parent t) r w j v h (bit-T (anc (parent t) j v) y) in
-            n (one-child (parent t) r d w v (e .other) (c .other) (e .below ∙ sym (c .below)) (x .2) a)),
-      )
-
-  -- fewer labels lie beyond a lower edge
-  fewer : (i j : ℕ) → 1 ≤ i → i < j → j < nodes t → bit (anc (parent t) i j) ≡ 1
-      → (x : ℕ) × (x < tips t) × (bit (beyond t i x) ≡ 1) × (bit (beyond t j x) ≡ 0)
-  fewer i j l1 l lj h =
-      let s = towards (parent t) (rooted t g) (nodes t - 1) i j (omega arith) (omega arith) h in
-      let w = suc (s .0) in
-      let c : Child t i w = record { other = omega arith; node = omega (arith, s .1); below = s .2 } in
-      let d = another i w l1 (omega arith) c in
-      beside i j w (d .0) c (s .3) (d .1) (d .2)
-
   -- label 0 lies beyond no edge
   pub zero-here : (i : ℕ) → 1 ≤ i → bit (beyond t i 0) ≡ 0
   unfolding beyond
@@ -91,39 +55,6 @@ module _ (t : Table) (g : IsTree t) where
       let few = g .tips-range in let many = g .nodes-range in
       rw (node-only t g 0 0 (omega arith) (omega arith) (g .root-label))
       (anc-at-zero (parent t) (rooted t g) i ∙ is-other i 0 (omega arith))
-
-  lower-apart : (i j : ℕ) → 1 ≤ i → i < j → j < nodes t
-      → ((x : ℕ) → x < tips t → beyond t i x ≡ beyond t j x) → ⊥
-  unfolding beyond
-  lower-apart i j l1 l lj h =
-      let x = labelled (nodes t) i (omega arith) (omega arith) in
-      let e = ap bit (h (x .0) (x .1)) in
-      let a = anc-line (parent t) (rooted t g) i j (nodeOf t (x .0)) (omega arith) (x .2) (sym e ∙ x .2) in
-      let y = fewer i j l1 l lj a in
-      omega (arith, y .2, y .3, ap bit (h (y .0) (y .1)))
-
-  -- different edges, tip edges as well, have different tip sets
-  pub edges-distinct : (i j : ℕ) → 1 ≤ i → i < nodes t → 1 ≤ j → j < nodes t
-      → SameSides (tips t) (beyond t) (beyond t) i j → i ≡ j
-  edges-distinct i j li mi lj mj (turned h) =
-      let few = g .tips-range in
-      let e = ap bit (h 0 (omega arith)) in
-      omega (arith, zero-here i li, zero-here j lj, bit-not (beyond t j 0))
-  edges-distinct i j li mi lj mj (same h) = elim (decLt i j) [
-    | yes l ↦ absurd (lower-apart i j li l mj h)
-    | no m ↦ elim (decLt j i) [
-      | yes l ↦ absurd (lower-apart j i lj l mi (λ x lx. sym (h x lx)))
-      | no n ↦ omega arith
-    ]
-  ]
-
-  tree-distinct : Distinct (tips t) (nodes t - 1) (beyond t)
-  tree-distinct i j s r h =
-      edges-distinct i j (s .above) (omega (arith, s .edge, s .above)) (r .above) (omega (arith, r .edge, r .above)) h
-
-  -- each edge with two tips or more on each side is a split of its own
-  pub new-edge : (i : ℕ) → i < nodes t - 1 → isNewSplit (tips t) (beyond t) i ≡ isSplit (tips t) (beyond t) (suc i)
-  new-edge = new-where-distinct (tips t) (nodes t - 1) (beyond t) tree-distinct
 
 -- ---- the four split counts of two tables
 

@@ -7,6 +7,7 @@ use Prim.Native.Nat.{ℕ, zero, suc, _+_, _*_, _-_, _≤_, _<_}
 use native.Mathlib.Nat.{mul-le-mul, lt-of-le-of-lt}
 use native.Mathlib.Omega.{arith}
 use borrow.Author.Tests.{lt-ltb, eq-eqb, ne-eqb}
+use Rattle.table_words.specs.Sizes.{nodesMost}
 use Rattle.tree_check.specs.Table.{Table, tips, nodes}
 use Rattle.tree_check.specs.Refusals.{refusal, ifAccepted}
 use Rattle.tree_check.specs.theorems.RefusalLaws.{refusal-here, refusal-first, refusal-kept}
@@ -144,8 +145,8 @@ module _ (t u : Table) where
   unfolding checkedWork
   work-passed cells j number answer a r e = refusal-passed (refusal (pairOrder t u cells)) j number answer a r e
 
--- a tree table has an edge, and at most 509
-pub edges-some : (t : Table) → IsTree t → (2 ≤ nodes t) × (nodes t ≤ 510)
+-- a tree table has an edge, and at most `nodesMost` nodes
+pub edges-some : (t : Table) → IsTree t → (2 ≤ nodes t) × (nodes t ≤ nodesMost)
 edges-some t g = let n = g .tips-range in let m = g .nodes-range in (omega arith, omega arith)
 
 -- the number of cells that two tables need
@@ -154,7 +155,7 @@ pub product-fits : (t u : Table) (rows columns : ℕ) → IsPair t u → rows �
 product-fits t u rows columns p er ec =
     let a = edges-some t (p .first) in
     let b = edges-some u (p .second) in
-    let l : rows * columns ≤ 509 * 509 = mul-le-mul {n₂ = 509} {m₂ = 509} (omega arith) (omega arith) in
+    let l : rows * columns ≤ nodesMost * nodesMost = mul-le-mul {n₂ = nodesMost} {m₂ = nodesMost} (omega arith) (omega arith) in
     lt-of-le-of-lt l (omega arith)
 
 -- what `check_pair` says of two tables that it accepts

@@ -10,7 +10,7 @@ use native.Mathlib.Numerals.{add-one}
 use native.Mathlib.Omega.{arith}
 use lib.Dec.{T}
 use lib.ListN.{length}
-use Rattle.table_words.specs.Sizes.{nodeRoom}
+use Rattle.table_words.specs.Sizes.{nodeRoom, workRoom}
 use Rattle.sums.specs.Sum.{sum}
 use Rattle.sums.specs.theorems.SumLaws.{sum-suc}
 use Rattle.sums.specs.Bits.{bit}
@@ -38,13 +38,13 @@ pub record RowsRoom (cells width : ℕ) (ps : List ℕ) : Type 0 where
 
 -- `cells` cells hold the row that begins at `base`
 pub record RowRoom (cells base width : ℕ) : Type 0 where
-  pub low : base ≤ 262144
+  pub low : base ≤ workRoom
   pub narrow : width ≤ nodeRoom
   pub inside : base + width ≤ cells
 
 -- row i + 1 and that of the edge above, `up`, begin where there are cells
 pub record EdgeCells (cells step : ℕ) (ps : List ℕ) (i up : ℕ) : Type 0 where
-  pub low : ((i + 1) * step ≤ 262144) × (up * step ≤ 262144)
+  pub low : ((i + 1) * step ≤ workRoom) × (up * step ≤ workRoom)
   pub inside : ((i + 1) * step < cells) × (up * step < cells)
   pub above : up ≡ aboveIn ps (i + 1)
 
@@ -60,7 +60,7 @@ edge-cells cells step ps a i up l e =
       above = rw d e;
     }
   where
-    start : (r : ℕ) → r < length ps - 1 → r * step ≤ 262144
+    start : (r : ℕ) → r < length ps - 1 → r * step ≤ workRoom
     start r m = omega (arith, product-le nodeRoom nodeRoom r step (omega (arith, a .parents .few)) (a .narrow))
 
 pub row-room : (cells width : ℕ) (ps : List ℕ) → EdgeRoom cells width ps → RowsRoom cells width ps → (i : ℕ)

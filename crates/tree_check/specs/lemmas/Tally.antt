@@ -1,4 +1,4 @@
--- How often each number stands among the first words of a list, as an array of 512 counts tells it.
+-- How often each number stands among the first words of a list, as an array of `nodeRoom` counts tells it.
 -- Assumes nothing.
 use mathlib.Core.Path.{_≡_, refl, sym, _∙_, ap, subst}
 use mathlib.Core.Bool.{Bool, _&&_}
@@ -35,7 +35,7 @@ children-standing p ps i =
     later : (j : ℕ) → bit (leb 1 (suc j) && eqb (word ps j) i) ≡ is (word ps j) i
     later j = ap (λ (b : Bool). bit (b && eqb (word ps j) i)) (le-leb 1 (suc j) (omega arith))
 
--- each number below 512 with its count among the first k words
+-- each number below `nodeRoom` with its count among the first k words
 pub record Tallied (ws : List ℕ) (k : ℕ) (counts : List ℕ) : Type 0 where
   pub long : length counts ≡ nodeRoom
   pub cells : (x : ℕ) → x < nodeRoom → word counts x ≡ standing k (word ws) x

@@ -4,7 +4,7 @@ use mathlib.Core.Path.{_≡_, refl, _∙_, ap}
 use mathlib.Core.Bool.{Bool, _&&_}
 use mathlib.Core.Logic.{_⊎_, inl, inr, _≢_, _↔_}
 use mathlib.Core.List.{List, []}
-use Prim.Native.Nat.{ℕ, zero, suc, _+_, _*_, _-_, _≤_, _<_}
+use Prim.Native.Nat.{ℕ, zero, suc, _+_, _*_, _≤_, _<_}
 use native.Mathlib.Nat.{lt-of-not-le, eq-zero-or-pos}
 use native.Mathlib.Decide.{decLe, ℕ-discrete}
 use native.Mathlib.Omega.{arith}
@@ -13,20 +13,20 @@ use lib.Dec.{T, eqb, ltb, leb, T-not, not-T}
 use lib.ListN.{length}
 use Rattle.table_words.specs.Sizes.{innerLabel, nodeRoom, tipsMost}
 use Rattle.sums.specs.Counts.{count}
-use Rattle.sums.specs.theorems.CountLaws.{count-none, count-once, count-twice}
+use Rattle.sums.specs.theorems.CountLaws.{count-none, count-pos, count-once}
 use Rattle.sums.specs.theorems.TestLaws.{and-iff, or-iff, not-not, eq-iff, le-iff, lt-iff, not-lt-iff}
 use Rattle.sums.specs.Tests.{some, every}
 use Rattle.sums.specs.theorems.TestLaws.{some-iff, every-iff}
 use Rattle.tree_check.specs.Table.{Table, tips, nodes, parent, label}
 use Rattle.tree_check.specs.Refusals.{refusal}
 use Rattle.tree_check.specs.theorems.RefusalLaws.{Kept, Numbered, accepted}
-use Rattle.tree_check.specs.IsTree.{IsTree, Child, StandsOnce, TwoChildren}
+use Rattle.tree_check.specs.IsTree.{IsTree, Child, StandsOnce}
 use Rattle.tree_check.specs.TreeOrder.{tipsFit, nodesFit, parentFits, labelFits, standing, labelsFit, labelsOnce, isChild}
 use Rattle.tree_check.specs.TreeOrder.{children, misplaced, arraysOrder, treeOrder}
 
 -- ---- the rules as tests: n tips and m nodes, `up` gives the parent words and `lab` the labels
 
--- arrays of one length, short enough to be counted in 512 cells
+-- arrays of one length, short enough to be counted in `nodeRoom` cells
 pub record ArraysFit (ps ls : List ℕ) (n : ℕ) : Type 0 where
   pub same : length ls ≡ length ps
   pub some : 1 ≤ length ps
@@ -42,11 +42,11 @@ tips-iff n = let a = and-iff (leb 2 n) (leb n tipsMost) in (
   λ h. a .1 (le-iff 2 n .1 (h .0), le-iff n tipsMost .1 (h .1)),
 )
 
-pub nodes-iff : (n m : ℕ) → T (nodesFit n m) ↔ (n ≤ m) × (m ≤ 2 * n - 2)
+pub nodes-iff : (n m : ℕ) → T (nodesFit n m) ↔ (n ≤ m) × (m ≤ 4 * n)
 unfolding nodesFit
-nodes-iff n m = let a = and-iff (leb n m) (leb m (2 * n - 2)) in (
-  λ h. let r = a .0 h in (le-iff n m .0 (r .0), le-iff m (2 * n - 2) .0 (r .1)),
-  λ h. a .1 (le-iff n m .1 (h .0), le-iff m (2 * n - 2) .1 (h .1)),
+nodes-iff n m = let a = and-iff (leb n m) (leb m (4 * n)) in (
+  λ h. let r = a .0 h in (le-iff n m .0 (r .0), le-iff m (4 * n) .0 (r .1)),
+  λ h. a .1 (le-iff n m .1 (h .0), le-iff m (4 * n) .1 (h .1)),
 )
 
 early-parent-iff : (i p : ℕ) → i < 2 → T (parentFits i p) ↔ (p ≡ 0)
@@ -122,32 +122,18 @@ module _ (t : Table) where
     λ h. c .1 (λ j l p. h j (child-iff i j l .0 p)),
   )
 
-  two-children-iff : (i : ℕ) → (2 ≤ children (nodes t) (parent t) i) ↔ TwoChildren t i
+  a-child-iff : (i : ℕ) → (1 ≤ children (nodes t) (parent t) i) ↔ (j : ℕ) × Child t i j
   unfolding children
-  two-children-iff i = let c = count-twice (nodes t) (isChild (parent t) i) in (
-    λ h. let r = c .0 h in
-        record {
-          one = r .0;
-          two = r .1;
-          apart = r .2;
-          first = child-iff i (r .0) (omega (arith, r .2, r .3)) .0 (r .4);
-          second = child-iff i (r .1) (r .3) .0 (r .5);
-        },
-    λ r. c .1 (
-      r .one,
-      r .two,
-      r .apart,
-      r .second .node,
-      child-iff i (r .one) (r .first .node) .1 (r .first),
-      child-iff i (r .two) (r .second .node) .1 (r .second),
-    ),
+  a-child-iff i = let c = count-pos (nodes t) (isChild (parent t) i) in (
+    λ h. let r = c .0 h in (r .0, child-iff i (r .0) (r .1) .0 (r .2)),
+    λ r. c .1 (r .0, r .1 .node, child-iff i (r .0) (r .1 .node) .1 (r .1)),
   )
 
-placed-iff : (i l k : ℕ) → (T (misplaced i l k) → ⊥) ↔ (1 ≤ i → l ≢ innerLabel → k ≡ 0) × (l ≡ innerLabel → 2 ≤ k)
+placed-iff : (i l k : ℕ) → (T (misplaced i l k) → ⊥) ↔ (1 ≤ i → l ≢ innerLabel → k ≡ 0) × (l ≡ innerLabel → 1 ≤ k)
 placed-iff i l k = elim (ℕ-discrete l innerLabel) [
   | yes e ↦ rw (inner e) (
-    λ h. (λ o d. absurd (d e), λ q. not-lt-iff k 2 .0 (not-T (ltb k 2) h)),
-    λ h t. omega (arith, lt-iff k 2 .0 t, h .1 e),
+    λ h. (λ o d. absurd (d e), λ q. not-lt-iff k 1 .0 (not-T (ltb k 1) h)),
+    λ h t. omega (arith, lt-iff k 1 .0 t, h .1 e),
   )
   | no d ↦ rw (tip d) (let a = and-iff (leb 1 i) (leb 1 k) in (
     λ h. (
@@ -158,7 +144,7 @@ placed-iff i l k = elim (ℕ-discrete l innerLabel) [
   ))
 ]
   where
-    inner : l ≡ innerLabel → misplaced i l k ≡ ltb k 2
+    inner : l ≡ innerLabel → misplaced i l k ≡ ltb k 1
     inner e = unfold misplaced in rw (eq-eqb l innerLabel e, misplaced)
 
     tip : l ≢ innerLabel → misplaced i l k ≡ (leb 1 i && leb 1 k)
@@ -229,7 +215,7 @@ module _ (t : Table) where
       fine : (i : ℕ) → i < nodes t → T (misplaced i (label t i) (kids i)) → ⊥
       fine i l = placed-iff i (label t i) (kids i) .1 (
         λ o d. childless-iff t i .1 (g .tip-bare i o l (below i l d)),
-        λ e. two-children-iff t i .1 (g .inner-two i l e),
+        λ e. a-child-iff t i .1 (g .inner-child i l e),
       )
 
   pub kept-tree : Kept (treeOrder t) → IsTree t
@@ -255,11 +241,11 @@ module _ (t : Table) where
         labels-range = λ i b. label-iff (tips t) (label t i) .0 (l .1 i b);
         once = λ x b. once-iff t x .0 (o x b);
         tip-bare = λ i q b s. childless-iff t i .0 (fine i b .0 q (λ e. omega (arith, e, n)));
-        inner-two = λ i b s. two-children-iff t i .0 (fine i b .1 s);
+        inner-child = λ i b s. a-child-iff t i .0 (fine i b .1 s);
       }
     where
       fine : (i : ℕ) → i < nodes t
-          → (1 ≤ i → label t i ≢ innerLabel → kids i ≡ 0) × (label t i ≡ innerLabel → 2 ≤ kids i)
+          → (1 ≤ i → label t i ≢ innerLabel → kids i ≡ 0) × (label t i ≡ innerLabel → 1 ≤ kids i)
       fine i b = placed-iff i (label t i) (kids i) .0 (λ h.
           T-not (some (nodes t) bad) k7 (some-iff (nodes t) bad .1 (i, b, h)))
 

@@ -10,6 +10,7 @@ use native.Mathlib.Decide.{decLt}
 use native.Mathlib.Omega.{arith}
 use lib.Dec.{ltb}
 use lib.ListN.{length}
+use Rattle.table_words.specs.Sizes.{nodesMost}
 use Rattle.sums.specs.Bits.{bit}
 use Rattle.sums.specs.theorems.BitLaws.{bit-no}
 use Rattle.sums.specs.theorems.TestLaws.{lt-iff}
@@ -71,7 +72,7 @@ of-tips y n p q h = elim (decLt y n) [
 ]
 
 module _ (n : ℕ) (ps ls qs ms work : List ℕ) (a : PairArrays n ps ls qs ms work) where
-  sizes : (2 ≤ length ps) × (length ps ≤ 510) × (2 ≤ length qs) × (length qs ≤ 510) × (length ls ≡ length ps)
+  sizes : (2 ≤ length ps) × (length ps ≤ nodesMost) × (2 ≤ length qs) × (length qs ≤ nodesMost) × (length ls ≡ length ps)
   sizes =
       let p = few-nodes n ps ls (a .first) in
       let q = few-nodes n qs ms (a .second) in (omega arith, omega arith, omega arith, omega arith, a .first .same)

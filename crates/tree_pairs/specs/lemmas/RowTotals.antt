@@ -6,7 +6,7 @@ use Prim.Native.Nat.{ℕ, zero, suc, _+_, _-_, _≤_, _<_}
 use native.Mathlib.Omega.{arith}
 use lib.ListN.{length, set, length-set}
 use lib.Seq.{getD-set-same, getD-set-other}
-use Rattle.table_words.specs.Sizes.{cellMost, nodeRoom}
+use Rattle.table_words.specs.Sizes.{cellMost, nodeRoom, workRoom}
 use Rattle.shapes.specs.theorems.AncestorLaws.{Rooted, parent-lt}
 use Rattle.shapes.specs.theorems.Totals.{total, Added, added-none, added-all-from, added-le, added-next}
 use Rattle.tree_check.specs.Table.{word}
@@ -17,7 +17,7 @@ pub record RowFits (ps work : List ℕ) (base : ℕ) : Type 0 where
   pub some : 2 ≤ length ps
   pub few : length ps ≤ nodeRoom
   pub inner : (v : ℕ) → 2 ≤ v → v < length ps → 1 ≤ word ps v
-  pub low : base ≤ 1048576
+  pub low : base ≤ workRoom
   pub inside : base + (length ps - 1) ≤ length work
   pub fits : (v : ℕ) → 1 ≤ v → v < length ps
       → total (word ps) (length ps) (λ u. word work (base + (u - 1))) v ≤ cellMost

@@ -7,14 +7,14 @@ use native.Mathlib.Decide.{ℕ-discrete}
 use native.Mathlib.Omega.{arith}
 use lib.ListN.{length, set, length-set}
 use lib.Seq.{getD-set-same, getD-set-other}
-use Rattle.table_words.specs.Sizes.{cellMost, nodeRoom}
+use Rattle.table_words.specs.Sizes.{cellMost, nodeRoom, workRoom}
 use Rattle.tree_check.specs.Table.{word}
 
 -- the rows of w cells that begin at `to` and `from` lie apart and inside, and their sums fit a word
 pub record RowsFit (work : List ℕ) (to from w : ℕ) : Type 0 where
   pub apart : to + w ≤ from
   pub inside : from + w ≤ length work
-  pub near : from ≤ 262144
+  pub near : from ≤ workRoom
   pub narrow : w ≤ nodeRoom
   pub fits : (j : ℕ) → j < w → word work (to + j) + word work (from + j) ≤ cellMost
 

@@ -8,7 +8,7 @@ use native.Mathlib.Nat.{suc-mul, mul-le-mul-right, lt-of-not-le}
 use native.Mathlib.Decide.{decLt}
 use native.Mathlib.Omega.{arith}
 use lib.ListN.{length}
-use Rattle.table_words.specs.Sizes.{cellMost, nodeRoom}
+use Rattle.table_words.specs.Sizes.{cellMost, nodeRoom, workRoom}
 use Rattle.sums.specs.theorems.Products.{product-le}
 use Rattle.shapes.specs.theorems.AncestorLaws.{Rooted, parent-lt}
 use Rattle.shapes.specs.theorems.Totals.{total, AddedFrom, added-from-none, added-from-all}
@@ -48,8 +48,8 @@ pub record AddingRows (ps old : List ℕ) (w i : ℕ) (new : List ℕ) : Type 0 
 row-end : (a b w : ℕ) → a < b → a * w + w ≤ b * w
 row-end a b w l = rw (← suc-mul) (mul-le-mul-right w l)
 
--- a row begins at word 2¹⁸ or before
-pub row-near : (a w : ℕ) → a ≤ nodeRoom → w ≤ nodeRoom → a * w ≤ 262144
+-- a row begins at cell `workRoom` or before
+pub row-near : (a w : ℕ) → a ≤ nodeRoom → w ≤ nodeRoom → a * w ≤ workRoom
 row-near a w h k = product-le nodeRoom nodeRoom a w h k
 
 pub rows-none : (ps old : List ℕ) (w : ℕ) → Room ps old w → AddingRows ps old w (length ps) old

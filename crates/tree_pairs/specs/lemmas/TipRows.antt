@@ -9,7 +9,7 @@ use native.Mathlib.Omega.{arith}
 use lib.Dec.{ltb}
 use lib.ListN.{length, set, length-set}
 use lib.Seq.{getD-set-same, getD-set-other}
-use Rattle.table_words.specs.Sizes.{nodeRoom}
+use Rattle.table_words.specs.Sizes.{nodeRoom, workRoom}
 use Rattle.sums.specs.theorems.Products.{product-le}
 use Rattle.sums.specs.theorems.SumLaws.{sum-ext}
 use Rattle.sums.specs.Bits.{bit, is}
@@ -30,7 +30,7 @@ pub record MarkRoom (ps work : List ℕ) (base at : ℕ) : Type 0 where
   pub some : 2 ≤ length ps
   pub few : length ps ≤ nodeRoom
   pub inner : (v : ℕ) → 2 ≤ v → v < length ps → 1 ≤ word ps v
-  pub low : base ≤ 1048576
+  pub low : base ≤ workRoom
   pub inside : base + (length ps - 1) ≤ length work
   pub zeros : (c : ℕ) → base ≤ c → c < base + (length ps - 1) → word work c ≡ 0
   pub node : (1 ≤ at) × (at < length ps)
@@ -153,7 +153,7 @@ module _ (ls : List ℕ) (n : ℕ) (ps nodes old : List ℕ) (a : TipRoom ls n p
       → word new c ≡ 0
   still c p q = h .rest c p ∙ a .zeros c (omega (arith, ends))
 
-  pub base-low : (v - 1) * (length ps - 1) ≤ 262144
+  pub base-low : (v - 1) * (length ps - 1) ≤ workRoom
   base-low = omega (
     arith,
     product-le nodeRoom nodeRoom (v - 1) (length ps - 1) (omega (arith, a .rows)) (omega (arith, a .few)),

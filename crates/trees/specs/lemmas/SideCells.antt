@@ -37,7 +37,7 @@ more-at cells p k u l = elim (alike p u) [
 abbrev pub marks : List ℕ → ℕ → ℕ → ℕ → ℕ → List ℕ
 marks cells x y z w = more (more (more (more cells x 1) y 2) z 4) w 8
 
--- 512 cells of at most `top`
+-- `nodeRoom` cells of at most `top`
 pub record Low (top : ℕ) (cells : List ℕ) : Type 0 where
   pub long : length cells ≡ nodeRoom
   pub low : (u : ℕ) → u < nodeRoom → word cells u ≤ top

@@ -5,7 +5,7 @@ use mathlib.Core.List.{List}
 use Prim.Native.Nat.{ℕ, zero, suc, _+_, _*_, _-_, _≤_, _<_}
 use native.Mathlib.Omega.{arith}
 use lib.ListN.{length}
-use Rattle.table_words.specs.Sizes.{nodeRoom}
+use Rattle.table_words.specs.Sizes.{nodeRoom, workRoom}
 use Rattle.sums.specs.Sum.{sum}
 use Rattle.sums.specs.theorems.SumLaws.{sum-mono, sum-const}
 use Rattle.sums.specs.theorems.Products.{product-le}
@@ -61,7 +61,7 @@ sum-most k b f h = omega (arith, sum-mono k f (λ q. b) h, sum-const k b)
 
 -- the cells of an edge, whose parent's is in row `up`
 pub record EdgeCells (work : List ℕ) (step : ℕ) (ps : List ℕ) (i up : ℕ) : Type 0 where
-  pub low : ((i + 1) * step ≤ 262144) × (up * step ≤ 262144)
+  pub low : ((i + 1) * step ≤ workRoom) × (up * step ≤ workRoom)
   pub inside : ((i + 1) * step < length work) × (up * step < length work)
   pub sizes : (sizeAt work step (i + 1) ≤ sizeAt work step up) × (sizeAt work step up ≤ 256)
   pub term : edgeTerm (sizeAt work step (i + 1)) (sizeAt work step up)
@@ -82,19 +82,19 @@ module _ (work : List ℕ) (step : ℕ) (ps : List ℕ) (h : SizeCells work step
         term = rw same refl;
       }
     where
-      start : (r : ℕ) → r < length ps - 1 → r * step ≤ 262144
-      start r m = omega (arith, product-le 512 512 r step (omega (arith, h .parents .few)) (omega (arith, h .narrow)))
+      start : (r : ℕ) → r < length ps - 1 → r * step ≤ workRoom
+      start r m = omega (arith, product-le nodeRoom nodeRoom r step (omega (arith, h .parents .few)) (omega (arith, h .narrow)))
 
       same : up ≡ aboveIn ps (i + 1)
       same = let d : i + 1 + 1 ≡ i + 2 = omega arith in rw d e
 
   -- the sum over the first i edges
   pub edges-low : (i : ℕ) → i ≤ length ps - 2
-      → sum i (λ j. edgeTerm (sizeAt work step (j + 1)) (sizeAt work step (aboveIn ps (j + 1)))) ≤ 8589934592
+      → sum i (λ j. edgeTerm (sizeAt work step (j + 1)) (sizeAt work step (aboveIn ps (j + 1)))) ≤ 17179869184
   edges-low i l = omega (
     arith,
     sum-most i 16777216 _ (λ j m. at j (omega arith)),
-    product-le 512 16777216 i 16777216 (omega (arith, h .parents .few)) (omega arith),
+    product-le nodeRoom 16777216 i 16777216 (omega (arith, h .parents .few)) (omega arith),
   )
     where
       at : (j : ℕ) → j < length ps - 2

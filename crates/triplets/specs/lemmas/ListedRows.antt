@@ -8,7 +8,7 @@ use native.Mathlib.Decide.{decLt}
 use native.Mathlib.Omega.{arith}
 use lib.Dec.{leb}
 use lib.ListN.{length}
-use Rattle.table_words.specs.Sizes.{nodeRoom}
+use Rattle.table_words.specs.Sizes.{nodeRoom, workRoom}
 use Rattle.sums.specs.Sum.{sum}
 use Rattle.sums.specs.theorems.SumLaws.{sum-ext}
 use Rattle.sums.specs.theorems.BitLaws.{bit-T}
@@ -40,7 +40,7 @@ apartListed work base up columns above k = sum k (λ q. apartAt work base up (wo
 
 -- the four cells of two edges
 pub record FourCells (work : List ℕ) (base up l p : ℕ) : Type 0 where
-  pub low : (base ≤ 262144) × (up ≤ 262144) × (l ≤ nodeRoom) × (p ≤ nodeRoom)
+  pub low : (base ≤ workRoom) × (up ≤ workRoom) × (l ≤ nodeRoom) × (p ≤ nodeRoom)
   pub inside : (base + l < length work) × (base + p < length work) × (up + l < length work) × (up + p < length work)
   pub nested : Nested (word work (base + l)) (word work (base + p)) (word work (up + l)) (word work (up + p))
 
@@ -74,7 +74,7 @@ nested-parts i r c w h = (
 module _ (work : List ℕ) (base up : ℕ) (columns above : List ℕ) (k : ℕ) (h : RowCells work base up columns above k) where
   -- the sums of the first j columns
   pub listed-low : (j : ℕ) → j ≤ k
-      → (alikeListed work base up columns above j ≤ 8589934592) × (apartListed work base up columns above j ≤ 8589934592)
+      → (alikeListed work base up columns above j ≤ 17179869184) × (apartListed work base up columns above j ≤ 17179869184)
   unfolding alikeListed apartListed
   listed-low j l = (
     omega (
@@ -89,7 +89,7 @@ module _ (work : List ℕ) (base up : ℕ) (columns above : List ℕ) (k : ℕ) 
     ),
   )
     where
-      few : j ≤ 512
+      few : j ≤ nodeRoom
       few = omega (arith, h .few)
 
 -- ---- the rows of two trees
@@ -101,13 +101,13 @@ module _ (work ps qs : List ℕ) (h : CrossedCells work ps qs) (row : ℕ) (l1 :
   cell-in : (i l : ℕ) → i < length ps - 1 → l < length qs - 1 → i * (length qs - 1) + l < length work
   cell-in i l a b = omega (arith, cell-inside i l (length ps - 1) (length qs - 1) a b, h .inside)
 
-  start-low : (i : ℕ) → i < length ps - 1 → i * (length qs - 1) ≤ 262144
+  start-low : (i : ℕ) → i < length ps - 1 → i * (length qs - 1) ≤ workRoom
   start-low i a = omega (
     arith,
-    product-le 512 512 i (length qs - 1) (omega (arith, h .first .few)) (omega (arith, h .second .few)),
+    product-le nodeRoom nodeRoom i (length qs - 1) (omega (arith, h .first .few)) (omega (arith, h .second .few)),
   )
 
-  pub row-starts : (row * (length qs - 1) ≤ 262144) × (aboveIn ps row * (length qs - 1) ≤ 262144)
+  pub row-starts : (row * (length qs - 1) ≤ workRoom) × (aboveIn ps row * (length qs - 1) ≤ workRoom)
       × (row * (length qs - 1) < length work)
   row-starts = (
     start-low row l2,
@@ -128,7 +128,7 @@ module _ (work ps qs : List ℕ) (h : CrossedCells work ps qs) (row : ℕ) (l1 :
       }
 
   -- the sums of a whole row
-  pub row-low : (alikeRow work ps qs row ≤ 8589934592) × (apartRow work ps qs row ≤ 8589934592)
+  pub row-low : (alikeRow work ps qs row ≤ 17179869184) × (apartRow work ps qs row ≤ 17179869184)
   unfolding alikeRow apartRow
   row-low = (
     omega (
@@ -145,7 +145,7 @@ module _ (work ps qs : List ℕ) (h : CrossedCells work ps qs) (row : ℕ) (l1 :
     ),
   )
     where
-      few : length qs - 2 ≤ 512
+      few : length qs - 2 ≤ nodeRoom
       few = omega (arith, h .second .few)
 
   module _ (columns above : List ℕ) (k : ℕ) (s : Listed work qs k columns above) where
@@ -198,20 +198,20 @@ module _ (work ps qs : List ℕ) (h : CrossedCells work ps qs) (row : ℕ) (l1 :
 module _ (work ps qs : List ℕ) (h : CrossedCells work ps qs) where
   -- the sums of the first i rows
   pub rows-low : (i : ℕ) → i ≤ length ps - 2
-      → (sum i (λ r. alikeRow work ps qs (r + 1)) ≤ 4398046511104)
-      × (sum i (λ r. apartRow work ps qs (r + 1)) ≤ 4398046511104)
+      → (sum i (λ r. alikeRow work ps qs (r + 1)) ≤ 17592186044416)
+      × (sum i (λ r. apartRow work ps qs (r + 1)) ≤ 17592186044416)
   rows-low i l = (
     omega (
       arith,
-      sum-most i 8589934592 _ (λ r m. row-low work ps qs h (r + 1) (omega arith) (omega arith) .0),
-      mul-le-mul-right 8589934592 few,
+      sum-most i 17179869184 _ (λ r m. row-low work ps qs h (r + 1) (omega arith) (omega arith) .0),
+      mul-le-mul-right 17179869184 few,
     ),
     omega (
       arith,
-      sum-most i 8589934592 _ (λ r m. row-low work ps qs h (r + 1) (omega arith) (omega arith) .1),
-      mul-le-mul-right 8589934592 few,
+      sum-most i 17179869184 _ (λ r m. row-low work ps qs h (r + 1) (omega arith) (omega arith) .1),
+      mul-le-mul-right 17179869184 few,
     ),
   )
     where
-      few : i ≤ 512
+      few : i ≤ nodeRoom
       few = omega (arith, h .first .few)

@@ -9,7 +9,7 @@ use native.Mathlib.Nat.{mul-le-mul-right}
 use native.Mathlib.Numerals.{add-one}
 use native.Mathlib.Omega.{arith}
 use lib.ListN.{length}
-use Rattle.table_words.specs.Sizes.{nodeRoom}
+use Rattle.table_words.specs.Sizes.{nodeRoom, nodesMost}
 use Rattle.sums.specs.Sum.{sum}
 use Rattle.sums.specs.theorems.SumLaws.{sum-ext, sum-cong, sum-mono}
 use Rattle.sums.specs.Counts.{count}
@@ -110,7 +110,7 @@ module _ (t u : Table) (work : List ℕ) (p : PairWithCells t u (length work)) w
   long' : length (parents u) ≡ nodes u
   long' = parents-length u (h .words)
 
-  few : (2 ≤ nodes t) × (nodes t ≤ 510) × (2 ≤ nodes u) × (nodes u ≤ 510)
+  few : (2 ≤ nodes t) × (nodes t ≤ nodesMost) × (2 ≤ nodes u) × (nodes u ≤ nodesMost)
   few =
       let a = g .tips-range in
       let b = g .nodes-range in

@@ -5,7 +5,7 @@ use mathlib.Core.List.{List}
 use Prim.Native.Nat.{ℕ, _≤_}
 use native.Mathlib.Omega.{arith}
 use lib.ListN.{length}
-use Rattle.table_words.specs.Sizes.{tipsMost}
+use Rattle.table_words.specs.Sizes.{tipsMost, nodesMost}
 use Rattle.shapes.specs.theorems.AncestorLaws.{Rooted}
 use Rattle.tree_check.specs.Table.{Table, word, tips, parents, labels, parent, label}
 use Rattle.tree_check.specs.lemmas.TableParts.{tableOf}
@@ -38,7 +38,7 @@ module _ (n : ℕ) (ps ls : List ℕ) (a : TreeArrays n ps ls) where
   pub few-tips : (2 ≤ n) × (n ≤ tipsMost)
   few-tips = omega (arith, a .tree .tips-range, tips-of n ps ls)
 
-  pub few-nodes : (2 ≤ length ps) × (length ps ≤ 510)
+  pub few-nodes : (2 ≤ length ps) × (length ps ≤ nodesMost)
   few-nodes = omega (arith, a .tree .tips-range, a .tree .nodes-range, nodes-of n ps ls)
 
   pub rooted-parents : Rooted (word ps)

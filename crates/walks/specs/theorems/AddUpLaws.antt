@@ -15,7 +15,7 @@ use Rattle.shapes.specs.theorems.Totals.{total, Added, added-none, added-all, a
 use Rattle.tree_check.specs.Table.{word}
 use Rattle.walks.specs.AddUp.{passedUp, addedBelow, addedUp}
 
--- a rooted tree of at most 512 nodes with the parents ps, and totals that fit
+-- a rooted tree of at most `nodeRoom` nodes with the parents ps, and totals that fit
 pub record Addable (ps cells : List ℕ) : Type 0 where
   pub tree : Rooted (word ps)
   pub some : 1 ≤ length ps

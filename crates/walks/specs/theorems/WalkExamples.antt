@@ -49,16 +49,30 @@ unfolding
     misplaced sum bit some every tips nodes parents labels parent label
 references-accepted = refl
 
--- docs/SPECIFICATION.md, 'Edge cases': n = 1 and 257; n = 2 and 256, where the order goes on; m = n − 1 and 2n − 1; P
--- with one word more; no word
+-- docs/SPECIFICATION.md, 'Edge cases': n = 1 and 257; n = 2 and 256, where the order goes on; m = n − 1 and 4n + 1;
+-- m = 2n − 1 and 4n, where the order goes on; P with one word more; no word
 pub edges-of-the-check :
     refusal (treeOrder (1 ∷ 1 ∷ [])) ∷ refusal (treeOrder (257 ∷ 257 ∷ []))
     ∷ refusal (treeOrder (2 ∷ 1 ∷ [])) ∷ refusal (treeOrder (tipsMost ∷ 255 ∷ []))
-    ∷ refusal (treeOrder (5 ∷ 4 ∷ [])) ∷ refusal (treeOrder (5 ∷ 9 ∷ []))
+    ∷ refusal (treeOrder (5 ∷ 4 ∷ [])) ∷ refusal (treeOrder (5 ∷ 21 ∷ []))
+    ∷ refusal (treeOrder (5 ∷ 9 ∷ [])) ∷ refusal (treeOrder (5 ∷ 20 ∷ []))
     ∷ refusal (treeOrder (P ++ 0 ∷ [])) ∷ refusal (treeOrder []) ∷ []
-    ≡ 2 ∷ 2 ∷ 3 ∷ 3 ∷ 3 ∷ 3 ∷ 4 ∷ 1 ∷ []
+    ≡ 2 ∷ 2 ∷ 3 ∷ 3 ∷ 3 ∷ 3 ∷ 4 ∷ 4 ∷ 4 ∷ 1 ∷ []
 unfolding refusal treeOrder arraysOrder tipsFit nodesFit tips nodes
 edges-of-the-check = refl
+
+-- pass-through nodes: two tips at the ends of six of them; P with one above the tip 4; then the same without that tip's
+-- node, so that an inner node has no child; and P with a child below a tip
+pub pass-through-nodes :
+    refusal (treeOrder (2 ∷ 8 ∷ 0 ∷ 0 ∷ 1 ∷ 2 ∷ 3 ∷ 4 ∷ 5 ∷ 6 ∷ 0 ∷ X ∷ X ∷ X ∷ X ∷ X ∷ X ∷ 1 ∷ []))
+    ∷ refusal (treeOrder (5 ∷ 9 ∷ 0 ∷ 0 ∷ 1 ∷ 1 ∷ 3 ∷ 3 ∷ 5 ∷ 5 ∷ 7 ∷ 0 ∷ X ∷ 1 ∷ X ∷ 2 ∷ X ∷ 3 ∷ X ∷ 4 ∷ []))
+    ∷ refusal (treeOrder (4 ∷ 8 ∷ 0 ∷ 0 ∷ 1 ∷ 1 ∷ 3 ∷ 3 ∷ 5 ∷ 5 ∷ 0 ∷ X ∷ 1 ∷ X ∷ 2 ∷ X ∷ 3 ∷ X ∷ []))
+    ∷ refusal (treeOrder (5 ∷ 8 ∷ 0 ∷ 0 ∷ 1 ∷ 1 ∷ 3 ∷ 3 ∷ 5 ∷ 6 ∷ 0 ∷ X ∷ 1 ∷ X ∷ 2 ∷ X ∷ 3 ∷ 4 ∷ [])) ∷ []
+    ≡ 0 ∷ 0 ∷ 7 ∷ 7 ∷ []
+unfolding
+    refusal treeOrder arraysOrder tipsFit nodesFit parentFits labelFits standing labelsFit labelsOnce isChild children
+    misplaced sum bit some every tips nodes parents labels parent label
+pass-through-nodes = refl
 
 -- label trouble, in P: a label out of range and another repeated; one repeated; node 0's label wrong, and thereby repeated;
 -- one repeated, and a tip with a child

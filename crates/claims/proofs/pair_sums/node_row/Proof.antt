@@ -4,7 +4,7 @@ use Prim.Native.Nat.{_+_, _-_, _≤_, _<_}
 use mathlib.Core.Path.{_≡_, refl, sym, _∙_}
 use native.Mathlib.Omega.{arith}
 use lib.ListN.{length}
-use Rattle.table_words.specs.Sizes.{nodeRoom}
+use Rattle.table_words.specs.Sizes.{startRoom, nodesMost}
 use Rattle.tree_check.specs.Table.{word}
 use Rattle.claims.specs.lemmas.NodeCodes.{part-inside}
 use Rattle.claims.specs.lemmas.PairLoops.{Summed, summed-none, summed-next, summed-most, summed-all}
@@ -67,7 +67,7 @@ node c = start c .pre .1 .1 .0 .before _ (c .loop-test .taken)
 -- what is read in it lies in its slices
 low : (c : tie.In-loop Inv-loop μ-loop)
     → (let a = start c .args in
-    (word (a .inner .now) (c .before .loop .i) < 510) × (length (a .second-starts .now) ≡ nodeRoom) × (a .count ≤ 510))
+    (word (a .inner .now) (c .before .loop .i) < nodesMost) × (length (a .second-starts .now) ≡ startRoom) × (a .count ≤ nodesMost))
 low c =
     let h = row c .lists in (
       omega (arith, h .parents .few, node c),

@@ -4,7 +4,7 @@ use mathlib.Core.Path.{_≡_, refl, _∙_, ap, ap₂}
 use Prim.Native.Nat.{ℕ, _+_, _*_, _-_, _≤_}
 use native.Mathlib.Omega.{arith}
 use Rattle.sums.specs.theorems.SumLaws.{sum-step}
-use Rattle.table_words.specs.Sizes.{nodeRoom, tipsMost}
+use Rattle.table_words.specs.Sizes.{tipsMost}
 use Rattle.sums.specs.Sum.{sum}
 use Rattle.sums.specs.theorems.Products.{product-le}
 use Rattle.tree_check.specs.Table.{word}
@@ -76,7 +76,7 @@ product-low c = product-le tipsMost tipsMost _ _ (first-le c) (second-le c)
 
 -- .. and the product times the sum
 weighed-low : (c : tie.After-cell-count2 Inv-loop μ-loop) → x c * y c * (x c + y c) ≤ 33554432
-weighed-low c = product-le 65536 nodeRoom _ _ (product-low c) (omega (arith, first-le c, second-le c))
+weighed-low c = product-le 65536 512 _ _ (product-low c) (omega (arith, first-le c, second-le c))
 
 -- how far the places have come
 stepped : (c : tie.After-cell-count2 Inv-loop μ-loop) → place c * start c .args .step ≤ 65536

@@ -5,7 +5,7 @@ use mathlib.Core.List.{List}
 use Prim.Native.Nat.{ℕ, _-_}
 use native.Mathlib.Omega.{arith}
 use lib.ListN.{replicate, length-replicate}
-use Rattle.table_words.specs.Sizes.{codeRoom, nodeRoom}
+use Rattle.table_words.specs.Sizes.{codeRoom, startRoom}
 use Rattle.code_lists.specs.lemmas.CodesAt.{Parents}
 use Rattle.code_lists.specs.lemmas.Listed.{Fit, listed-starts, listed-edges}
 use Rattle.claims.specs.lemmas.NodeCodes.{CodeLists}
@@ -34,10 +34,10 @@ summed c = c .before .before .before .before .before
 -- ---- the lists
 
 -- there is room for the lists of a tree
-fit : (ps : List ℕ) → Parents ps → Fit ps (replicate nodeRoom 0) (replicate codeRoom 0)
+fit : (ps : List ℕ) → Parents ps → Fit ps (replicate startRoom 0) (replicate codeRoom 0)
 fit ps p = record {
   parents = p;
-  starts-room = omega (arith, p .few, length-replicate {A = ℕ} nodeRoom 0);
+  starts-room = omega (arith, p .few, length-replicate {A = ℕ} startRoom 0);
   edges-room = omega (arith, p .few, length-replicate {A = ℕ} codeRoom 0);
 }
 

@@ -17,7 +17,7 @@ Inv-loop parents next₀ starts₀ at₀ v₀ next starts at v =
 abbrev μ-loop : tie.MeasureT-loop
 μ-loop parents next₀ starts₀ at₀ v₀ next starts at v = length parents - v
 
--- there are at most 510 nodes
+-- there are at most `nodesMost` nodes
 low : (c : tie.In-loop Inv-loop μ-loop) → c .before .loop .v < nodeRoom
 low c = omega (arith, c .before .before .pre .0 .0 .few, c .loop-test .taken)
 

@@ -29,7 +29,7 @@ turn c = c .before .before
 
 -- ---- what is asked there
 
--- node i is one of 1 to 509
+-- node i is one of 1 to `nodesMost` − 1
 node : (c : tie.After-as-index Inv-loop μ-loop)
     → (let i = turn c .before .loop .i in
     (1 ≤ i) × (i < length (start c .args .parents .now)) × (i < nodeRoom))

@@ -13,12 +13,9 @@ returns c = rw (lt-leb _ _ (c .if1 .taken), nodesFit)
 mul-result : tie.Need-mul-result
 mul-result c = search needs
 
-sub-result : tie.Need-sub-result
-sub-result c = search needs
-
 returns-2 : tie.Need-returns-2
 unfolding nodesFit
 returns-2 c = rw (le-leb _ _ (c .if1 .left), nodesFit)
 
 pub nodes-fit-spec : {M : Type 1} → statement M
-nodes-fit-spec = tie.close (tie.spec returns mul-result sub-result returns-2)
+nodes-fit-spec = tie.close (tie.spec returns mul-result returns-2)

@@ -3,6 +3,7 @@
 use Prim.Native.Nat.{_+_, _-_, _≤_, _<_}
 use native.Mathlib.Omega.{arith}
 use lib.ListN.{length}
+use Rattle.table_words.specs.Sizes.{workRoom, nodeRoom}
 use Rattle.tree_pairs.specs.lemmas.Rows.{AddingRow, row-none, row-all, row-room, row-fits, row-next}
 use borrow.Author.Needs.{needs}
 use Rattle.tree_pairs.proofs.rows.add_row.Statement.{statement}
@@ -18,7 +19,7 @@ abbrev μ-loop : tie.MeasureT-loop
 room : (c : tie.In-loop Inv-loop μ-loop)
     → (c .before .before .args .to ≤ c .before .before .args .from)
     × (c .before .before .args .from + c .before .loop .j < length (c .before .loop .work))
-    × (c .before .before .args .from + c .before .loop .j < 263168)
+    × (c .before .before .args .from + c .before .loop .j < workRoom + nodeRoom)
 room c =
     let s = c .before .before in (
       omega (arith, s .pre .apart),

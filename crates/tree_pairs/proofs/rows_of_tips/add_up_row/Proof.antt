@@ -3,6 +3,7 @@
 use Prim.Native.Nat.{_≤_, _<_, _+_, _-_}
 use native.Mathlib.Omega.{arith}
 use lib.ListN.{length}
+use Rattle.table_words.specs.Sizes.{workRoom, nodeRoom}
 use Rattle.tree_pairs.specs.lemmas.RowTotals.{RowAdding, row-none, row-all, row-inside, row-fits, row-next}
 use borrow.Author.Needs.{needs}
 use Rattle.tree_pairs.proofs.rows_of_tips.add_up_row.Statement.{statement}
@@ -42,7 +43,7 @@ inside c =
 
 -- and their places are small numbers
 low : (c : tie.After-as-index Inv-loop μ-loop)
-    → start (turn c .before) .args .base + turn c .before .loop .j ≤ 1049088
+    → start (turn c .before) .args .base + turn c .before .loop .j ≤ workRoom + nodeRoom
 low c =
     let l = turn c .before in
     let s = start l in

@@ -1,4 +1,4 @@
--- The four nodes are below 512, and the totals of their marks say which labels lie beyond each edge.
+-- The four nodes are below `nodeRoom`, and the totals of their marks say which labels lie beyond each edge.
 -- Assumes nothing.
 use native.Mathlib.Omega.{arith}
 use borrow.Author.Needs.{fits-under}

@@ -5,6 +5,7 @@ use mathlib.Core.Logic.{⊎-elim}
 use Prim.Native.Nat.{ℕ, _-_, _≤_, _<_}
 use native.Mathlib.Omega.{arith}
 use lib.ListN.{length}
+use Rattle.table_words.specs.Sizes.{nodeRoom}
 use Rattle.tree_pairs.specs.lemmas.EdgeRows.{parent-word}
 use Rattle.triplets.specs.lemmas.ListedColumns.{ListedTo, listed-none, listed-skip, listed-more}
 use borrow.Author.Needs.{needs}
@@ -29,7 +30,7 @@ turn c = c .before .before .before .before
 -- ---- the needs
 
 -- there is a cell for the column
-room : (c : tie.In-loop Inv-loop μ-loop) → c .before .loop .count < 512
+room : (c : tie.In-loop Inv-loop μ-loop) → c .before .loop .count < nodeRoom
 room c = omega (arith, c .before .loop .inv .1 .few, c .loop-test .taken, start c .pre .parents .few)
 
 sub-last : tie.Need-sub-last Inv-loop μ-loop

@@ -31,15 +31,15 @@ start c = c .before .before .before .before .before .before .before
 low : (c : tie.In-loop Inv-loop μ-loop)
     → (let s = start c .args in
     let i = c .before .loop .i in
-    (sum i (λ r. alikeRow (s .work .now) (s .first-parents .now) (s .second-parents .now) (r + 1)) ≤ 4398046511104)
-    × (sum i (λ r. apartRow (s .work .now) (s .first-parents .now) (s .second-parents .now) (r + 1)) ≤ 4398046511104))
+    (sum i (λ r. alikeRow (s .work .now) (s .first-parents .now) (s .second-parents .now) (r + 1)) ≤ 17592186044416)
+    × (sum i (λ r. apartRow (s .work .now) (s .first-parents .now) (s .second-parents .now) (r + 1)) ≤ 17592186044416))
 low c = rows-low _ _ _ (start c .pre .0) _ (omega (arith, c .before .loop .inv .0))
 
 row-most : (c : tie.In-loop Inv-loop μ-loop)
     → (let s = start c .args in
     let i = c .before .loop .i in
-    (alikeRow (s .work .now) (s .first-parents .now) (s .second-parents .now) (i + 1) ≤ 8589934592)
-    × (apartRow (s .work .now) (s .first-parents .now) (s .second-parents .now) (i + 1) ≤ 8589934592))
+    (alikeRow (s .work .now) (s .first-parents .now) (s .second-parents .now) (i + 1) ≤ 17179869184)
+    × (apartRow (s .work .now) (s .first-parents .now) (s .second-parents .now) (i + 1) ≤ 17179869184))
 row-most c = row-low _ _ _ (start c .pre .0) _ (omega arith) (omega (arith, c .loop-test .taken))
 
 -- ---- the needs

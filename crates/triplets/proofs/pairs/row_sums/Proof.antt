@@ -4,6 +4,7 @@ use mathlib.Core.Path.{_≡_, sym, _∙_, ap}
 use Prim.Native.Nat.{ℕ, _*_, _-_, _≤_, _<_}
 use native.Mathlib.Omega.{arith}
 use lib.ListN.{length}
+use Rattle.table_words.specs.Sizes.{workRoom}
 use Rattle.tree_check.specs.Table.{word}
 use Rattle.tree_pairs.specs.lemmas.EdgeRows.{aboveIn}
 use Rattle.triplets.specs.lemmas.PairCells.{alike-row-none, apart-row-zero}
@@ -26,7 +27,7 @@ width c = c .before .before .before .before .before
 starts : (c : tie.After-shared-slice-known5)
     → (let s = start c .args in
     let w = length (s .second-parents .now) - 1 in
-    (s .row * w ≤ 262144) × (aboveIn (s .first-parents .now) (s .row) * w ≤ 262144) × (s .row * w < length (s .work .now)))
+    (s .row * w ≤ workRoom) × (aboveIn (s .first-parents .now) (s .row) * w ≤ workRoom) × (s .row * w < length (s .work .now)))
 starts c = let s = start c in row-starts _ _ _ (s .pre .0) _ (s .pre .2) (s .pre .3)
 
 up-is : (c : tie.After-as-index)

@@ -1,8 +1,9 @@
 -- The invariant: the nodes below `i` are left to be added.
 -- Assumes nothing.
-use Prim.Native.Nat.{_<_}
+use Prim.Native.Nat.{_≤_}
 use mathlib.Core.Path.{sym}
 use native.Mathlib.Omega.{arith}
+use Rattle.table_words.specs.Sizes.{nodeRoom}
 use Rattle.walks.specs.theorems.AddUpLaws.{added-up-more}
 use Rattle.walks.specs.lemmas.Adding.{Left, left-all, left-none, left-added, left-skipped}
 use borrow.Author.Needs.{needs}
@@ -16,7 +17,7 @@ abbrev μ-loop : tie.MeasureT-loop
 μ-loop parents cells₀ i₀ cells i = i
 
 -- the node has a cell
-low : (c : tie.In-loop Inv-loop μ-loop) → c .before .loop .i < 513
+low : (c : tie.In-loop Inv-loop μ-loop) → c .before .loop .i ≤ nodeRoom
 low c = omega (arith, c .before .loop .inv .to, c .before .before .if1 .left)
 
 returns : tie.Need-returns Inv-loop μ-loop

@@ -5,7 +5,7 @@ use mathlib.Core.Path.{_∙_, ap}
 use native.Mathlib.Omega.{arith}
 use lib.Dec.{ltb}
 use lib.ListN.{length}
-use Rattle.table_words.specs.Sizes.{tipsMost}
+use Rattle.table_words.specs.Sizes.{tipsMost, nodesMost}
 use Rattle.sums.specs.Bits.{bit}
 use Rattle.tree_check.specs.Table.{word}
 use Rattle.tree_check.specs.lemmas.TableParts.{tableOf}
@@ -49,7 +49,7 @@ low d =
       parent-lt _ (rooted-parents _ _ _ (s .pre .0)) (l .loop .c) (l .loop .inv .0),
     )
 
-few : (d : tie.In-loop Inv-loop μ-loop) → d .before .loop .c < 510
+few : (d : tie.In-loop Inv-loop μ-loop) → d .before .loop .c < nodesMost
 few d = omega (arith, d .loop-test .taken, few-nodes _ _ _ (start (d .before) .pre .0))
 
 -- the two positions fit

@@ -4,6 +4,7 @@ use Prim.Native.Nat.{_≤_, _<_, _-_}
 use mathlib.Core.Logic.{⊎-elim}
 use mathlib.Core.Path.{_≡_, refl}
 use native.Mathlib.Omega.{arith}
+use Rattle.table_words.specs.Sizes.{nodesMost}
 use lib.ListN.{length, length-set}
 use Rattle.tree_check.specs.Table.{word}
 use Rattle.tree_check.specs.lemmas.TableParts.{tableOf}
@@ -39,7 +40,7 @@ turn c = c .before .before
 
 -- ---- what is known there
 
-few : (c : tie.In-loop Inv-loop μ-loop) → c .before .loop .v < 510
+few : (c : tie.In-loop Inv-loop μ-loop) → c .before .loop .v < nodesMost
 few c =
     let s = start (c .before) in
     omega (arith, c .loop-test .taken, few-nodes _ _ _ (s .pre .0), s .pre .0 .same)
