@@ -6,7 +6,7 @@ use table_words::Cell;
 use table_words::STARTS;
 use table_words::TIPS;
 ghost use mathlib.Core.Path.{_≡_};
-ghost use Prim.Native.Nat.{_-_, _≤_};
+ghost use Prim.Native.Nat.{_*_, _-_, _≤_};
 ghost use lib.ListN.{length};
 ghost use Rattle.sums.specs.Sum.{sum};
 ghost use Rattle.claims.specs.lemmas.Block.{Scratch};
@@ -15,6 +15,11 @@ ghost use Rattle.claims.specs.lemmas.PairLoops.{RowRoom, NodePairs, rowS
 
 // The cells of the largest block: TIPS rows of TIPS cells.
 const BLOCK: usize = 65536;
+
+// Few tips, and the cells of the largest block then: FEW rows of FEW cells.
+const FEW: u16 = 64;
+
+const SMALL: usize = 4096;
 
 // A node of the first tree, given by its edges, with every node of the second: with the `count` nodes that `inner` begins
 // with. Fewer than three codes make no claim.
@@ -77,7 +82,69 @@ fn node_row(
     PairTerms { s2, s3 }
 }
 
-// Every node of the first tree with every node of the second.
+// Every node of the first tree with every node of the second, whose block is formed in `block`.
+fn all_pairs(
+    work: &[Cell],
+    n: u16,
+    first_parents: &[u16],
+    first_starts: &[usize],
+    first_edges: &[usize],
+    second_parents: &[u16],
+    second_starts: &[usize],
+    second_edges: &[usize],
+    block: &mut [Cell],
+) -> PairTerms
+    requires { ⌜ NodePairs (now work) (length (now «second_parents») - 1) n
+        (now «first_parents») (now «first_starts») (now «first_edges»)
+        (now «second_parents») (now «second_starts») (now «second_edges») × (n * n ≤ length (now block)) ⌝ }
+    ensures { λ r. ⌜
+        (r .s2 ≡ sum (length (now («first_parents» .entry)))
+        (nodeS2 (now (work .entry)) (length (now («second_parents» .entry)) - 1) n
+        (now («first_parents» .entry)) (now («second_parents» .entry))))
+        × (r .s3 ≡ sum (length (now («first_parents» .entry)))
+        (nodeS3 (now (work .entry)) (length (now («second_parents» .entry)) - 1) n
+        (now («first_parents» .entry)) (now («second_parents» .entry))))
+        ⌝ }
+{
+    let width = second_parents.len() - 1;
+    let mut inner = [0usize; STARTS];
+    let count = inner_nodes(&second_starts[..second_parents.len() + 1], &mut inner);
+    let mut sums = [0u64; TIPS];
+    let mut totals = [0u64; TIPS];
+    let mut down = [0u64; TIPS];
+    let mut along = [0u64; TIPS];
+    let mut dots = [0u64; TIPS];
+    let mut s2: u64 = 0;
+    let mut s3: u64 = 0;
+    let mut v = 0;
+    while v < first_parents.len() {
+        let from = first_starts[v];
+        let to = first_starts[v + 1];
+        let row = node_row(
+            work,
+            width,
+            n,
+            &first_edges[from..to],
+            second_parents,
+            second_starts,
+            second_edges,
+            &inner,
+            count,
+            block,
+            &mut sums,
+            &mut totals,
+            &mut down,
+            &mut along,
+            &mut dots,
+        );
+        s2 += row.s2;
+        s3 += row.s3;
+        v += 1;
+    }
+    PairTerms { s2, s3 }
+}
+
+// The same. The block of two nodes has no more than n rows of n cells: where the tips are few, a short one is enough.
 pub(crate) fn pair_sums(
     work: &[Cell],
     n: u16,
@@ -100,41 +167,30 @@ pub(crate) fn pair_sums(
         (now («first_parents» .entry)) (now («second_parents» .entry))))
         ⌝ }
 {
-    let width = second_parents.len() - 1;
-    let mut inner = [0usize; STARTS];
-    let count = inner_nodes(&second_starts[..second_parents.len() + 1], &mut inner);
-    let mut block: [Cell; BLOCK] = [0; BLOCK];
-    let mut sums = [0u64; TIPS];
-    let mut totals = [0u64; TIPS];
-    let mut down = [0u64; TIPS];
-    let mut along = [0u64; TIPS];
-    let mut dots = [0u64; TIPS];
-    let mut s2: u64 = 0;
-    let mut s3: u64 = 0;
-    let mut v = 0;
-    while v < first_parents.len() {
-        let from = first_starts[v];
-        let to = first_starts[v + 1];
-        let row = node_row(
+    if n <= FEW {
+        let mut block: [Cell; SMALL] = [0; SMALL];
+        return all_pairs(
             work,
-            width,
             n,
-            &first_edges[from..to],
+            first_parents,
+            first_starts,
+            first_edges,
             second_parents,
             second_starts,
             second_edges,
-            &inner,
-            count,
             &mut block,
-            &mut sums,
-            &mut totals,
-            &mut down,
-            &mut along,
-            &mut dots,
         );
-        s2 += row.s2;
-        s3 += row.s3;
-        v += 1;
     }
-    PairTerms { s2, s3 }
+    let mut block: [Cell; BLOCK] = [0; BLOCK];
+    all_pairs(
+        work,
+        n,
+        first_parents,
+        first_starts,
+        first_edges,
+        second_parents,
+        second_starts,
+        second_edges,
+        &mut block,
+    )
 }

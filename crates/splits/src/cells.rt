@@ -8,8 +8,9 @@ ghost use Prim.Native.Nat.{_≤_, _<_};
 ghost use lib.Dec.{eqb};
 ghost use lib.ListN.{length};
 ghost use Rattle.tree_check.specs.Table.{word};
+ghost use Rattle.tree_pairs.specs.lemmas.EdgeRows.{EdgeRoom};
 ghost use Rattle.splits.specs.lemmas.SplitCells.{splitSize, newSize, edgeSplits, sharedRow, commonRows};
-ghost use Rattle.splits.specs.lemmas.SplitLoops.{EdgeRoom, RowsRoom, RowRoom};
+ghost use Rattle.splits.specs.lemmas.SplitLoops.{RowsRoom, RowRoom};
 
 // Whether an edge with `size` of n tips beyond it is a split.
 pub(crate) fn is_split(size: Cell, n: u64) -> bool

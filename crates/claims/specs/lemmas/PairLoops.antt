@@ -57,7 +57,7 @@ module _ (f g : ℕ → ℕ) (i s2 s3 : ℕ) (h : Summed f g i s2 s3) where
 -- two nodes with three codes or more into each, and room for their block
 pub record NodePair (work : List ℕ) (w n : ℕ) (rows columns : List ℕ) (size : ℕ) : Type 0 where
   pub edges : NodeEdges work w n rows columns
-  pub room : 65536 ≤ size
+  pub room : length rows * length columns ≤ size
   pub whole : sum (length rows) (λ i. sum (length columns) (codeCell work w n (word rows) (word columns) i)) ≤ tipsMost
 
 -- .. where there are three codes or more into the second
@@ -73,11 +73,6 @@ few-S3 d d' I l = pairS3-few d d' I (inr (omega arith))
 
 module _ (work : List ℕ) (w n : ℕ) (rows columns : List ℕ) (size : ℕ)
     (h : NodePair work w n rows columns size) where
-  pub block-room : length rows * length columns ≤ size
-  block-room =
-      let b = product-le tipsMost tipsMost (length rows) (length columns) (h .edges .rows-few) (h .edges .columns-few) in
-      omega (arith, b, h .room)
-
   module _ (block : List ℕ) (q : RowsFilled work w n rows columns block (length rows)) where
     alike : (i j : ℕ) → i < length rows → j < length columns
         → blockCell block (length columns) i j ≡ codeCell work w n (word rows) (word columns) i j
@@ -87,7 +82,7 @@ module _ (work : List ℕ) (w n : ℕ) (rows columns : List ℕ) (size : ℕ)
     filled-block l = record {
       rows-few = h .edges .rows-few;
       columns-few = h .edges .columns-few;
-      inside = omega (arith, block-room);
+      inside = omega (arith, h .room);
       whole-few = rw (sum-ext (length rows) _ _ (λ i li. sum-ext (length columns) _ _ (λ j lj. alike i j li lj)))
           (h .whole);
     }
@@ -120,7 +115,7 @@ pub record NodeRow (work : List ℕ) (w n : ℕ) (rows qs starts edges : List �
   pub rows-inside : (i : ℕ) → i < length rows → word rows i < count
   pub lists : CodeLists qs starts edges
   pub width : length qs - 1 ≤ w
-  pub room : 65536 ≤ size
+  pub room : (v' : ℕ) → v' < length qs → length rows * degreeAt qs v' ≤ size
   pub few : (v' : ℕ) → v' < length qs → degreeAt qs v' ≤ tipsMost
   pub whole : (v' : ℕ) → v' < length qs → 3 ≤ degreeAt qs v'
       → sum (length rows) (λ i. sum (degreeAt qs v') (codeCell work w n (word rows) (edgeInto qs v') i)) ≤ tipsMost
@@ -181,7 +176,7 @@ module _ (work : List ℕ) (w n : ℕ) (rows qs starts edges : List ℕ) (size :
         h .width,
       );
     };
-    room = h .room;
+    room = rw e (h .room v l);
     whole = rw (e, sum-ext (length rows) _ _ (λ i li. sum-ext (degreeAt qs v) _ _ (λ j lj. same-cells i j li lj)))
         (h .whole v l (omega arith));
   }
@@ -223,8 +218,8 @@ pub record NodePairs (work : List ℕ) (w n : ℕ) (ps starts edges qs starts' e
   pub second : CodeLists qs starts' edges'
   pub crossed : Crossed work (length ps - 1) w n
   pub width : length qs - 1 ≤ w
-  pub first-few : (v : ℕ) → v < length ps → degreeAt ps v ≤ tipsMost
-  pub second-few : (v : ℕ) → v < length qs → degreeAt qs v ≤ tipsMost
+  pub first-few : (v : ℕ) → v < length ps → degreeAt ps v ≤ n
+  pub second-few : (v : ℕ) → v < length qs → degreeAt qs v ≤ n
   pub whole : (v v' : ℕ) → v < length ps → v' < length qs → 3 ≤ degreeAt ps v → 3 ≤ degreeAt qs v'
       → sum (degreeAt ps v) (λ i. sum (degreeAt qs v')
       (codeCell work w n (edgeInto ps v) (edgeInto qs v') i)) ≤ tipsMost
@@ -261,13 +256,13 @@ module _ (work : List ℕ) (w n : ℕ) (ps starts edges qs starts' edges' : List
       → a ≡ nodeS3 work w n ps qs v
   node-S3 a q = q ∙ sum-cong (length qs) node-pair-S3
 
-  node-row : (size : ℕ) → 65536 ≤ size → 3 ≤ length (nodePart starts edges v)
+  node-row : (size : ℕ) → n * n ≤ size → 3 ≤ length (nodePart starts edges v)
       → NodeRow work w n (nodePart starts edges v) qs starts' edges' size
   node-row size k m = record {
     count = length ps - 1;
     crossed = h .crossed;
     rows-three = m;
-    rows-few = omega (arith, e, h .first-few v l);
+    rows-few = omega (arith, e, h .first-few v l, h .crossed .tips-few);
     rows-inside = λ i li. omega (
       arith,
       part-edge ps starts edges (h .first) v l i (omega (arith, e)),
@@ -275,8 +270,11 @@ module _ (work : List ℕ) (w n : ℕ) (ps starts edges qs starts' edges' : List
     );
     lists = h .second;
     width = h .width;
-    room = k;
-    few = h .second-few;
+    room = λ v' l'. omega (
+      arith,
+      product-le n n (length (nodePart starts edges v)) (degreeAt qs v') (omega (arith, e, h .first-few v l)) (h .second-few v' l'),
+    );
+    few = λ v' l'. omega (arith, h .second-few v' l', h .crossed .tips-few);
     whole = λ v' l' m'. rw (
       e,
       sum-ext (degreeAt ps v) _ _ (λ i li.
@@ -297,5 +295,5 @@ module _ (work : List ℕ) (w n : ℕ) (ps starts edges qs starts' edges' : List
     );
   }
 
-  pub node-room : (size : ℕ) → 65536 ≤ size → RowRoom work w n (nodePart starts edges v) qs starts' edges' size
+  pub node-room : (size : ℕ) → n * n ≤ size → RowRoom work w n (nodePart starts edges v) qs starts' edges' size
   node-room size k = record { row = node-row size k }

@@ -49,8 +49,8 @@ pub record Summable (work : List ℕ) (n : ℕ) (ps qs : List ℕ) : Type 0 wher
   pub second : Parents qs
   pub some : (2 ≤ length ps) × (2 ≤ length qs)
   pub crossed : Crossed work (length ps - 1) (length qs - 1) n
-  pub first-few : (v : ℕ) → v < length ps → degreeAt ps v ≤ tipsMost
-  pub second-few : (v : ℕ) → v < length qs → degreeAt qs v ≤ tipsMost
+  pub first-few : (v : ℕ) → v < length ps → degreeAt ps v ≤ n
+  pub second-few : (v : ℕ) → v < length qs → degreeAt qs v ≤ n
   pub first-whole : (v : ℕ) → v < length ps → 3 ≤ degreeAt ps v
       → sum (degreeAt ps v) (codeSize work (length qs - 1) n (edgeInto ps v)) ≤ tipsMost
   pub second-whole : (v : ℕ) → v < length qs → 3 ≤ degreeAt qs v
@@ -77,7 +77,7 @@ module _ (work : List ℕ) (n : ℕ) (ps qs : List ℕ) (h : Summable work n ps 
   first-sizes starts edges l = record {
     lists = l;
     room = omega arith;
-    few = h .first-few;
+    few = λ v l. omega (arith, h .first-few v l, h .crossed .tips-few);
     cell = λ r m. let a = row-start work _ _ n (h .crossed) r m (omega (arith, h .some)) in record {
       inside = a .0;
       low = a .1;
@@ -104,7 +104,7 @@ module _ (work : List ℕ) (n : ℕ) (ps qs : List ℕ) (h : Summable work n ps 
   second-sizes starts edges l = record {
     lists = l;
     room = omega arith;
-    few = h .second-few;
+    few = λ v l. omega (arith, h .second-few v l, h .crossed .tips-few);
     cell = column-cell;
     whole = h .second-whole;
     all = h .second-most;

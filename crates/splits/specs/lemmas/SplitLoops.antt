@@ -20,16 +20,9 @@ use Rattle.sums.specs.theorems.TestLaws.{some-iff}
 use Rattle.sums.specs.theorems.Products.{product-le}
 use Rattle.sums.specs.Counts.{count}
 use Rattle.sums.specs.theorems.CountLaws.{count-le, count-none, count-pos}
-use Rattle.tree_check.specs.Table.{word}
-use Rattle.tree_pairs.specs.lemmas.EdgeRows.{aboveIn, EarlierParents, parent-word}
+use Rattle.tree_pairs.specs.lemmas.EdgeRows.{EdgeRoom}
 
 -- ---- room
-
--- `cells` cells hold the sizes of the edges, `step` cells apart
-pub record EdgeRoom (cells step : ℕ) (ps : List ℕ) : Type 0 where
-  pub parents : EarlierParents ps
-  pub narrow : step ≤ nodeRoom
-  pub inside : (i : ℕ) → i < length ps - 1 → i * step < cells
 
 -- `cells` cells hold the rows
 pub record RowsRoom (cells width : ℕ) (ps : List ℕ) : Type 0 where
@@ -41,27 +34,6 @@ pub record RowRoom (cells base width : ℕ) : Type 0 where
   pub low : base ≤ workRoom
   pub narrow : width ≤ nodeRoom
   pub inside : base + width ≤ cells
-
--- row i + 1 and that of the edge above, `up`, begin where there are cells
-pub record EdgeCells (cells step : ℕ) (ps : List ℕ) (i up : ℕ) : Type 0 where
-  pub low : ((i + 1) * step ≤ workRoom) × (up * step ≤ workRoom)
-  pub inside : ((i + 1) * step < cells) × (up * step < cells)
-  pub above : up ≡ aboveIn ps (i + 1)
-
-pub edge-cells : (cells step : ℕ) (ps : List ℕ) → EdgeRoom cells step ps → (i up : ℕ) → i < length ps - 2
-    → up ≡ word ps (i + 2) - 1 → EdgeCells cells step ps i up
-edge-cells cells step ps a i up l e =
-    let w = parent-word ps (a .parents) i l in
-    let below : up < length ps - 1 = omega (arith, w .0, w .1) in
-    let d : i + 1 + 1 ≡ i + 2 = omega arith in
-    record {
-      low = (start (i + 1) (omega arith), start up below);
-      inside = (a .inside (i + 1) (omega arith), a .inside up below);
-      above = rw d e;
-    }
-  where
-    start : (r : ℕ) → r < length ps - 1 → r * step ≤ workRoom
-    start r m = omega (arith, product-le nodeRoom nodeRoom r step (omega (arith, a .parents .few)) (a .narrow))
 
 pub row-room : (cells width : ℕ) (ps : List ℕ) → EdgeRoom cells width ps → RowsRoom cells width ps → (i : ℕ)
     → i < length ps - 2 → RowRoom cells ((i + 1) * width) width

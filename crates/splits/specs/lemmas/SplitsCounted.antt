@@ -19,11 +19,11 @@ use Rattle.pair_check.specs.PairOrder.{PairWithCells, pairOrder}
 use Rattle.pair_check.specs.theorems.PairCheck.{pair-check}
 use Rattle.tree_pairs.specs.Crossings.{crossed, afterCrossings}
 use Rattle.tree_pairs.specs.theorems.CrossingLaws.{cell-inside, crossed-length}
-use Rattle.tree_pairs.specs.lemmas.EdgeRows.{earlier-parents}
+use Rattle.tree_pairs.specs.lemmas.EdgeRows.{EdgeRoom, earlier-parents}
 use Rattle.tree_pairs.specs.lemmas.LentTables.{lentParents, to-lent, of-lent}
 use Rattle.splits.specs.lemmas.SplitCells.{edgeSplits, commonRows}
 use Rattle.splits.specs.lemmas.SplitCells.{row-splits, column-splits, common-rows}
-use Rattle.splits.specs.lemmas.SplitLoops.{EdgeRoom, RowsRoom}
+use Rattle.splits.specs.lemmas.SplitLoops.{RowsRoom}
 use Rattle.splits.specs.SplitAnswer.{splitsOfPair, refusedSplits, splitAnswer}
 
 -- ---- the two answers

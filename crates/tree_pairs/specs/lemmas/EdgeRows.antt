@@ -6,8 +6,9 @@ use Prim.Native.Nat.{ℕ, suc, _+_, _*_, _-_, _≤_, _<_}
 use native.Mathlib.Numerals.{add-one}
 use native.Mathlib.Omega.{arith}
 use lib.ListN.{length}
-use Rattle.table_words.specs.Sizes.{nodeRoom}
+use Rattle.table_words.specs.Sizes.{nodeRoom, workRoom}
 use Rattle.sums.specs.Counts.{count}
+use Rattle.sums.specs.theorems.Products.{product-le}
 use Rattle.tree_check.specs.Table.{Table, word, tips, nodes, parents, parent, beyond}
 use Rattle.tree_check.specs.IsTree.{IsTree}
 use Rattle.tree_check.specs.lemmas.TableParts.{parents-length}
@@ -34,6 +35,35 @@ parent-word ps r i l =
 -- the size of the edge of row i, with `step` cells from one size to the next
 abbrev pub sizeAt : List ℕ → ℕ → ℕ → ℕ
 sizeAt work step i = word work (i * step)
+
+-- ---- where there are cells
+
+-- `cells` cells hold the sizes of the edges, `step` cells apart
+pub record EdgeRoom (cells step : ℕ) (ps : List ℕ) : Type 0 where
+  pub parents : EarlierParents ps
+  pub narrow : step ≤ nodeRoom
+  pub inside : (i : ℕ) → i < length ps - 1 → i * step < cells
+
+-- row i + 1 and that of the edge above, `up`, begin where there are cells
+pub record EdgeCells (cells step : ℕ) (ps : List ℕ) (i up : ℕ) : Type 0 where
+  pub low : ((i + 1) * step ≤ workRoom) × (up * step ≤ workRoom)
+  pub inside : ((i + 1) * step < cells) × (up * step < cells)
+  pub above : up ≡ aboveIn ps (i + 1)
+
+pub edge-cells : (cells step : ℕ) (ps : List ℕ) → EdgeRoom cells step ps → (i up : ℕ) → i < length ps - 2
+    → up ≡ word ps (i + 2) - 1 → EdgeCells cells step ps i up
+edge-cells cells step ps a i up l e =
+    let w = parent-word ps (a .parents) i l in
+    let below : up < length ps - 1 = omega (arith, w .0, w .1) in
+    let d : i + 1 + 1 ≡ i + 2 = omega arith in
+    record {
+      low = (start (i + 1) (omega arith), start up below);
+      inside = (a .inside (i + 1) (omega arith), a .inside up below);
+      above = rw d e;
+    }
+  where
+    start : (r : ℕ) → r < length ps - 1 → r * step ≤ workRoom
+    start r m = omega (arith, product-le nodeRoom nodeRoom r step (omega (arith, a .parents .few)) (a .narrow))
 
 -- ---- of a table
 

@@ -5,21 +5,19 @@ use mathlib.Core.List.{List}
 use Prim.Native.Nat.{ℕ, zero, suc, _+_, _*_, _-_, _≤_, _<_}
 use native.Mathlib.Omega.{arith}
 use lib.ListN.{length}
-use Rattle.table_words.specs.Sizes.{nodeRoom, workRoom}
+use Rattle.table_words.specs.Sizes.{nodeRoom}
 use Rattle.sums.specs.Sum.{sum}
 use Rattle.sums.specs.theorems.SumLaws.{sum-mono, sum-const}
 use Rattle.sums.specs.theorems.Products.{product-le}
 use Rattle.shapes.specs.theorems.TripletCounts.{edgeTerm}
 use Rattle.tree_check.specs.Table.{word}
-use Rattle.tree_pairs.specs.lemmas.EdgeRows.{aboveIn, EarlierParents, parent-word, sizeAt}
+use Rattle.tree_pairs.specs.lemmas.EdgeRows.{aboveIn, EdgeRoom, EdgeCells, edge-cells, parent-word, sizeAt}
 
 -- ---- sizes
 
 -- the sizes are `step` cells apart, and none is above its parent's
 pub record SizeCells (work : List ℕ) (step : ℕ) (ps : List ℕ) : Type 0 where
-  pub parents : EarlierParents ps
-  pub narrow : step ≤ nodeRoom
-  pub inside : (i : ℕ) → i < length ps - 1 → i * step < length work
+  pub room : EdgeRoom (length work) step ps
   pub low : (i : ℕ) → 1 ≤ i → i < length ps - 1 → sizeAt work step i ≤ sizeAt work step (aboveIn ps i)
   pub most : (i : ℕ) → i < length ps - 1 → sizeAt work step i ≤ 256
 
@@ -59,34 +57,26 @@ edge-term-most s p l m =
 pub sum-most : (k b : ℕ) (f : ℕ → ℕ) → ((q : ℕ) → q < k → f q ≤ b) → sum k f ≤ k * b
 sum-most k b f h = omega (arith, sum-mono k f (λ q. b) h, sum-const k b)
 
--- the cells of an edge, whose parent's is in row `up`
-pub record EdgeCells (work : List ℕ) (step : ℕ) (ps : List ℕ) (i up : ℕ) : Type 0 where
-  pub low : ((i + 1) * step ≤ workRoom) × (up * step ≤ workRoom)
-  pub inside : ((i + 1) * step < length work) × (up * step < length work)
+-- the sizes of an edge and of its parent's, which is in row `up`
+pub record EdgeSizes (work : List ℕ) (step : ℕ) (ps : List ℕ) (i up : ℕ) : Type 0 where
+  pub cells : EdgeCells (length work) step ps i up
   pub sizes : (sizeAt work step (i + 1) ≤ sizeAt work step up) × (sizeAt work step up ≤ 256)
   pub term : edgeTerm (sizeAt work step (i + 1)) (sizeAt work step up)
       ≡ edgeTerm (sizeAt work step (i + 1)) (sizeAt work step (aboveIn ps (i + 1)))
 
 module _ (work : List ℕ) (step : ℕ) (ps : List ℕ) (h : SizeCells work step ps) where
-  pub edge-cells : (i up : ℕ) → i < length ps - 2 → up ≡ word ps (i + 2) - 1 → EdgeCells work step ps i up
-  edge-cells i up l e =
-      let w = parent-word ps (h .parents) i l in
-      let below : up < length ps - 1 = omega (arith, w .0, w .1) in
+  pub edge-sizes : (i up : ℕ) → i < length ps - 2 → up ≡ word ps (i + 2) - 1 → EdgeSizes work step ps i up
+  edge-sizes i up l e =
+      let c = edge-cells (length work) step ps (h .room) i up l e in
+      let w = parent-word ps (h .room .parents) i l in
       record {
-        low = (start (i + 1) (omega arith), start up below);
-        inside = (h .inside (i + 1) (omega arith), h .inside up below);
+        cells = c;
         sizes = (
-          rw same (h .low (i + 1) (omega arith) (omega arith)),
-          h .most up below,
+          rw (c .above) (h .low (i + 1) (omega arith) (omega arith)),
+          h .most up (omega (arith, w .0, w .1)),
         );
-        term = rw same refl;
+        term = rw (c .above) refl;
       }
-    where
-      start : (r : ℕ) → r < length ps - 1 → r * step ≤ workRoom
-      start r m = omega (arith, product-le nodeRoom nodeRoom r step (omega (arith, h .parents .few)) (omega (arith, h .narrow)))
-
-      same : up ≡ aboveIn ps (i + 1)
-      same = let d : i + 1 + 1 ≡ i + 2 = omega arith in rw d e
 
   -- the sum over the first i edges
   pub edges-low : (i : ℕ) → i ≤ length ps - 2
@@ -94,11 +84,11 @@ module _ (work : List ℕ) (step : ℕ) (ps : List ℕ) (h : SizeCells work step
   edges-low i l = omega (
     arith,
     sum-most i 16777216 _ (λ j m. at j (omega arith)),
-    product-le nodeRoom 16777216 i 16777216 (omega (arith, h .parents .few)) (omega arith),
+    product-le nodeRoom 16777216 i 16777216 (omega (arith, h .room .parents .few)) (omega arith),
   )
     where
       at : (j : ℕ) → j < length ps - 2
           → edgeTerm (sizeAt work step (j + 1)) (sizeAt work step (aboveIn ps (j + 1))) ≤ 16777216
       at j m =
-          let a = edge-cells j (word ps (j + 2) - 1) m refl in
+          let a = edge-sizes j (word ps (j + 2) - 1) m refl in
           rw (a .term) at (edge-term-most _ _ (a .sizes .0) (a .sizes .1))

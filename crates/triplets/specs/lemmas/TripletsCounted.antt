@@ -250,9 +250,11 @@ module _ (t u : Table) (work : List ℕ) (p : PairWithCells t u (length work)) w
 
   pub first-sizes : SizeCells (crossed t u work) (length (parents u) - 1) (parents t)
   first-sizes = record {
-    parents = earlier-parents t g;
-    narrow = omega (arith, long', few);
-    inside = λ i l. rw (long', crossed-length t u work (p .room)) (inside i (omega (arith, long)));
+    room = record {
+      parents = earlier-parents t g;
+      narrow = omega (arith, long', few);
+      inside = λ i l. rw (long', crossed-length t u work (p .room)) (inside i (omega (arith, long)));
+    };
     low = low;
     most = λ i l. omega (arith, row-size-is i (omega (arith, long)), size-few t (suc i));
   }
@@ -272,9 +274,11 @@ module _ (t u : Table) (work : List ℕ) (p : PairWithCells t u (length work)) w
 
   pub second-sizes : SizeCells (crossed t u work) 1 (parents u)
   second-sizes = record {
-    parents = earlier-parents u h;
-    narrow = omega arith;
-    inside = λ i l. rw (crossed-length t u work (p .room)) (inside i (omega (arith, long')));
+    room = record {
+      parents = earlier-parents u h;
+      narrow = omega arith;
+      inside = λ i l. rw (crossed-length t u work (p .room)) (inside i (omega (arith, long')));
+    };
     low = low;
     most = λ i l. omega (arith, size-of-column t u g h e work i (omega (arith, long')), size-few u (suc i));
   }

@@ -7,7 +7,7 @@ use lib.ListN.{length}
 use Rattle.node_pairs.specs.theorems.Cells.{pairS2, pairS3}
 use Rattle.tree_check.specs.Table.{word}
 use Rattle.claims.specs.lemmas.CodeCells.{codeCell}
-use Rattle.claims.specs.lemmas.PairLoops.{NodePair, few-S2, few-S3, block-room, filled-block, filled-S2, filled-S3}
+use Rattle.claims.specs.lemmas.PairLoops.{NodePair, few-S2, few-S3, filled-block, filled-S2, filled-S3}
 use borrow.Author.Needs.{needs}
 use Rattle.claims.proofs.node_pair.node_pair.Statement.{statement}
 use Rattle.claims.proofs.node_pair.node_pair.Tie as tie
@@ -61,7 +61,7 @@ returns-2 c =
 fill-block-requires : tie.Need-fill-block-requires
 fill-block-requires c κs =
     let p = pair (c .before .before) in
-    (p .edges, block-room _ _ _ _ _ _ p)
+    (p .edges, p .room)
 
 block-terms-requires : tie.Need-block-terms-requires
 block-terms-requires c κs =

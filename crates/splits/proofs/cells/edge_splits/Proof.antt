@@ -6,9 +6,9 @@ use Prim.Native.Nat.{ℕ, _+_, _-_, _≤_}
 use native.Mathlib.Omega.{arith}
 use lib.ListN.{length}
 use Rattle.sums.specs.Counts.{count}
-use Rattle.tree_pairs.specs.lemmas.EdgeRows.{sizeAt, parent-word}
+use Rattle.tree_pairs.specs.lemmas.EdgeRows.{sizeAt, parent-word, EdgeCells, edge-cells}
 use Rattle.splits.specs.lemmas.SplitCells.{newSize, newEdge, edgeSplits}
-use Rattle.splits.specs.lemmas.SplitLoops.{EdgeCells, edge-cells, count-start, count-hit, count-miss, count-few}
+use Rattle.splits.specs.lemmas.SplitLoops.{count-start, count-hit, count-miss, count-few}
 use borrow.Author.Needs.{needs}
 use Rattle.splits.proofs.cells.edge_splits.Statement.{statement}
 use Rattle.splits.proofs.cells.edge_splits.Tie as tie

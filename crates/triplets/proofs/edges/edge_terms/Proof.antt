@@ -9,7 +9,7 @@ use Rattle.sums.specs.theorems.SumLaws.{sum-step}
 use Rattle.shapes.specs.theorems.TripletCounts.{edgeTerm}
 use Rattle.tree_pairs.specs.lemmas.EdgeRows.{aboveIn, sizeAt, parent-word}
 use Rattle.triplets.specs.lemmas.EdgeSums.{edgeSum, sum-start, edge-term-most}
-use Rattle.triplets.specs.lemmas.EdgeSums.{EdgeCells, edge-cells, edges-low}
+use Rattle.triplets.specs.lemmas.EdgeSums.{EdgeSizes, edge-sizes, edges-low}
 use borrow.Author.Needs.{needs}
 use Rattle.triplets.proofs.edges.edge_terms.Statement.{statement}
 use Rattle.triplets.proofs.edges.edge_terms.Tie as tie
@@ -38,10 +38,10 @@ turn c = read c .before .before
 -- the cells of the edge
 cells : (c : tie.After-as-index Inv-loop μ-loop)
     → (let s = start (c .before .before) .args in
-    EdgeCells (s .work .now) (s .step) (s .parents .now) (c .before .before .before .loop .i) (c .as-index .result - 1))
+    EdgeSizes (s .work .now) (s .step) (s .parents .now) (c .before .before .before .loop .i) (c .as-index .result - 1))
 cells c =
     let l = c .before .before in
-    edge-cells _ _ _ (start l .pre) _ _ (l .loop-test .taken) (ap (λ (x : ℕ). x - 1) (c .as-index .ensures .0))
+    edge-sizes _ _ _ (start l .pre) _ _ (l .loop-test .taken) (ap (λ (x : ℕ). x - 1) (c .as-index .ensures .0))
 
 -- the term that is added
 term : (c : tie.After-edge-term Inv-loop μ-loop)
@@ -82,31 +82,31 @@ as-index-requires c κs = search needs
 sub-above : tie.Need-sub-above Inv-loop μ-loop
 sub-above c =
     let l = c .before .before in
-    omega (arith, c .as-index .ensures .0, parent-word _ (start l .pre .parents) _ (l .loop-test .taken) .0)
+    omega (arith, c .as-index .ensures .0, parent-word _ (start l .pre .room .parents) _ (l .loop-test .taken) .0)
 
 add-cell-count : tie.Need-add-cell-count Inv-loop μ-loop
 add-cell-count c = search needs
 
 mul-cell-count : tie.Need-mul-cell-count Inv-loop μ-loop
-mul-cell-count c = omega (arith, cells c .low .0)
+mul-cell-count c = omega (arith, cells c .cells .low .0)
 
 mul-cell-count-2 : tie.Need-mul-cell-count-2 Inv-loop μ-loop
-mul-cell-count-2 c = omega (arith, cells c .low .0)
+mul-cell-count-2 c = omega (arith, cells c .cells .low .0)
 
 shared-slice-read-cell-count : tie.Need-shared-slice-read-cell-count Inv-loop μ-loop
-shared-slice-read-cell-count c = omega (arith, cells (c .before) .inside .0)
+shared-slice-read-cell-count c = omega (arith, cells (c .before) .cells .inside .0)
 
 cell-count-requires : tie.Need-cell-count-requires Inv-loop μ-loop
 cell-count-requires c κs = search needs
 
 mul-cell-count-3 : tie.Need-mul-cell-count-3 Inv-loop μ-loop
-mul-cell-count-3 c = omega (arith, cells (c .before .before) .low .1)
+mul-cell-count-3 c = omega (arith, cells (c .before .before) .cells .low .1)
 
 mul-cell-count-4 : tie.Need-mul-cell-count-4 Inv-loop μ-loop
-mul-cell-count-4 c = omega (arith, cells (c .before .before) .low .1)
+mul-cell-count-4 c = omega (arith, cells (c .before .before) .cells .low .1)
 
 shared-slice-read-cell-count-2 : tie.Need-shared-slice-read-cell-count-2 Inv-loop μ-loop
-shared-slice-read-cell-count-2 c = omega (arith, cells (c .before .before .before) .inside .1)
+shared-slice-read-cell-count-2 c = omega (arith, cells (c .before .before .before) .cells .inside .1)
 
 cell-count-requires-2 : tie.Need-cell-count-requires-2 Inv-loop μ-loop
 cell-count-requires-2 c κs = search needs
