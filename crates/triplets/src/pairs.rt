@@ -1,5 +1,7 @@
 // What pairs of edges add to twice A and to B.
+use super::columns::list_columns;
 use table_words::Cell;
+use table_words::NODES;
 use table_words::as_index;
 use table_words::cell_count;
 ghost use mathlib.Core.Path.{_≡_};
@@ -7,8 +9,11 @@ ghost use Prim.Native.Nat.{_≤_, _<_, _-_};
 ghost use lib.ListN.{length};
 ghost use Rattle.shapes.specs.theorems.TripletCounts.{alikeTerm, apartTerm};
 ghost use Rattle.triplets.specs.lemmas.PairCells.{Nested, CrossedCells, alikeRow, apartRow, alikeSum, apartSum};
-ghost use Rattle.triplets.specs.lemmas.ListedColumns.{Listed};
+ghost use Rattle.triplets.specs.lemmas.ListedColumns.{ColumnRoom, Listed};
 ghost use Rattle.triplets.specs.lemmas.ListedRows.{FourCells, RowCells, alikeAt, apartAt, alikeListed, apartListed};
+
+// Few nodes.
+const FEW: usize = 128;
 
 // What pairs of edges add to twice A, and to B.
 pub(crate) struct PairTerms {
@@ -107,7 +112,7 @@ fn row_sums(
 }
 
 // All rows from the second on.
-pub(crate) fn pair_terms(
+fn pair_terms(
     work: &[Cell],
     first_parents: &[u16],
     second_parents: &[u16],
@@ -143,4 +148,55 @@ pub(crate) fn pair_terms(
         i += 1;
     }
     PairTerms { alike, apart }
+}
+
+// The same, with the columns listed in `columns` and `above`.
+fn listed_sums(
+    work: &[Cell],
+    first_parents: &[u16],
+    second_parents: &[u16],
+    columns: &mut [usize],
+    above: &mut [usize],
+) -> PairTerms
+    requires { ⌜
+        CrossedCells (now work) (now «first_parents») (now «second_parents»)
+        × ColumnRoom (now work) (now «second_parents») (now columns) (now above)
+        ⌝ }
+    ensures { λ r. ⌜
+        (r .alike ≡ alikeSum (now (work .entry)) (now («first_parents» .entry)) (now («second_parents» .entry)))
+        × (r .apart ≡ apartSum (now (work .entry)) (now («first_parents» .entry)) (now («second_parents» .entry)))
+        ⌝ }
+{
+    let count = list_columns(work, second_parents, columns, above);
+    pair_terms(work, first_parents, second_parents, columns, above, count)
+}
+
+// The same. Where the second tree has few nodes, short lists are enough.
+pub(crate) fn pair_sums(work: &[Cell], first_parents: &[u16], second_parents: &[u16]) -> PairTerms
+    requires { ⌜ CrossedCells (now work) (now «first_parents») (now «second_parents») ⌝ }
+    ensures { λ r. ⌜
+        (r .alike ≡ alikeSum (now (work .entry)) (now («first_parents» .entry)) (now («second_parents» .entry)))
+        × (r .apart ≡ apartSum (now (work .entry)) (now («first_parents» .entry)) (now («second_parents» .entry)))
+        ⌝ }
+{
+    if second_parents.len() <= FEW {
+        let mut columns = [0usize; FEW];
+        let mut above = [0usize; FEW];
+        return listed_sums(
+            work,
+            first_parents,
+            second_parents,
+            &mut columns,
+            &mut above,
+        );
+    }
+    let mut columns = [0usize; NODES];
+    let mut above = [0usize; NODES];
+    listed_sums(
+        work,
+        first_parents,
+        second_parents,
+        &mut columns,
+        &mut above,
+    )
 }

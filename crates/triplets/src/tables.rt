@@ -1,11 +1,9 @@
 // The triplet table of two trees.
-use super::columns::list_columns;
 use super::edges::edge_terms;
-use super::pairs::pair_terms;
+use super::pairs::pair_sums;
 use pair_check::CheckedPair;
 use pair_check::pair_refusal;
 use table_words::Cell;
-use table_words::NODES;
 use table_words::as_count;
 use tree_pairs::cross_pair;
 ghost use mathlib.Core.Path.{_≡_};
@@ -74,10 +72,7 @@ fn count_triplets(
 {
     let first = edge_terms(work, second_parents.len() - 1, first_parents);
     let second = edge_terms(work, 1, second_parents);
-    let mut columns = [0usize; NODES];
-    let mut above = [0usize; NODES];
-    let count = list_columns(work, second_parents, &mut columns, &mut above);
-    let pairs = pair_terms(work, first_parents, second_parents, &columns, &above, count);
+    let pairs = pair_sums(work, first_parents, second_parents);
     form_table(first, second, pairs.alike, pairs.apart, n)
 }
 

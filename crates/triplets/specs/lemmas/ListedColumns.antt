@@ -8,7 +8,6 @@ use native.Mathlib.Omega.{arith}
 use lib.Dec.{leb}
 use lib.ListN.{length, set, length-set}
 use lib.Seq.{getD-set-same, getD-set-other}
-use Rattle.table_words.specs.Sizes.{nodeRoom}
 use Rattle.sums.specs.Sum.{sum}
 use Rattle.sums.specs.theorems.SumLaws.{sum-ext, sum-next}
 use Rattle.sums.specs.Bits.{bit}
@@ -21,8 +20,8 @@ use Rattle.tree_pairs.specs.lemmas.EdgeRows.{aboveIn, EarlierParents}
 pub record ColumnRoom (work qs columns above : List ℕ) : Type 0 where
   pub parents : EarlierParents qs
   pub inside : length qs - 1 ≤ length work
-  pub columns-long : length columns ≡ nodeRoom
-  pub above-long : length above ≡ nodeRoom
+  pub columns-long : length qs ≤ length columns
+  pub above-long : length qs ≤ length above
 
 -- a column from the second on, and its parent's
 pub record Place (qs : List ℕ) (l p : ℕ) : Type 0 where
@@ -37,8 +36,8 @@ isWide work l = bit (leb 2 (word work l))
 -- of the first j columns from the second on, k are listed
 pub record ListedTo (work qs : List ℕ) (j k : ℕ) (columns above : List ℕ) : Type 0 where
   pub few : k ≤ j
-  pub columns-long : length columns ≡ nodeRoom
-  pub above-long : length above ≡ nodeRoom
+  pub columns-long : length qs ≤ length columns
+  pub above-long : length qs ≤ length above
   pub places : (q : ℕ) → q < k → Place qs (word columns q) (word above q)
   -- they are those that have two labels or more
   pub sums : (F : ℕ → ℕ → ℕ)
@@ -51,7 +50,7 @@ Listed work qs k columns above = ListedTo work qs (length qs - 2) k columns abov
 
 -- ---- column after column
 
-pub listed-none : (work qs columns above : List ℕ) → length columns ≡ nodeRoom → length above ≡ nodeRoom
+pub listed-none : (work qs columns above : List ℕ) → length qs ≤ length columns → length qs ≤ length above
     → ListedTo work qs 0 0 columns above
 unfolding sum
 listed-none work qs columns above e f = record {
@@ -62,11 +61,8 @@ listed-none work qs columns above e f = record {
   sums = λ F. refl;
 }
 
-module _ (work qs : List ℕ) (r : EarlierParents qs) (j k : ℕ) (columns above : List ℕ)
+module _ (work qs : List ℕ) (j k : ℕ) (columns above : List ℕ)
     (h : ListedTo work qs j k columns above) (m : j < length qs - 2) (l p : ℕ) (el : l ≡ j + 1) (ep : p ≡ word qs (j + 2) - 1) where
-  room : k < nodeRoom
-  room = omega (arith, h .few, r .few)
-
   -- what was listed stays
   same-column : (q : ℕ) → q < k → word (set columns k l) q ≡ word columns q
   same-column q d = getD-set-other columns k q l 0 (λ e. omega arith)
@@ -76,10 +72,10 @@ module _ (work qs : List ℕ) (r : EarlierParents qs) (j k : ℕ) (columns above
 
   -- the column itself
   last-column : word (set columns k l) k ≡ l
-  last-column = getD-set-same columns k l 0 (omega (arith, room, h .columns-long))
+  last-column = getD-set-same columns k l 0 (omega (arith, h .few, h .columns-long))
 
   last-above : word (set above k p) k ≡ p
-  last-above = getD-set-same above k p 0 (omega (arith, room, h .above-long))
+  last-above = getD-set-same above k p 0 (omega (arith, h .few, h .above-long))
 
   parent-is : p ≡ aboveIn qs l
   parent-is = ep ∙ ap (λ (i : ℕ). word qs i - 1) (omega (arith, el))
@@ -96,8 +92,8 @@ module _ (work qs : List ℕ) (r : EarlierParents qs) (j k : ℕ) (columns above
   pub listed-skip : word work (j + 1) < 2 → ListedTo work qs (j + 1) k (set columns k l) (set above k p)
   listed-skip one = record {
     few = omega (arith, h .few);
-    columns-long = length-set columns k l ∙ h .columns-long;
-    above-long = length-set above k p ∙ h .above-long;
+    columns-long = omega (arith, length-set columns k l, h .columns-long);
+    above-long = omega (arith, length-set above k p, h .above-long);
     places = kept-places;
     sums = λ F. kept-sum F ∙ sym (sum-next j _ ∙ omega (arith, ap (λ (x : ℕ). x * F (j + 1) (aboveIn qs (j + 1))) narrow));
   }
@@ -109,8 +105,8 @@ module _ (work qs : List ℕ) (r : EarlierParents qs) (j k : ℕ) (columns above
   pub listed-more : 2 ≤ word work (j + 1) → ListedTo work qs (j + 1) (k + 1) (set columns k l) (set above k p)
   listed-more two = record {
     few = omega (arith, h .few);
-    columns-long = length-set columns k l ∙ h .columns-long;
-    above-long = length-set above k p ∙ h .above-long;
+    columns-long = omega (arith, length-set columns k l, h .columns-long);
+    above-long = omega (arith, length-set above k p, h .above-long);
     places = λ q d. elim (ℕ-discrete q k) [
       | yes e ↦ rw (e, last-column, last-above) (record {
         later = omega (arith, el);

@@ -21,7 +21,7 @@ use Rattle.tree_pairs.specs.lemmas.EdgeRows.{aboveIn}
 use Rattle.triplets.specs.lemmas.EdgeSums.{sum-most}
 use Rattle.triplets.specs.lemmas.PairCells.{Nested, CrossedCells, alikeCell, apartCell, alikeRow, apartRow}
 use Rattle.triplets.specs.lemmas.PairCells.{alike-most, apart-most, alike-column-none, apart-column-zero}
-use Rattle.triplets.specs.lemmas.ListedColumns.{Listed, isWide}
+use Rattle.triplets.specs.lemmas.ListedColumns.{ColumnRoom, Listed, isWide}
 
 -- ---- a row with listed columns: the row begins at base, its parent's at up
 
@@ -46,7 +46,7 @@ pub record FourCells (work : List ℕ) (base up l p : ℕ) : Type 0 where
 
 pub record RowCells (work : List ℕ) (base up : ℕ) (columns above : List ℕ) (k : ℕ) : Type 0 where
   pub few : k ≤ nodeRoom
-  pub long : (length columns ≡ nodeRoom) × (length above ≡ nodeRoom)
+  pub long : (k ≤ length columns) × (k ≤ length above)
   pub four : (q : ℕ) → q < k → FourCells work base up (word columns q) (word above q)
 
 -- ---- the cells as they are read
@@ -152,7 +152,7 @@ module _ (work ps qs : List ℕ) (h : CrossedCells work ps qs) (row : ℕ) (l1 :
     pub row-cells : RowCells work (row * (length qs - 1)) (aboveIn ps row * (length qs - 1)) columns above k
     row-cells = record {
       few = omega (arith, s .few, h .second .few);
-      long = (s .columns-long, s .above-long);
+      long = (omega (arith, s .few, s .columns-long), omega (arith, s .few, s .above-long));
       four = λ q m. let a = s .places q m in rw (a .parent) (four-cells _ (a .later) (a .column));
     }
 
@@ -215,3 +215,17 @@ module _ (work ps qs : List ℕ) (h : CrossedCells work ps qs) where
     where
       few : i ≤ nodeRoom
       few = omega (arith, h .first .few)
+
+-- ---- room for the lists
+
+pub column-room : (work ps qs columns above : List ℕ) → CrossedCells work ps qs
+    → length qs ≤ length columns → length qs ≤ length above → ColumnRoom work qs columns above
+column-room work ps qs columns above h ec ea = record {
+  parents = h .second;
+  inside = omega (arith, h .inside, rows);
+  columns-long = ec;
+  above-long = ea;
+}
+  where
+    rows : 1 * (length qs - 1) ≤ (length ps - 1) * (length qs - 1)
+    rows = mul-le-mul-right (length qs - 1) (omega (arith, h .first .some))

@@ -71,18 +71,6 @@ module _ (work : List ℕ) (n : ℕ) (ps qs : List ℕ) (a b c d : ℕ) (ea : a 
   counted-is = rw (ea, eb, ec, ed) refl
 
 -- there is room to list the columns
-pub column-room : (work : List ℕ) (n : ℕ) (ps qs columns above : List ℕ) → Countable work n ps qs
-    → length columns ≡ nodeRoom → length above ≡ nodeRoom → ColumnRoom work qs columns above
-column-room work n ps qs columns above h ec ea = record {
-  parents = h .cells .second;
-  inside = omega (arith, h .cells .inside, rows);
-  columns-long = ec;
-  above-long = ea;
-}
-  where
-    rows : 1 * (length qs - 1) ≤ (length ps - 1) * (length qs - 1)
-    rows = mul-le-mul-right (length qs - 1) (omega (arith, h .cells .first .some))
-
 -- ---- the cells of two tables
 
 module _ (t u : Table) (work : List ℕ) (p : PairWithCells t u (length work)) where

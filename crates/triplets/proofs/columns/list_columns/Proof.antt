@@ -2,9 +2,9 @@
 -- Assumes nothing.
 use mathlib.Core.Path.{_≡_, refl, sym, _∙_, ap}
 use mathlib.Core.Logic.{⊎-elim}
-use Prim.Native.Nat.{ℕ, _-_, _≤_, _<_}
+use Prim.Native.Nat.{ℕ, _+_, _-_, _≤_, _<_}
 use native.Mathlib.Omega.{arith}
-use lib.ListN.{length}
+use lib.ListN.{length, length-set}
 use Rattle.table_words.specs.Sizes.{nodeRoom}
 use Rattle.tree_pairs.specs.lemmas.EdgeRows.{parent-word}
 use Rattle.triplets.specs.lemmas.ListedColumns.{ListedTo, listed-none, listed-skip, listed-more}
@@ -14,7 +14,8 @@ use Rattle.triplets.proofs.columns.list_columns.Tie as tie
 
 abbrev Inv-loop : tie.InvT-loop
 Inv-loop work parents columns₀ above₀ last count₀ i₀ columns above count i =
-    (i ≤ last) × ListedTo work parents i count columns above
+    (i ≤ last) × ListedTo work parents i count columns above × (length columns ≡ length columns₀)
+    × (length above ≡ length above₀)
 
 abbrev μ-loop : tie.MeasureT-loop
 μ-loop work parents columns₀ above₀ last count₀ i₀ columns above count i = last - i
@@ -39,7 +40,7 @@ sub-last c = search needs
 loop-holds : tie.Need-loop-holds Inv-loop μ-loop
 loop-holds c =
     let s = c .before .before .before .before .pre in
-    (omega arith, listed-none _ _ _ _ (s .columns-long) (s .above-long))
+    (omega arith, listed-none _ _ _ _ (s .columns-long) (s .above-long), refl, refl)
 
 add-columns : tie.Need-add-columns Inv-loop μ-loop
 add-columns c = search needs
@@ -48,7 +49,7 @@ mul-columns : tie.Need-mul-columns Inv-loop μ-loop
 mul-columns c = omega (arith, room c)
 
 slice-write-columns : tie.Need-slice-write-columns Inv-loop μ-loop
-slice-write-columns c = omega (arith, room c, c .before .loop .inv .1 .columns-long)
+slice-write-columns c = omega (arith, c .before .loop .inv .1 .few, c .before .loop .inv .1 .columns-long, c .loop-test .taken)
 
 add-as-index : tie.Need-add-as-index Inv-loop μ-loop
 add-as-index c = search needs
@@ -71,7 +72,9 @@ mul-above : tie.Need-mul-above Inv-loop μ-loop
 mul-above c = omega (arith, room (c .before .before))
 
 slice-write-above : tie.Need-slice-write-above Inv-loop μ-loop
-slice-write-above c = omega (arith, room (c .before .before), c .before .before .before .loop .inv .1 .above-long)
+slice-write-above c =
+    let l = c .before .before in
+    omega (arith, l .before .loop .inv .1 .few, l .before .loop .inv .1 .above-long, l .loop-test .taken)
 
 add-cell-count : tie.Need-add-cell-count Inv-loop μ-loop
 add-cell-count c = search needs
@@ -102,22 +105,24 @@ loop-again c =
     let up = ap (λ (x : ℕ). x - 1) (c .before .before .before .as-index .ensures .0) in (
       omega (arith, l .loop-test .taken),
       ⊎-elim
-          (λ w. rw (w .1) (listed-more _ _ (s .pre .parents) _ _ _ _ (i .inv .1) (l .loop-test .taken) _ _ refl up
+          (λ w. rw (w .1) (listed-more _ _ _ _ _ _ (i .inv .1) (l .loop-test .taken) _ _ refl up
           (omega (arith, c .before .cell-count .ensures .0, w .0 .taken))))
-          (λ w. rw (w .1) (listed-skip _ _ (s .pre .parents) _ _ _ _ (i .inv .1) (l .loop-test .taken) _ _ refl up
+          (λ w. rw (w .1) (listed-skip _ _ _ _ _ _ (i .inv .1) (l .loop-test .taken) _ _ refl up
           (omega (arith, c .before .cell-count .ensures .0, w .0 .left))))
           (c .if1 .came),
+      length-set {A = ℕ} (i .columns) (i .count) (i .i + 1) ∙ i .inv .2,
+      length-set {A = ℕ} (i .above) (i .count) (c .before .before .before .as-index .result - 1) ∙ i .inv .3,
     )
 
 same-length : tie.Need-same-length Inv-loop μ-loop
 same-length c =
     let l = c .before .loop in
-    l .inv .1 .columns-long ∙ sym (c .before .before .before .before .before .before .pre .columns-long)
+    l .inv .2
 
 same-length-2 : tie.Need-same-length-2 Inv-loop μ-loop
 same-length-2 c =
     let l = c .before .loop in
-    l .inv .1 .above-long ∙ sym (c .before .before .before .before .before .before .pre .above-long)
+    l .inv .3
 
 returns : tie.Need-returns Inv-loop μ-loop
 returns c =
