@@ -20,8 +20,10 @@ from collections.abc import Iterable
 
 sys.dont_write_bytecode = True
 from command_runs import ENVIRONMENT, LESKWYN, CommandTest, Run
-from cases.newick import Splits, Tree, caterpillar, random_names, random_tree, splits_from, star_text, written_tree
-from cases.tables import LABEL_TROUBLE, NUMBERS, P, Q, R, THREE, TWO, W, X, tree_refusal
+from cases.newick import (Splits, Tree, caterpillar, random_names, random_tree, splits_from, star_text, with_pass_through,
+                          written_tree)
+from cases.shapes import chain_places, random_table, randomly_chained, renumbered
+from cases.tables import LABEL_TROUBLE, NUMBERS, PASS_THROUGH, P, Q, R, THREE, TWO, W, X, table, tree_refusal
 from leskwyn.newick import Source, read_trees
 from leskwyn.tables import RULES, broken_rule, newick_text
 from leskwyn.trees import table_of
@@ -140,11 +142,11 @@ class ReferenceTables(TableTest):
         self.assertEqual((done.returncode, done.stdout, done.stderr), (0, packed(P, Q), b""))
 
     def test_two_tips(self) -> None:
-        for text in ("(A,B);(B,A);", "(A,(B));((((A))),B);", "((A,B));(((B,A)));"):
+        for text in ("(A,B);(B,A);", "((A,B));(((B,A)));"):
             self.assertEqual(self.converted(text), (TWO, TWO))
 
     def test_three_tips(self) -> None:
-        for text in ("(A,B,C);(A,(B,C));", "((A,B),C);((B,(A)),C);", "(B,A,C);((A,(B,C)));"):
+        for text in ("(A,B,C);(A,(B,C));", "((A,B),C);((B,A),C);", "(B,A,C);((A,(B,C)));"):
             self.assertEqual(self.converted(text), (THREE, THREE))
         swapped = [3, 4, 0, 0, 1, 1, 0, X, 2, 1]
         self.assertEqual(self.converted("(C,B,A);(A,C,B);"), (swapped, swapped))
@@ -203,11 +205,6 @@ class NewickForms(TableTest):
                      "((1,2)100,3);", "((1,2)1,3);", "((A,B)0.95,3);", "((A,B)0:1,3:2,C);"):
             self.assertEqual(self.run_here("-", stdin=text * 2).returncode, 0, text)
 
-    def test_nodes_with_one_child_vanish(self) -> None:
-        first = "((0, (((1)), (((2, ((3,4)) )x)y:1)) ));"
-        second = "(((0, (1, ((2,3,(4)))) )));"
-        self.assertEqual(self.converted(first + second), (P, Q))
-
     def test_deep_brackets(self) -> None:
         deep = 20000
         text = "(" * deep + "A" + ")" * deep
@@ -220,6 +217,104 @@ class NewickForms(TableTest):
         tables = self.converted(first + second)
         beyond = sorted([list(range(i, 256)) for i in range(1, 256)] + [[i] for i in range(1, 255)])
         self.assertEqual([edge_sets(table) for table in tables], [beyond, beyond])
+
+
+def note_of(place: str, count: int) -> str:
+    return f"leskwyn: note: pass-through nodes written as they stand in standard input, {place} tree: {count}\n"
+
+
+class PassThrough(TableTest):
+    """Nodes with one child."""
+
+    def assert_tables(self, text: str, first: list[int], second: list[int], notes: str, *arguments: str) -> None:
+        """The two tables of a text, and all that is said besides the list of labels."""
+        self.assertEqual([tree_refusal(first), tree_refusal(second)], [0, 0])
+        done = self.run_here("-", "--quiet", *arguments, stdin=text)
+        self.assertEqual((done.returncode, two_tables(done.stdout), done.stderr.decode()), (0, (first, second), notes), text)
+
+    def test_inside_a_tree(self) -> None:
+        """Above tips, above inner nodes, in chains, and above the tip labelled 0, where they are node 1 and the nodes after."""
+        above_a_tip = table(3, 5, [0, 0, 1, 2, 1], [0, X, X, 1, 2])
+        above_the_outgroup = table(3, 6, [0, 0, 1, 2, 3, 3], [0, X, X, X, 1, 2])
+        self.assert_tables("(A,(B),C);(((A)),B,C);", above_a_tip, above_the_outgroup, note_of("first", 1) + note_of("second", 2))
+        p = table(5, 13, [0, 0, 1, 2, 3, 1, 5, 6, 7, 7, 9, 10, 10], [0, X, X, X, 1, X, X, X, 2, X, X, 3, 4])
+        q = table(5, 9, [0, 0, 1, 1, 3, 4, 4, 4, 7], [0, X, 1, X, X, 2, 3, X, 4])
+        self.assert_tables("(0,((1)),(((2,((3,4)))x)y:1));(0,1,((2,3,(4):2)0.9:1));", p, q,
+                           note_of("first", 5) + note_of("second", 2))
+
+    def test_two_tips(self) -> None:
+        one, six = PASS_THROUGH[-2][0], PASS_THROUGH[-1][0]
+        for text in ("(A,(B));", "((A),B);"):
+            self.assert_tables(text + "(A,B);", one, TWO, note_of("first", 1))
+        for text in ("(A,((((((B)))))));", "(((((A)))),((B)));", "(((((((A)))))),B);"):
+            self.assert_tables("(A,B);" + text, TWO, six, note_of("second", 6))
+
+    def test_brackets_around_the_whole_tree_are_no_nodes(self) -> None:
+        self.assert_tables("(((0,(1,(2,(3,4))))));((((0,1,(2,3,4))x):1)y);", P, Q, "")
+
+    def test_the_place_of_the_root_is_no_node(self) -> None:
+        """A tree with the root at a node, and in the midst of an edge: one table, but for the order of its branches."""
+        expected = table(4, 8, [0, 0, 1, 2, 1, 4, 5, 5], [0, X, X, 1, X, X, 2, 3])
+        for text in ("(0,(1),((2,3)));", "(0,((1),((2,3))));", "((0,(1)),((2,3)));", "(((1),((2,3))),0);",
+                     "((0,((2,3))),(1));", "(((0,((2,3)))),1);", "(((0,(1))),(2,3));", "((2,3),((0,(1))));",
+                     "(2,(3,((0,(1)))));", "((2,((0,(1)))),3);", "(2,3,(((1),0)));"):
+            with self.subTest(text=text):
+                first, second = self.converted(text * 2, "--quiet")
+                self.assertEqual((first, first[:2], edge_sets(first)), (second, expected[:2], edge_sets(expected)))
+        self.assert_tables("(0,(1),((2,3)));(0,((1),((2,3))));", expected, expected, note_of("first", 2) + note_of("second", 2))
+
+    def test_too_many_for_a_table(self) -> None:
+        """4n nodes are the most. Beyond them the tree has none of its pass-through nodes, and the other tree keeps its own."""
+        above_a_tip = table(3, 5, [0, 0, 1, 1, 3], [0, X, 1, X, 2])
+        most = table(3, 12, [0, 0, *range(1, 9), 9, 9], [0, *[X] * 9, 1, 2])
+        for brackets, first, note in ((8, most, note_of("first", 8)),
+                                      (9, THREE, "leskwyn: note: pass-through nodes left out of standard input, first tree: 9; "
+                                                 "with them it has 13 nodes, and 4n = 12 are the most\n")):
+            text = "(" * brackets + "A" + ")" * brackets
+            for written in (f"({text},B,C);", f"({text},(B,C));", f"(({text},B,C));"):
+                self.assert_tables(written + "(A,B,(C));", first, above_a_tip, note + note_of("second", 1))
+        self.assert_tables("(A,(((((((B))))))));" + "((A),B);", TWO, PASS_THROUGH[-2][0],
+                           "leskwyn: note: pass-through nodes left out of standard input, first tree: 7; with them it has 9 "
+                           "nodes, and 4n = 8 are the most\n" + note_of("second", 1))
+
+    def test_common(self) -> None:
+        """What --common leaves with one child is taken out; what had one child before stands."""
+        said = "leskwyn: left out of standard input, first tree: 'x'\n"
+        one = table(3, 5, [0, 0, 1, 2, 2], [0, X, X, 1, 2])
+        two = table(3, 6, [0, 0, 1, 2, 3, 3], [0, X, X, X, 1, 2])
+        above_c = table(3, 5, [0, 0, 1, 1, 3], [0, X, 1, X, 2])
+        for text, first, count in (("((A,x),B,C);", THREE, 0), ("((((A,x))),B,C);", two, 2), ("(((x,(A))),B,C);", two, 2),
+                                   ("((x,((A))),B,C);", two, 2), ("((A),B,C,x);", one, 1), ("((A),B,C,((x)));", one, 1),
+                                   ("((((A),((x)))),B,C);", two, 2), ("(A,(x,(B,C)));", THREE, 0),
+                                   ("(x,(A,(B,C)));", THREE, 0), ("(x,((((A,B)),C)));", above_c, 1),
+                                   ("(x,(((A,B),C)));", THREE, 0), ("(((x),((((A),B),C))));", one, 1)):
+            with self.subTest(text=text):
+                self.assert_tables(text + "(A,B,C);", first, THREE, said + (note_of("first", count) if count else ""), "--common")
+
+    def test_shown_as_they_stand(self) -> None:
+        for (t, plain), text in zip(PASS_THROUGH, ("(0,(((((((4),3),2))),1)));", "(0,(((1),((2),(3),(4)))));",
+                                                   f"(0,{'(' * 7}(1,2,3,{'(' * 7}4{')' * 7}){')' * 7});", "(0,(1));",
+                                                   "(0,((((((1)))))));"), strict=True):
+            self.assertEqual(newick_text(t), text)
+            done = self.run_here("-", command="show", stdin=packed(t, plain))
+            self.assertEqual((done.returncode, done.stderr), (0, b""))
+            self.assertIn(text, done.stdout.decode().split("\n"))
+            again, _ = self.converted(text * 2, "--quiet")
+            self.assertEqual((again[:2], edge_sets(again)), (t[:2], edge_sets(t)))
+
+    def test_tables_shown_and_read_again(self) -> None:
+        """The same words, where the nodes are numbered depth first; the same edges, however they are numbered."""
+        rng, places = random.Random(19), set()
+        for case in range(400):
+            n = 2 + case % 14
+            table = randomly_chained(rng, random_table(rng, n))
+            self.assertEqual(tree_refusal(table), 0)
+            for t in (table, renumbered(table)):
+                again = table_of(read_trees(Source("test", newick_text(t)), 1)[0], {str(label): label for label in range(n)})
+                self.assertEqual((again[:2], edge_sets(again)), (t[:2], edge_sets(t)))
+            self.assertEqual(again, t)
+            places |= chain_places(table) | ({"4n nodes"} if table[1] == 4 * n else set())
+        self.assertEqual(places, {"node 1", "tip", "inner node", "chain", "4n nodes"})
 
 
 class Commands(TableTest):
@@ -563,30 +658,36 @@ class Limits(TableTest):
         self.assertNotIn(b"note", self.run_command("-", stdin=text).stderr)
 
 
+def with_up_to_4n_nodes(rng: random.Random, tree: Tree) -> Tree:
+    """The tree with some pass-through nodes, or with as many as a table may have."""
+    most = 4 * len(tree.name) - len(tree.joined)
+    return with_pass_through(rng, tree, rng.choice([0, rng.randint(0, most), most]))
+
+
 class RoundTrips(TableTest):
     def assert_round_trip(self, run: Run, trees: list[Tree], text: str, names: list[str], listed: bool) -> None:
-        """Two trees to a comparison file, to the texts of show, and to a comparison file again."""
+        """Two trees to a comparison file, to the texts of show, and to the same comparison file again."""
         arguments = ["--names", self.file("names", "\n".join(names))] if listed else ["--quiet"]
         order = names if listed else sorted(names, key=code_points)
         label = {name: i for i, name in enumerate(order)}
         splits = [tree.splits(label) for tree in trees]
         tables = self.converted(text, *arguments, run=run)
         self.assertEqual([table[1] for table in tables], [len(tree.joined) for tree in trees])
+        self.assertEqual([edge_sets(table) for table in tables], [tree.edge_sets(label) for tree in trees])
         self.assertEqual([table_splits(table) for table in tables], splits)
         shown = run("-", command="show", stdin=packed(*tables))
         self.assertEqual(shown.returncode, 0)
         texts = [line for line in shown.stdout.decode().split("\n") if line.startswith("(")]
         self.assertEqual([shown_splits(line, len(names)) for line in texts], splits)
         numbers = self.file("numbers", "\n".join(map(str, range(len(names)))))
-        again = self.converted("".join(texts), "--names", numbers, run=run)
-        self.assertEqual([table_splits(table) for table in again], splits)
+        self.assertEqual(self.converted("".join(texts), "--names", numbers, run=run), tables)
 
     def test_random_trees(self) -> None:
         rng = random.Random(3)
         for case in range(60):
             n = rng.randint(3, 40)
             names = random_names(rng, n)
-            trees = [random_tree(rng, names, rng.choice([0, 0.2, 0.5, 0.9])) for _ in range(2)]
+            trees = [with_up_to_4n_nodes(rng, random_tree(rng, names, rng.choice([0, 0.2, 0.5, 0.9]))) for _ in range(2)]
             with self.subTest(case=case):
                 text = "".join(written_tree(rng, tree) for tree in trees)
                 run = self.run_command if case < 4 else self.run_here
@@ -597,6 +698,7 @@ class RoundTrips(TableTest):
         for polytomies in (0, 0.4):
             names = random_names(rng, 256)
             trees = [random_tree(rng, names, polytomies), caterpillar(names)]
+            trees[0] = with_pass_through(rng, trees[0], 1024 - len(trees[0].joined))
             text = "".join(written_tree(rng, tree) for tree in trees)
             self.assert_round_trip(self.run_command, trees, text, names, listed=False)
 
@@ -605,11 +707,12 @@ class RoundTrips(TableTest):
         rng = random.Random(11)
         for _ in range(300):
             names = random_names(rng, rng.randint(3, 24))
-            tree = random_tree(rng, names, rng.random())
+            tree = with_up_to_4n_nodes(rng, random_tree(rng, names, rng.random()))
             label = {name: i for i, name in enumerate(names)}
             source = Source("test", written_tree(rng, tree))
             table = table_of(read_trees(source, 1)[0], label)
             self.assertEqual((tree_refusal(table), table[1]), (0, len(tree.joined)), source.text)
+            self.assertEqual(edge_sets(table), tree.edge_sets(label), source.text)
             self.assertEqual(table_splits(table), tree.splits(label), source.text)
             self.assertEqual(shown_splits(newick_text(table), len(names)), tree.splits(label))
 
@@ -666,8 +769,10 @@ class Show(TableTest):
     def test_each_rule(self) -> None:
         def changed(at: int, word: int) -> list[int]:
             return P[:at] + [word] + P[at + 1:]
+        nine_of_two = [2, 9, 0, 0, 1, 2, 3, 4, 5, 6, 7, 0, *[X] * 7, 1]
+        childless = [5, 9, *P[2:10], 1, *P[10:], X]
         for table, number, words in ((changed(0, 1), 2, "n is 1"), (changed(0, 257), 2, "n is 257"),
-                                     (changed(0, 9), 3, "m is 8"), (changed(0, 4), 3, "m is 8"),
+                                     (changed(0, 9), 3, "m is 8, not 9 to 36"), (nine_of_two, 3, "m is 9, not 2 to 8"),
                                      (changed(2, 1), 5, "node 0"), (changed(3, 1), 5, "node 1"),
                                      (changed(4, 0), 5, "node 2"), (changed(5, 3), 5, "node 3"),
                                      (changed(10, 1), 6, "the label of node 0 is 1, not 0"),
@@ -676,7 +781,9 @@ class Show(TableTest):
                                      (changed(16, 4), 31, "label 3 stands 0 times, label 4 stands 2 times, not once"),
                                      (changed(16, X), 31, "refused 31: label 3 stands 0 times, not once"),
                                      (changed(13, 1), 31, "refused 31: label 1 stands 2 times, not once"),
-                                     (changed(9, 6), 7, "node 5"), (changed(6, 2), 7, "node 2")):
+                                     (changed(9, 6), 7, "node 6 is a tip and has a child"),
+                                     (changed(6, 2), 7, "node 2 is a tip and has a child"),
+                                     (childless, 7, "inner node 8 has no child")):
             self.assertEqual(tree_refusal(table), number)
             self.assert_faults(packed(table, Q), ["first tree", f"refused {number}: ", words])
             self.assert_faults(packed(Q, table), ["second tree", f"refused {number}: ", words])
@@ -763,7 +870,7 @@ class Show(TableTest):
         """The package's own check beside that of cases/tables.py."""
         rng, numbers = random.Random(17), set()
         for _ in range(4000):
-            table = list(rng.choice([P, Q, R, W, TWO, THREE]))
+            table = list(rng.choice([P, Q, R, W, TWO, THREE, *(chained for chained, _ in PASS_THROUGH)]))
             for _ in range(rng.randrange(4)):
                 table[rng.randrange(len(table))] = rng.choice([0, 1, 2, 3, 4, 5, 6, 7, 8, X])
             table = table[:rng.choice([X] * 6 + [0, 1, 2, 5])] + [0] * (rng.random() < 0.05)
@@ -775,6 +882,13 @@ class Show(TableTest):
 
     def test_order_of_the_rules(self) -> None:
         self.assertEqual(list(RULES), NUMBERS)
+
+    def test_number_of_nodes(self) -> None:
+        """Below n and above 4n there is 3; what is between is told by the rules that follow, here of the length."""
+        for n in (2, 3, 5, 64, 256):
+            for m, number in ((0, 3), (n - 1, 3), (n, 4), (2 * n - 2, 4), (2 * n - 1, 4), (4 * n, 4), (4 * n + 1, 3), (X, 3)):
+                broken = broken_rule([n, m, 0, 0, 0])
+                self.assertEqual((tree_refusal([n, m, 0, 0, 0]), broken and broken.number), (number, number), (n, m))
 
 
 if __name__ == "__main__":

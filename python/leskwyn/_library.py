@@ -12,8 +12,8 @@ from collections.abc import Sequence
 from leskwyn.errors import Trouble
 
 TOP = os.path.dirname(os.path.dirname(os.path.dirname(os.path.abspath(__file__))))
-# LESKWYN_WORK_CELLS of the header: enough for every pair.
-WORK_CELLS = 259081
+# LESKWYN_WORK_CELLS of the header: enough for every pair, (1024 - 1)(1024 - 1).
+WORK_CELLS = 1046529
 Cells = ctypes.Array[ctypes.c_uint16]
 
 

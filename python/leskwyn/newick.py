@@ -10,7 +10,7 @@ import typing
 from leskwyn.errors import Refusal, counted, quoted
 from leskwyn.trees import MOST_TIPS, Tree
 
-# Nodes that are read of one tree before it is turned away; a tree of 256 tips has up to 510 of them that count.
+# Nodes that are read of one tree before it is turned away; a table of 256 tips has up to 1024.
 MOST_NODES = 1 << 17
 QUOTES = ("'", '"')
 # Blanks, of which a byte order mark is one; a mark; a word without quotes; what opens a comment or a quoted name. Every

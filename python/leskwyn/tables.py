@@ -8,7 +8,7 @@ import typing
 from collections.abc import Sequence
 
 from leskwyn.errors import NAMED_AT_MOST, Refusal
-from leskwyn.trees import FEWEST_TIPS, INNER, MOST_TIPS, Table
+from leskwyn.trees import FEWEST_TIPS, INNER, MOST_TIPS, NODES_FOR_A_TIP, Table
 
 COMPARE_BYTES = 1016
 ORDINALS = ("first", "second")
@@ -50,7 +50,7 @@ def tips_out_of_range(table: Table) -> str:
 
 def nodes_out_of_range(table: Table) -> str:
     n, m = table[:2]
-    return "" if n <= m <= 2 * n - 2 else f"m is {m}, not {n} to {2 * n - 2}"
+    return "" if n <= m <= NODES_FOR_A_TIP * n else f"m is {m}, not {n} to {NODES_FOR_A_TIP * n}"
 
 
 def wrong_length(table: Table) -> str:
@@ -99,8 +99,8 @@ def wrong_children(table: Table) -> str:
         children = parents.count(node)
         if labels[node] != INNER and children:
             return f"node {node} is a tip and has a child"
-        if labels[node] == INNER and children < 2:
-            return f"inner node {node} has {children} of the 2 children or more that it needs"
+        if labels[node] == INNER and not children:
+            return f"inner node {node} has no child"
     return ""
 
 
@@ -114,12 +114,12 @@ class Rule(typing.NamedTuple):
 RULES = {
     1: Rule(too_few_words, "the file is empty or ends too early: make it again"),
     2: Rule(tips_out_of_range, "the tree is too small or too large, or the file is no comparison file"),
-    3: Rule(nodes_out_of_range, "nodes are missing, or an inner node has one child only: count them again"),
+    3: Rule(nodes_out_of_range, "nodes are missing, or there are too many with one child: count them again"),
     4: Rule(wrong_length, "words are missing or left over: make the file again"),
     5: Rule(wrong_parent, "number each node after its parent; the nodes 0 and 1 have the parent word 0"),
     6: Rule(label_out_of_range, "mend the export: tips have the labels 0 to n - 1, node 0 the label 0"),
     31: Rule(label_not_once, "look in the field sheet for a population that stands twice or is missing"),
-    7: Rule(wrong_children, "take out inner nodes with one child or none; give tips no child"),
+    7: Rule(wrong_children, "take out inner nodes without a child; give tips no child"),
 }
 CUT_ADVICE = "; the second tree starts where the first tree's word 1 says"
 DIFFERENT_TIPS = "take the populations out that only one tree has"
@@ -172,7 +172,7 @@ def written_name(name: str) -> str:
 
 def newick_text(table: Table, names: Sequence[str] = ()) -> str:
     """A checked table's tree, with labels where there are no names. Children have greater numbers, so the last node comes
-    first."""
+    first. Tip 0 stands in node 1's brackets; where node 1 is a tip or has one child, both stand in brackets of their own."""
     written = [written_name(name) for name in names] or [str(label) for label in range(table[0])]
     parents, labels = parents_of(table), labels_of(table)
     below: list[list[str]] = [[] for _ in parents]
@@ -180,4 +180,4 @@ def newick_text(table: Table, names: Sequence[str] = ()) -> str:
         inside = ",".join(reversed(below[node]))
         below[parents[node]].append(f"({inside})" if labels[node] == INNER else written[labels[node]])
     rest = below[0][0]
-    return f"({written[0]},{rest[1:]};" if labels[1] == INNER else f"({written[0]},{rest});"
+    return f"({written[0]},{rest[1:]};" if len(below[1]) > 1 else f"({written[0]},{rest});"

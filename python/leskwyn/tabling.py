@@ -10,7 +10,7 @@ from leskwyn.labels import label_list, names_in_order, order_of_tips, outgroup_f
 from leskwyn.sources import trees_of_path
 from leskwyn.tables import (COMPARE_BYTES, ORDINALS, Broken, broken_rule, cut, file_bytes, file_words, labels_not_once,
                             newick_text)
-from leskwyn.trees import INNER, Placed, Table, checked, labels_of_names, table_of
+from leskwyn.trees import INNER, Placed, Table, checked, labels_of_names, table_of, written
 from leskwyn.usage import Parser, add_common, add_outgroup, with_common
 
 TABLE_EPILOG = """\
@@ -30,6 +30,9 @@ labels:
 Newick:
   Each tree ends with ';'. Names in '...' or "..." hold any text, a quote inside being written twice. In a name without
   quotes '_' stands for a blank. Comments in [...], branch lengths, support values and inner names are left out.
+  A node inside a tree with one child, as in ((A),B,C), is a pass-through node and is written as it stands; if a tree of n
+  tips would have more than 4n nodes so, its pass-through nodes are left out. Standard error tells how many there are.
+  Brackets around a whole tree are no nodes.
 
 exit status: 0 done; 1 the trees are refused; 2 wrong usage, or a file that cannot be read or written"""
 
@@ -38,6 +41,17 @@ def say_if_long(size: int) -> None:
     if size > COMPARE_BYTES:
         files.say_line(f"note: {size} bytes; the program compare takes at most {COMPARE_BYTES}, "
                        "so this pair goes to leskwyn compare")
+
+
+def say_pass_through(placed: Placed) -> None:
+    """Tells how many pass-through nodes a tree has, if any, and whether its table has them."""
+    found = written(placed.tree)
+    if not found.pass_through:
+        return
+    count = len(found.pass_through)
+    files.say_line(f"note: pass-through nodes written as they stand in {placed.place}: {count}" if found.is_whole() else
+                   f"note: pass-through nodes left out of {placed.place}: {count}; with them it has {found.nodes()} nodes, and "
+                   f"4n = {found.most_nodes()} are the most")
 
 
 # ---- table
@@ -119,6 +133,8 @@ def table_command(arguments: list[str]) -> int:
     files.write_outputs(outputs + [("-" if options.output is None else options.output, content)])
     if options.list is None and not options.quiet:
         files.say(label_list(names))
+    for placed in trees:
+        say_pass_through(placed)
     say_if_long(len(content))
     return 0
 

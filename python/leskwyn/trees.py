@@ -8,6 +8,8 @@ from leskwyn.errors import Refusal, counted, some_of
 Table = list[int]
 INNER = 65535
 FEWEST_TIPS, MOST_TIPS = 2, 256
+# A table of n tips has at most 4n nodes.
+NODES_FOR_A_TIP = 4
 
 
 class Tree:
@@ -110,19 +112,35 @@ def pruned(trees: Sequence[Placed]) -> Pruned:
 
 
 def restricted(tree: Tree, names: Collection[str]) -> Tree:
-    """The tree with these tips only. Brackets that lose all their tips go; those that keep one are passed over later."""
-    kept = [name in names for name in tree.names]
-    for node in range(len(kept) - 1, 0, -1):
-        if kept[node]:
-            kept[tree.parents[node]] = True
+    """The tree with these tips only. Brackets that lose all their tips go, and those that lose all but one of their children
+    are taken out. A node that has one child as it is written stays."""
+    left, children = tips_left(tree, names), children_of(tree)
     smaller, number = Tree(), {-1: -1}
     for node, parent in enumerate(tree.parents):
-        if kept[node]:
-            number[node] = smaller.add(number[parent], tree.names[node])
+        if left[node]:
+            is_collapsed = len(children[node]) > 1 and sum(left[child] for child in children[node]) == 1
+            number[node] = number[parent] if is_collapsed else smaller.add(number[parent], tree.names[node])
     return smaller
 
 
+def tips_left(tree: Tree, names: Collection[str]) -> list[bool]:
+    """For each node whether a tip with one of these names is at or below it."""
+    left = [name in names for name in tree.names]
+    for node in range(len(left) - 1, 0, -1):
+        if left[node]:
+            left[tree.parents[node]] = True
+    return left
+
+
 # ---- from a tree to its table
+
+def children_of(tree: Tree) -> list[list[int]]:
+    """The children of each node, in order of appearance."""
+    children: list[list[int]] = [[] for _ in tree.parents]
+    for node, parent in enumerate(tree.parents[1:], 1):
+        children[parent].append(node)
+    return children
+
 
 def top_node(children: list[list[int]]) -> int:
     """The highest node that is not merely a bracket around one other node."""
@@ -132,43 +150,59 @@ def top_node(children: list[list[int]]) -> int:
     return node
 
 
-def neighbours(tree: Tree) -> list[list[int]]:
-    """For each node the nodes that an edge joins it to, its children in order of appearance and then its parent.
-    The brackets around the whole tree are left out."""
-    children: list[list[int]] = [[] for _ in tree.parents]
-    for node, parent in enumerate(tree.parents[1:], 1):
-        children[parent].append(node)
+class Written(typing.NamedTuple):
+    """A tree as it is written, without the brackets around the whole of it: the children of each node, the top node, and the
+    pass-through nodes, which are those below it with one child. All nodes from the top node on are of the tree."""
+    children: list[list[int]]
+    top: int
+    pass_through: list[int]
+
+    def nodes(self) -> int:
+        """How many nodes the table has if it takes the pass-through nodes."""
+        return len(self.children) - self.top - len(self.root_places())
+
+    def root_places(self) -> list[int]:
+        """The top node if it has two children: the place of the root in the midst of an edge, and no node of the table."""
+        return [self.top] if len(self.children[self.top]) == 2 else []
+
+    def most_nodes(self) -> int:
+        """How many nodes a table of these tips may have."""
+        return NODES_FOR_A_TIP * sum(not nodes for nodes in self.children)
+
+    def is_whole(self) -> bool:
+        """Whether the table takes the pass-through nodes. It takes all of them or, if there are too many, none."""
+        return self.nodes() <= self.most_nodes()
+
+    def passed_over(self) -> set[int]:
+        """The nodes that the table does not take. Each joins two others."""
+        return {*self.root_places(), *([] if self.is_whole() else self.pass_through)}
+
+
+def written(tree: Tree) -> Written:
+    children = children_of(tree)
     top = top_node(children)
-    return [nodes + [tree.parents[node]] if node > top else nodes for node, nodes in enumerate(children)]
-
-
-def onward(joined: list[list[int]], node: int, origin: int) -> list[int]:
-    return [other for other in joined[node] if other != origin]
-
-
-def past_joints(tree: Tree, joined: list[list[int]], node: int, origin: int) -> tuple[int, list[int]]:
-    """The first node from here that is a tip or a parting of ways, and the nodes that follow it."""
-    following = onward(joined, node, origin)
-    while tree.names[node] is None and len(following) == 1:
-        node, origin = following[0], node
-        following = onward(joined, node, origin)
-    return node, following
+    return Written(children, top, [node for node in range(top + 1, len(children)) if len(children[node]) == 1])
 
 
 def table_of(tree: Tree, labels: dict[str, int]) -> Table:
-    """The tree's table: rooted at the tip labelled 0, nodes numbered depth first."""
-    joined = neighbours(tree)
+    """The tree's table: rooted at the tip labelled 0, nodes numbered depth first; at each node its children in order of
+    appearance, then its parent."""
+    found = written(tree)
+    passed_over = found.passed_over()
     outgroup = next(node for node, name in enumerate(tree.names) if name is not None and labels[name] == 0)
     parents, table_labels = [0], [0]
-    ahead = [(node, outgroup, 0) for node in joined[outgroup]]
+    ahead = [(tree.parents[outgroup], outgroup, 0)]
     while ahead:
         node, origin, parent = ahead.pop()
-        node, following = past_joints(tree, joined, node, origin)
-        number = len(parents)
-        parents.append(parent)
-        name = tree.names[node]
-        table_labels.append(INNER if name is None else labels[name])
-        ahead += [(other, node, number) for other in reversed(following)]
+        following = [other for other in found.children[node] if other != origin]
+        if node > found.top and tree.parents[node] != origin:
+            following.append(tree.parents[node])
+        if node not in passed_over:
+            parents.append(parent)
+            name = tree.names[node]
+            table_labels.append(INNER if name is None else labels[name])
+            parent = len(parents) - 1
+        ahead += [(other, node, parent) for other in reversed(following)]
     return [len(labels), len(parents)] + parents + table_labels
 
 

@@ -45,6 +45,11 @@ class Tree:
         sides = [[label[name] for name in self.names_beyond(a, b)] for a, b in self.edges()]
         return splits_from(sides, label.values())
 
+    def edge_sets(self, label: dict[str, int]) -> list[list[int]]:
+        """The labels beyond each edge, seen from the label 0; those of a chain of edges once for each."""
+        sides = ({label[name] for name in self.names_beyond(a, b)} for a, b in self.edges())
+        return sorted(sorted(set(label.values()) - side if 0 in side else side) for side in sides)
+
 
 def random_tree(rng: random.Random, names: list[str], polytomies: float) -> Tree:
     """Three tips around a node; each further tip is joined to an inner node, or to the midst of an edge."""
@@ -61,6 +66,19 @@ def random_tree(rng: random.Random, names: list[str], polytomies: float) -> Tree
             tree.join(node, b)
         tree.join(tip, node)
     return tree
+
+
+def with_pass_through(rng: random.Random, tree: Tree, count: int) -> Tree:
+    """The tree with so many pass-through nodes, each put into the midst of an edge: several in one make a chain."""
+    more = Tree(list(tree.name.values()))
+    more.joined = {node: set(others) for node, others in tree.joined.items()}
+    for _ in range(count):
+        a, b = rng.choice(more.edges())
+        node = max(more.joined) + 1
+        more.part(a, b)
+        more.join(a, node)
+        more.join(node, b)
+    return more
 
 
 def caterpillar(names: list[str]) -> Tree:
@@ -92,9 +110,9 @@ def random_names(rng: random.Random, n: int) -> list[str]:
 
 
 def written_name(rng: random.Random, name: str) -> str:
-    """Quoted, or if the name allows it, plain with '_' for a blank."""
+    """Quoted, or if the name allows it, plain with '_' for a blank. Digits alone could be the end of a number."""
     plain = name.replace(" ", "_")
-    may_be_plain = "_" not in name and not any(c in "()[]'\",:;" or c.isspace() for c in plain)
+    may_be_plain = "_" not in name and not plain.isdigit() and not any(c in "()[]'\",:;" or c.isspace() for c in plain)
     if may_be_plain and rng.random() < 0.7:
         return plain
     quote = rng.choice("'\"")
@@ -123,24 +141,25 @@ def written_group(rng: random.Random, texts: list[str]) -> str:
 
 
 def written_from(rng: random.Random, tree: Tree, node: int, origin: int | None) -> str:
-    """The text of what lies beyond the edge from origin to node, at times in brackets of its own."""
+    """The text of what lies beyond the edge from origin to node."""
     if node in tree.name:
         text = spaced(rng, written_name(rng, tree.name[node]))
     else:
         text = written_group(rng, [written_from(rng, tree, other, node) for other in tree.joined[node] - {origin}])
-    while rng.random() < 0.05:
-        text = written_group(rng, [text + length(rng)])
     return text + length(rng)
 
 
 def written_tree(rng: random.Random, tree: Tree) -> str:
-    """The tree rooted anywhere: at an inner node, or in the midst of an edge."""
-    if rng.random() < 0.5:
-        root = rng.choice([node for node in sorted(tree.joined) if node not in tree.name])
-        text = written_from(rng, tree, root, None)
+    """The tree rooted anywhere: at a node of three edges or more, or in the midst of an edge. At times there are brackets
+    around the whole."""
+    partings = [node for node in sorted(tree.joined) if len(tree.joined[node]) > 2]
+    if partings and rng.random() < 0.5:
+        text = written_from(rng, tree, rng.choice(partings), None)
     else:
         a, b = rng.choice(tree.edges())
         text = written_group(rng, [written_from(rng, tree, a, b), written_from(rng, tree, b, a)])
+    while rng.random() < 0.2:
+        text = written_group(rng, [text]) + length(rng)
     return text + gap(rng) + ";" + gap(rng)
 
 

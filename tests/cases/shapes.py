@@ -1,5 +1,7 @@
 """Trees of many shapes: stars, caterpillars, balanced and random trees, and pairs of trees that share splits."""
 import random
+from collections import Counter
+from collections.abc import Sequence
 from typing import Any
 
 from cases.tables import X, Table, table
@@ -109,6 +111,44 @@ def resolved(rng: random.Random, tree: Nested, chance: float) -> Nested:
         parts = rng.sample(parts, len(parts))
         parts = parts[2:] + [parts[:2]]
     return parts
+
+
+# ---- pass-through nodes
+
+def with_chains(rng: random.Random, t: Table, above: Sequence[int]) -> Table:
+    """The tree with a pass-through node above each node of `above`, a chain above one that stands there several times. Its nodes
+    are in a random numbering that keeps the rules."""
+    chains = Counter(above)
+
+    def part(v: int) -> Nested:
+        m = t[1]
+        tree = t[2 + m + v] if t[2 + m + v] != X else [part(w) for w in range(2, m) if t[2 + w] == v]
+        for _ in range(chains[v]):
+            tree = [tree]
+        return tree
+
+    return numbered(rng, t[0], part(1))
+
+
+def chained(rng: random.Random, t: Table, m: int) -> Table:
+    """The tree with pass-through nodes above some of its nodes, m nodes in all."""
+    some = rng.sample(range(1, t[1]), rng.randint(1, t[1] - 1))
+    return with_chains(rng, t, rng.choices(some, k=m - t[1]))
+
+
+def chain_places(t: Table) -> set[str]:
+    """Where pass-through nodes stand: at node 1, and above a tip, another inner node or, in a chain, one of themselves."""
+    m = t[1]
+    parents, labels = t[2:2 + m], t[2 + m:]
+    passing = {v for v in range(1, m) if labels[v] == X and parents.count(v) == 1}
+    below = [v for v in range(2, m) if parents[v] in passing]
+    found = {"tip" if labels[v] != X else "chain" if v in passing else "inner node" for v in below}
+    return found | {"node 1"} if 1 in passing else found
+
+
+def randomly_chained(rng: random.Random, t: Table) -> Table:
+    """With up to as many pass-through nodes as there may be, 4n nodes in all."""
+    return chained(rng, t, rng.choice([4 * t[0], rng.randint(t[1], 4 * t[0])]))
 
 
 # ---- random trees and pairs

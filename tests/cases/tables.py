@@ -29,6 +29,18 @@ OUTSIDE = [
     table(8, 11, [0, 0, 1, 2, 2, 2, 1, 6, 6, 6, 1], [0, X, X, 1, 2, 3, X, 4, 5, 6, 7]),
 ]
 
+# Tables with pass-through nodes, which are inner nodes with one child, each with the table that is left without them: P with one
+# at node 1, a chain above an inner node and one above a tip; Q with one at node 1 and one above each further tip; W with two
+# chains, m being 4n; the two-tip tree with one, and with as many as there may be.
+PASS_THROUGH = [
+    (table(5, 12, [0, 0, 1, 2, 2, 3, 5, 6, 6, 7, 7, 9], [0, X, X, X, 1, X, X, X, 2, X, 3, 4]), P),
+    (table(5, 12, [0, 0, 1, 2, 2, 3, 4, 4, 4, 6, 7, 8], [0, X, X, X, X, 1, X, X, X, 2, 3, 4]), Q),
+    (table(5, 20, [0, 0, 1, 2, 3, 4, 5, 6, 7, 8, 8, 8, 8, 12, 13, 14, 15, 16, 17, 18],
+           [0, X, X, X, X, X, X, X, X, 1, 2, 3, X, X, X, X, X, X, X, 4]), W),
+    (table(2, 3, [0, 0, 1], [0, X, 1]), TWO),
+    (table(2, 8, [0, 0, 1, 2, 3, 4, 5, 6], [0, X, X, X, X, X, X, 1]), TWO),
+]
+
 # The numbers of the tree check in the order in which they decide.
 NUMBERS = [1, 2, 3, 4, 5, 6, 31, 7]
 
@@ -52,7 +64,7 @@ def tree_refusal(t: Table) -> int:
     n, m = t[0], t[1]
     if not 2 <= n <= 256:
         return 2
-    if not n <= m <= 2 * n - 2:
+    if not n <= m <= 4 * n:
         return 3
     if len(t) != 2 + 2 * m:
         return 4
@@ -67,7 +79,7 @@ def tree_refusal(t: Table) -> int:
         return 31
     for i in range(m):
         children = parents[1:].count(i)
-        if labels[i] == X and children < 2 or labels[i] != X and i != 0 and children > 0:
+        if labels[i] == X and children < 1 or labels[i] != X and i != 0 and children > 0:
             return 7
     return 0
 
@@ -85,7 +97,7 @@ def damaged(t: Table) -> Iterator[Table]:
             u[at] = word
         return u
 
-    yield from ([], [n], put((0, 1)), put((0, 257)), put((1, n - 1)), put((1, 2 * n - 1)))  # 1 1 2 2 3 3
+    yield from ([], [n], put((0, 1)), put((0, 257)), put((1, n - 1)), put((1, 4 * n + 1)))  # 1 1 2 2 3 3
     yield from (t + [0], t[:-1], put((1, m - 1)))  # 4
     yield from (put((2, 1)), put((3, 1)), put((2 + m - 1, 0)), put((2 + m - 1, m - 1)), put((2 + m - 1, X)))  # 5
     yield from (put((2 + m, 1)), put((2 + m, X)), put((last, n)), put((last, 300)))  # 6
@@ -95,3 +107,4 @@ def damaged(t: Table) -> Iterator[Table]:
     yield put((2 + m + inner, t[2 + m + tip]))  # 31, and not 7, though a tip has children
     yield put((2 + m + tip, X), (2 + m + inner, t[2 + m + tip]))  # 7
     yield put((2 + m - 1, tip if tip < m - 1 else 1))  # 7, where a tip gets a child
+    yield [n, m + 1, *t[2:2 + m], 1, *t[2 + m:], X]  # 7, where an inner node more has no child
