@@ -25,7 +25,7 @@ class Kind(IntEnum):
     NONE = 15
 
 
-MOST_CELLS = 259081  # what two tables of 256 tips and 510 nodes need
+MOST_CELLS = 1046529  # what two tables of 256 tips and 1024 nodes need
 MOST_PRINTED = 1024  # the most cells where every one is printed
 ENUMERATED = 16  # the most tips whose sets of four the program enumerates
 

@@ -5,8 +5,9 @@ import random
 from collections.abc import Iterator
 
 from cases.lines import MOST_PRINTED, Case, Kind, bad, lent, line
-from cases.shapes import random_pair, random_table, renumbered, star
-from cases.tables import LABEL_TROUBLE, NUMBERS, OUTSIDE, P, Q, R, REFERENCE, THREE, TWO, W, X, Table, damaged, tree_refusal
+from cases.shapes import random_pair, random_table, randomly_chained, renumbered, star
+from cases.tables import (LABEL_TROUBLE, NUMBERS, OUTSIDE, PASS_THROUGH, P, Q, R, REFERENCE, THREE, TWO, W, X, Table, damaged,
+                          tree_refusal)
 
 # docs/SPECIFICATION.md, 'The figures K1 to K9': the last column.
 SPLITS = [(P, Q, [2, 1, 1, 1]), (P, R, [2, 2, 1, 2]), (Q, R, [1, 2, 0, 3]), (P, P, [2, 2, 2, 0]), (W, W, [0, 0, 0, 0]),
@@ -58,15 +59,14 @@ def cells_after(t: Table, u: Table, cells: int) -> list[int]:
 
 
 def splits_of(t: Table) -> set[frozenset[frozenset[int]]]:
-    """A split as a set of its two tip sets; no two edges of a tree have the same."""
-    tips, found = frozenset(range(t[0])), []
+    """The splits, each a set of two tip sets: edges that part the tips alike have one split."""
+    tips, found = frozenset(range(t[0])), set()
     climbs = [climb(t, label) for label in range(t[0])]
     for edge in range(1, t[1]):
         beyond = frozenset(label for label in tips if edge in climbs[label])
         if len(beyond) >= 2 and len(tips - beyond) >= 2:
-            found.append(frozenset([beyond, tips - beyond]))
-    assert len(set(found)) == len(found)
-    return set(found)
+            found.add(frozenset([beyond, tips - beyond]))
+    return found
 
 
 def split_counts(t: Table, u: Table) -> list[int]:
@@ -144,6 +144,21 @@ def outside_cases() -> Iterator[Case]:
             yield splits(t, u, needed(t, u))
 
 
+def pass_through_cases() -> Iterator[Case]:
+    """Pairs with pass-through nodes in one table or in both, with the split counts that they have without."""
+    (p, _), (q, _), (w, _), *_, (two, _) = PASS_THROUGH
+    for t, u, plain in ((p, P, (P, P)), (P, p, (P, P)), (p, q, (P, Q)), (q, w, (Q, W)), (two, two, (TWO, TWO))):
+        assert split_counts(t, u) == split_counts(*plain), (t, u)
+        yield splits(t, u, needed(t, u))
+    yield from (crossings(p, q, needed(p, q) + more) for more in (-1, 0))
+    rng = random.Random(42)
+    for n in (4, 5, 6):
+        pair = random_pair(rng, n)
+        t, u = (randomly_chained(rng, one) for one in pair)
+        assert split_counts(t, u) == split_counts(*pair), (t, u)
+        yield splits(t, u, needed(t, u))
+
+
 def random_cases(rng: random.Random) -> Iterator[Case]:
     for k in range(150):
         t, u = random_pair(rng, 4 + k % 9)
@@ -165,6 +180,7 @@ def all_cases() -> Iterator[Case]:
     yield from one_slice_cases()
     yield from refused_cases(rng)
     yield from outside_cases()
+    yield from pass_through_cases()
     yield from random_cases(rng)
     yield from bad_cases()
 

@@ -13,9 +13,9 @@ from math import comb
 
 from cases.lines import ENUMERATED, MOST_CELLS, Answer, Case, Kind, bad, line
 from cases.pairs import PAIR_NUMBERS, REFUSED, climb, needed, pair_refusal
-from cases.shapes import (balanced, bushy, caterpillar, exchanged, related_pair, renumbered, shuffled, star, unrelated_pair,
-                          with_labels_exchanged)
-from cases.tables import LABEL_TROUBLE, OUTSIDE, P, Q, R, REFERENCE, THREE, TWO, W, X, Table, damaged
+from cases.shapes import (balanced, bushy, caterpillar, chained, exchanged, randomly_chained, related_pair, renumbered, shuffled,
+                          star, unrelated_pair, with_labels_exchanged)
+from cases.tables import LABEL_TROUBLE, OUTSIDE, PASS_THROUGH, P, Q, R, REFERENCE, THREE, TWO, W, X, Table, damaged
 from cases.triplets import triplet_table
 
 # docs/SPECIFICATION.md, 'The figures K1 to K9': S S' S2 S3, A B C D E, distance, A B C D E of the triplets.
@@ -278,6 +278,25 @@ def one_slice_cases() -> Iterator[Case]:
     yield from (one_slice(t, 36) for t in damaged(P))
 
 
+def figures(t: Table, u: Table) -> list[list[int]]:
+    """What is counted of a pair, but for the splits."""
+    return [claim_sums(t, u), quartet_table(t, u), triplet_table(t, u)]
+
+
+def pass_through_cases() -> Iterator[Case]:
+    """Pairs with pass-through nodes in one table or in both, with the figures that they have without."""
+    (p, _), (q, _), (w, _), *_, (two, _) = PASS_THROUGH
+    for t, u, plain in ((p, q, (P, Q)), (q, R, (Q, R)), (w, p, (W, P)), (two, two, (TWO, TWO))):
+        assert figures(t, u) == figures(*plain), (t, u)
+        yield pair(t, u)
+    rng = random.Random(60)
+    for n in (5, 6):
+        plain = related_pair(rng, n)
+        t, u = (randomly_chained(rng, one) for one in plain)
+        assert figures(t, u) == figures(*plain), (t, u)
+        yield pair(t, u)
+
+
 def random_cases(rng: random.Random) -> Iterator[Case]:
     for k in range(300):
         n = 2 + k % 11
@@ -301,9 +320,9 @@ def large_cases(rng: random.Random) -> Iterator[Case]:
     yield pair(worm, even)
     yield pair(*related_pair(rng, n))
     yield pair(*unrelated_pair(rng, n))
-    yield one_slice(worm, MOST_CELLS)
-    yield pair(worm, caterpillar(n), MOST_CELLS - 1)
+    yield one_slice(star(n), needed(star(n), star(n)) - 1)
     yield pair(bushy(rng, 48), bushy(rng, 48))
+    yield one_slice(chained(rng, worm, 4 * n), MOST_CELLS)
 
 
 def bad_cases() -> Iterator[Case]:
@@ -312,7 +331,7 @@ def bad_cases() -> Iterator[Case]:
     yield from (bad(*line(Kind.NONE, [], TWO, 1)), bad(X, 0, 1, 6, *TWO, *TWO))
     yield from (bad(Kind.QUARTETS, 0, 1, 7, *TWO), bad(Kind.QUARTETS, 0, 1, 1))
     yield from (bad(*line(Kind.QUARTETS, TWO, TWO, MOST_CELLS + 1)), bad(Kind.QUARTETS, X, X, 6, *TWO, *TWO))
-    yield bad(*line(Kind.QUARTETS_OF_ONE, [], TWO, 260000))
+    yield bad(*line(Kind.QUARTETS_OF_ONE, [], TWO, 1050000))
 
 
 def all_cases() -> Iterator[Case]:
@@ -321,6 +340,7 @@ def all_cases() -> Iterator[Case]:
     yield from (pair(u, t, needed(t, u) + 1) for t, u, *_ in OUTSIDE_PAIRS)
     yield from refused_cases()
     yield from one_slice_cases()
+    yield from pass_through_cases()
     yield from random_cases(rng)
     yield from large_cases(rng)
     yield from bad_cases()

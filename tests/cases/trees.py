@@ -7,7 +7,8 @@ from functools import cached_property
 
 from cases.lines import MOST_CELLS, MOST_PRINTED, Case, Kind, bad, lent, line
 from cases.shapes import balanced, caterpillar, random_table, star
-from cases.tables import LABEL_TROUBLE, NUMBERS, OUTSIDE, P, Q, R, REFERENCE, THREE, TWO, X, Table, damaged, tree_refusal
+from cases.tables import (LABEL_TROUBLE, NUMBERS, OUTSIDE, PASS_THROUGH, P, Q, R, REFERENCE, THREE, TWO, X, Table, damaged,
+                          tree_refusal)
 
 
 class Tree:
@@ -162,7 +163,8 @@ def changes(t: Table) -> Case:
 
 def edge_cases() -> Iterator[Case]:
     """docs/SPECIFICATION.md, 'Edge cases', of one table; tables of zeros."""
-    yield from map(check, ([1, 1, 0, 0], [257, 257], [2, 0], [256, 0], [5, 4], [5, 9], P + [0], []))
+    yield from map(check, ([1, 1, 0, 0], [257, 257], [2, 0], [256, 0], [5, 4], [5, 9], [5, 20], [5, 21], P + [0], []))
+    yield from map(check, ([256, 255], [256, 511], [256, 1024], [256, 1025], [2, 1], [2, 3], [2, 8], [2, 9]))
     yield from map(zeros, (0, 1, 2, 3, 65535))
 
 
@@ -175,6 +177,15 @@ def whole_table_cases() -> Iterator[Case]:
         yield from (beyond(t, edge, n) for edge in (1, m - 1))
         yield centres(t)
         yield topologies(t)
+
+
+def pass_through_cases() -> Iterator[Case]:
+    """Each call on tables with pass-through nodes. What is asked of labels alone is answered as without them."""
+    for t, plain in PASS_THROUGH:
+        n, m = t[0], t[1]
+        yield from (check(t), walk(t, n), walked(t, m // 2), centres(t), topologies(t))
+        assert topologies(t).answer == topologies(plain).answer, t
+    yield from (changes(t) for t, _ in PASS_THROUGH[:1] + PASS_THROUGH[-1:])
 
 
 def order_cases() -> Iterator[Case]:
@@ -224,6 +235,7 @@ def all_cases() -> Iterator[Case]:
     rng = random.Random(20)
     yield from edge_cases()
     yield from whole_table_cases()
+    yield from pass_through_cases()
     yield from order_cases()
     yield from damaged_cases(rng)
     yield from random_cases(rng)
