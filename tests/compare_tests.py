@@ -29,8 +29,9 @@ sys.dont_write_bytecode = True
 from cases import skips
 from cases.house import PROGRAM, ROOT, SECONDS, Done, House
 from cases.quartets import cases_by_pairs
-from cases.shapes import balanced, caterpillar, related_pair, star, unrelated_pair, with_labels_exchanged
-from cases.tables import LABEL_TROUBLE, NUMBERS, OUTSIDE, P, Q, R, THREE, TWO, W, X, damaged, table, tree_refusal
+from cases.shapes import (balanced, caterpillar, chain_places, chained, randomly_chained, related_pair, star, unrelated_pair,
+                          with_chains, with_labels_exchanged)
+from cases.tables import LABEL_TROUBLE, NUMBERS, OUTSIDE, PASS_THROUGH, P, Q, R, THREE, TWO, W, X, damaged, table, tree_refusal
 
 MOST_BYTES = 1016
 ENUMERATED = 16  # the most tips for which every set of four and every claim is looked at
@@ -287,12 +288,17 @@ class ProgramTest(unittest.TestCase):
         self.assert_prints(b"refused %d\n" % number, content, note)
 
 
+def printed_lines(t: list[int], figures: Iterable[str]) -> bytes:
+    """The listing of a pair, t being its first table, with figures as REFERENCE_PAIRS has them."""
+    words = ["claims", "quartets", "distance", "splits", "triplets"]
+    lines = [f"leaves {t[0]}"] + [f"{word} {numbers}" for word, numbers in zip(words, figures, strict=True)]
+    return ("\n".join(lines) + "\n").encode()
+
+
 class Figures(ProgramTest):
     def assert_figures(self, pairs: dict[str, tuple]) -> None:
         for mark, (t, u, *figures) in pairs.items():
-            words = ["claims", "quartets", "distance", "splits", "triplets"]
-            lines = [f"leaves {t[0]}"] + [f"{word} {numbers}" for word, numbers in zip(words, figures)]
-            expected = ("\n".join(lines) + "\n").encode()
+            expected = printed_lines(t, figures)
             self.assertEqual(listing(packed(t, u)), expected, mark)
             self.assert_prints(expected, packed(t, u), mark)
 
@@ -316,6 +322,53 @@ class Figures(ProgramTest):
         for k in range(300):
             n = 2 + k % 12
             self.assert_listed(packed(*(related_pair(rng, n) if k % 3 else unrelated_pair(rng, n))))
+
+
+class PassThrough(ProgramTest):
+    """Inner nodes with one child change nothing of what is printed."""
+
+    def assert_unchanged(self, expected: bytes, t: list[int], u: list[int], note: str) -> None:
+        self.assertEqual((refusal(packed(t, u)), listing(packed(t, u))), (0, expected), note)
+        self.assert_prints(expected, packed(t, u), note)
+
+    def test_reference_pairs_and_outside_pairs(self) -> None:
+        """K1 to K9 with pass-through nodes in the first tree, in the second, and in both, up to m = 4n."""
+        rng, places = random.Random(79), set()
+        for mark, (t, u, *figures) in {**REFERENCE_PAIRS, **OUTSIDE_PAIRS}.items():
+            expected = printed_lines(t, figures)
+            self.assertEqual(listing(packed(t, u)), expected, mark)
+            for _ in range(6):
+                first, second = randomly_chained(rng, t), randomly_chained(rng, u)
+                places |= chain_places(first) | chain_places(second)
+                for pair in ((first, u), (t, second), (first, second)):
+                    self.assert_unchanged(expected, *pair, mark)
+        self.assertEqual(places, {"node 1", "tip", "inner node", "chain"})
+
+    def test_tables_of_the_cases(self) -> None:
+        for (t, plain), (u, other) in itertools.product(PASS_THROUGH, repeat=2):
+            if t[0] == u[0]:
+                self.assert_unchanged(listing(packed(plain, other)), t, u, f"{t} {u}")
+        two = PASS_THROUGH[-1][0]
+        self.assertEqual(two[:2], [2, 8])
+        self.assert_unchanged(printed_lines(TWO, REFERENCE_PAIRS["K8"][2:]), two, two, "K8")
+
+    def test_a_chain_above_each_node(self) -> None:
+        """Each edge of P in turn becomes a chain: one split more would show, and one that is not found in both."""
+        rng = random.Random(80)
+        for node, length in itertools.product(range(1, P[1]), (1, 2, 12)):
+            t = with_chains(rng, P, [node] * length)
+            for mark, u in (("K1", Q), ("K2", R), ("K4", P), ("K4", t), ("K6", W)):
+                self.assert_unchanged(printed_lines(P, REFERENCE_PAIRS[mark][2:]), t, u, f"{mark}, {length} above node {node}")
+
+    def test_random_pairs(self) -> None:
+        rng, sizes = random.Random(81), set()
+        for k in range(200):
+            n = 2 + k % 12
+            plain = related_pair(rng, n) if k % 3 else unrelated_pair(rng, n)
+            t, u = (randomly_chained(rng, one) for one in plain)
+            self.assert_unchanged(listing(packed(*plain)), t, u, packed(t, u).hex())
+            sizes |= {(n, t[1]), (n, u[1])}
+        self.assertLessEqual({(n, 4 * n) for n in range(2, 14)}, sizes)
 
 
 class Largest(ProgramTest):
@@ -344,6 +397,14 @@ class Largest(ProgramTest):
             label for label in range(1, 84) if label not in (7, 50)])
         self.assert_largest(worm, pair)
         self.assert_largest(pair, worm)
+
+    def test_pass_through_nodes(self) -> None:
+        """4n nodes in the one table, and 126 in both, which makes 15625 cells."""
+        rng = random.Random(82)
+        for n, m in ((32, 128), (42, 168), (32, 126), (63, 126)):
+            t, u = chained(rng, caterpillar(n), m), chained(rng, balanced(n), 252 - m)
+            self.assert_largest(t, u)
+            self.assert_largest(u, t)
 
     def test_a_byte_and_a_word_more(self) -> None:
         content = packed(caterpillar(64), balanced(64))
@@ -374,11 +435,12 @@ class Refusals(ProgramTest):
     def test_2_and_256_tips_pass_that_step(self) -> None:
         self.assert_listed(packed(TWO, TWO))
         self.assert_refused(3, packed([2, 1, 0, 0]))
-        self.assert_refused(103, packed(TWO, [2, 3, 0, 0, 1, 0, X, 1]))
+        self.assert_refused(103, packed(TWO, [2, 9, 0, 0, 1, 2, 3, 4, 5, 6, 7, 0, *[X] * 7, 1]))
         # no table of 256 tips fits in 1016 bytes: its number is that of its nodes or of its length
         self.assert_refused(3, packed([256, 255, 0, 0]))
-        self.assert_refused(3, packed([256, 511, 0, 0]))
-        self.assert_refused(4, packed([256, 256, 0, 0]))
+        self.assert_refused(3, packed([256, 1025, 0, 0]))
+        for m in (256, 510, 511, 1024):
+            self.assert_refused(4, packed([256, m, 0, 0]))
         self.assert_refused(4, packed(star(256)[:MOST_BYTES // 2]))
         self.assert_refused(104, packed(TWO, caterpillar(256)[:MOST_BYTES // 2 - 6]))
         self.assert_refused(14, packed(star(256)))
@@ -386,12 +448,13 @@ class Refusals(ProgramTest):
     def test_number_of_nodes(self) -> None:
         for t in (P, Q, R, W, TWO, THREE):
             n = t[0]
-            for m in (0, n - 1, 2 * n - 1, X):
+            for m in (0, n - 1, 4 * n + 1, X):
                 self.assert_refused(3, packed(changed(t, 1, m), P))
                 self.assert_refused(103, packed(P, changed(t, 1, m)))
-        # m = n and m = 2n - 2 pass that step
-        self.assert_refused(4, packed([5, 5, 0, 0]))
-        self.assert_refused(104, packed(P, [5, 8, 0, 0]))
+        # n to 4n pass that step
+        for m in (5, 8, 9, 19, 20):
+            self.assert_refused(4, packed([5, m, 0, 0]))
+            self.assert_refused(104, packed(P, [5, m, 0, 0]))
 
     def test_a_word_too_many(self) -> None:
         # the words after the first table are the second tree's
@@ -434,12 +497,14 @@ class Refusals(ProgramTest):
             self.assert_refused(100 + number, packed(Q, t))
 
     def test_children(self) -> None:
-        one = table(5, 8, [0, 0, 1, 1, 3, 4, 4, 4], [0, X, 1, X, X, 2, 3, 4])
         none = table(5, 7, [0, 0, 1, 1, 1, 1, 1], [0, X, 1, 2, 3, 4, X])
+        none_in_a_chain = table(5, 8, [0, 0, 1, 1, 1, 1, 1, 6], [0, X, 1, 2, 3, 4, X, X])
         tip_with_one = changed(W, 7, 4)
-        for t in (one, none, tip_with_one, changed(P, 6, 2), changed(P, 9, 6), changed(changed(P, 11, 1), 12, X)):
+        for t in (none, none_in_a_chain, tip_with_one, changed(P, 6, 2), changed(P, 9, 6), changed(changed(P, 11, 1), 12, X)):
             self.assert_refused(7, packed(t, Q))
             self.assert_refused(107, packed(Q, t))
+        one = table(5, 8, [0, 0, 1, 1, 3, 4, 4, 4], [0, X, 1, X, X, 2, 3, 4])
+        self.assert_prints(listing(packed(Q, Q)), packed(one, Q))
 
     def test_different_numbers_of_tips(self) -> None:
         for t, u in itertools.permutations([P, TWO, THREE, OUTSIDE[0], OUTSIDE[2]], 2):
