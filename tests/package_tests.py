@@ -33,11 +33,11 @@ ROOT = pathlib.Path(__file__).resolve().parent.parent
 sys.path.insert(0, str(ROOT / "python"))
 from command_runs import CommandTest
 from cases import skips
-from cases.newick import Tree, random_names, random_tree, star_text, written_tree
+from cases.newick import Tree, random_names, random_tree, star_text, with_pass_through, written_tree
 from cases.pairs import split_counts
 from cases.quartets import OUTSIDE_PAIRS, REFERENCE_PAIRS, cases_by_pairs
-from cases.shapes import balanced, caterpillar, related_pair, star, unrelated_pair
-from cases.tables import LABEL_TROUBLE, NUMBERS, OUTSIDE, P, Q, REFERENCE, W, damaged
+from cases.shapes import balanced, caterpillar, chained, randomly_chained, related_pair, star, unrelated_pair
+from cases.tables import LABEL_TROUBLE, NUMBERS, OUTSIDE, PASS_THROUGH, P, Q, REFERENCE, W, X, damaged
 from cases.triplets import triplet_table
 
 import leskwyn
@@ -168,6 +168,15 @@ def nodes_of(tree: Tree, make: typing.Callable[[str | None], typing.Any]) -> typ
     return beyond(min(node for node in tree.joined if node not in tree.name), -1)
 
 
+def in_nodes(tree: Tree) -> typing.Any:
+    """The tree as nodes with children and a name in quotes, as ETE has them."""
+    def make(name: str | None) -> types.SimpleNamespace:
+        below: list[typing.Any] = []
+        quoted = "'" + name.replace("'", "''") + "'" if name else ""
+        return types.SimpleNamespace(children=below, name=quoted, add_child=below.append)
+    return nodes_of(tree, make)
+
+
 def in_dendropy(trees: list[Tree]) -> list[typing.Any]:
     import dendropy
     taxa = dendropy.TaxonNamespace(is_case_sensitive=True)
@@ -215,6 +224,18 @@ class Figures(unittest.TestCase):
                                                      "normalised_triplet_distance"})
                     distances.add((case, found.triplet_distance))
         self.assertGreater(len(distances), 30)
+
+    def test_pass_through_nodes(self) -> None:
+        """In either tree or in both, up to 4n nodes and beyond, in texts and in objects: every figure is as without them."""
+        rng = random.Random(16)
+        for case in range(40):
+            plain = random_named_trees(rng, 4 + case % 8)
+            chains = [with_pass_through(rng, tree, rng.randint(1, 5 * len(tree.name))) for tree in plain]
+            for first, second in (chains, (chains[0], plain[1]), (plain[0], chains[1])):
+                texts = [written_tree(rng, tree) for tree in (first, second)]
+                with self.subTest(case=case, texts=texts):
+                    self.assert_figures(leskwyn.compare(*texts, weight="1/2"), *plain, weight=fractions.Fraction(1, 2))
+                    self.assert_figures(leskwyn.compare(*map(in_nodes, (first, second))), *plain)
 
     def test_weights(self) -> None:
         """Each k/256, and no figure but the weighted distance changes."""
@@ -346,6 +367,30 @@ class Listings(CommandTest):
             sizes.add(len(self.assert_same_listing(packed(*pair))) and len(packed(*pair)))
         self.assertEqual(max(sizes), MOST_BYTES)
 
+    def test_pass_through_nodes(self) -> None:
+        """The listing of the tables without them."""
+        rng = random.Random(17)
+        for (t, plain), (u, other) in itertools.product(PASS_THROUGH, repeat=2):
+            self.assertEqual(self.assert_same_listing(packed(t, u)), self.assert_same_listing(packed(plain, other)))
+        for n in range(2, 31):
+            pair = related_pair(rng, n)
+            chains = [randomly_chained(rng, t) for t in pair]
+            self.assertEqual(self.assert_same_listing(packed(*chains)), self.assert_same_listing(packed(*pair)))
+
+    def test_1024_nodes(self) -> None:
+        """The largest tables, and the largest work: the figures of the tables without pass-through nodes."""
+        rng, of_four, of_three = random.Random(18), math.comb(256, 4), math.comb(255, 3)
+        worm, fan = (chained(rng, t, 1024) for t in (caterpillar(256), star(256)))
+        same = api.compare_file("file", packed(worm, chained(rng, caterpillar(256), 1024)))
+        self.assertEqual((same.same, same.distance, same.first_splits, same.common_splits), (of_four, 0, 253, 253))
+        self.assertEqual((triplets_of(same), same.triplet_distance), ([of_three, 0, 0, 0, 0], 0))
+        other = api.compare_file("file", packed(worm, fan))
+        self.assertEqual((other.first_only, other.first_splits, other.second_splits, other.robinson_foulds), (of_four, 253, 0, 253))
+        self.assertEqual(triplets_of(other), [0, 0, of_three, 0, 0])
+        pair = related_pair(rng, 256)
+        chains = [chained(rng, t, 1024) for t in pair]
+        self.assertEqual(self.listing(packed(*chains)), self.listing(packed(*pair)))
+
     def test_damaged_files(self) -> None:
         rng, numbers = random.Random(5), set()
         spoiled = [*damaged(P), *(t for t, _ in LABEL_TROUBLE)]
@@ -393,9 +438,12 @@ class Listings(CommandTest):
 
     def test_work(self) -> None:
         """(m - 1)(m' - 1) cells, and never more than the header's number, whatever the words say."""
-        for t, u, cells in ((P, Q, 42), (Q, P, 42), ([], P, 0), ([5], P, 0), ([5, 0], P, 0), ([5, 65535], [5, 65535], 259081),
-                            (caterpillar(256), caterpillar(256), 259081)):
+        most = chained(random.Random(15), caterpillar(256), 1024)
+        for t, u, cells in ((P, Q, 42), (Q, P, 42), ([], P, 0), ([5], P, 0), ([5, 0], P, 0), ([5, 65535], [5, 65535], 1046529),
+                            (caterpillar(256), caterpillar(256), 259081), (most, most, 1046529), (P, most, 7161)):
             self.assertEqual(_library.work_cells(_library.words(t), _library.words(u)), cells)
+        header = (ROOT / "include" / "leskwyn.h").read_text(encoding="utf-8")
+        self.assertEqual(header.split("\n#define LESKWYN_WORK_CELLS ")[1].split("\n")[0], str(_library.WORK_CELLS))
 
     def test_256_tips(self) -> None:
         of_four, of_three = math.comb(256, 4), math.comb(255, 3)
@@ -763,13 +811,13 @@ class Answers(unittest.TestCase):
 
     def test_errors(self) -> None:
         with tempfile.NamedTemporaryFile() as file:
-            file.write(packed(P[:9] + [6] + P[10:], Q))
+            file.write(packed([5, 9, *P[2:10], 1, *P[10:], X], Q))
             file.flush()
             with self.assertRaises(leskwyn.Refusal) as raised:
                 leskwyn.compare(file.name)
         error = raised.exception
         self.assertEqual(error.number, 7)
-        self.assertIn("first tree: inner node 5 has 1 of the 2 children or more that it needs", error.reason)
+        self.assertIn("first tree: inner node 8 has no child; take out inner nodes without a child", error.reason)
         self.assertEqual(str(error), f"refused 7: {error.reason}")
         again = pickle.loads(pickle.dumps(error))
         self.assertEqual((type(again), again.number, again.reason), (leskwyn.Refusal, 7, error.reason))
