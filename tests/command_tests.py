@@ -224,6 +224,24 @@ class Compare(TreesTest):
         for content in (text.encode(), b"\xef\xbb\xbf" + text.encode(), text.encode("utf-16")):
             self.assertEqual(self.here("compare", self.file("w.nwk", content), "--listing").stdout, LISTING)
 
+    def test_pass_through_nodes(self) -> None:
+        """Whatever their number, they change no figure, and nothing is said of them."""
+        told = [self.here(*words) for words in self.COUNTING]
+        for brackets in (1, 2, 9, 30, 1000):
+            opened, closed = "(" * brackets, ")" * brackets
+            for name, text in (("feathers.nwk", FEATHERS), ("wings.nwk", WINGS)):
+                text = text.replace("Bute", f"{opened}Bute{closed}").replace("(Lundy", f"{opened}(Lundy")
+                self.file(name, text.replace("Texel)", f"(Texel)){closed}"))
+            for words, before in zip(self.COUNTING, told):
+                done = self.here(*words)
+                self.assertEqual((done.returncode, done.stdout, done.stderr), (0, before.stdout, before.stderr), words)
+
+    COUNTING = [["compare", "feathers.nwk", "wings.nwk"], ["compare", "feathers.nwk", "wings.nwk", "--listing"],
+                ["compare", "feathers.nwk", "wings.nwk", "--common", "--weight", "1/2", "--format", "json"],
+                ["against", "feathers.nwk", "wings.nwk", "feathers.nwk", "--outgroup", "Texel"],
+                ["matrix", "feathers.nwk", "wings.nwk", "--measure", "splits"],
+                ["matrix", "feathers.nwk", "wings.nwk", "--measure", "triplets", "--outgroup", "Bute"]]
+
     def test_256_tips_soon(self) -> None:
         """Any size goes through the library: 255 * 2 - 1 edges of each tree."""
         names = [f"t{i:03}" for i in range(256)]
@@ -278,15 +296,17 @@ class Refusals(TreesTest):
         self.refused(packed(P[:-3]), 4, "first tree", "words missing: 3", "make the file again")
         self.refused(packed(P, Q, [7, 7]), 104, "second tree", "words left over: 2", "make the file again")
         for table, number, words in ((changed(0, 257), 2, ["n is 257", "too small or too large"]),
-                                     (changed(0, 9), 3, ["m is 8, not 9 to 16", "count them again"]),
+                                     (changed(0, 9), 3, ["m is 8, not 9 to 36", "nodes are missing, or there are too many"]),
+                                     ([2, 9, 0, 0, *range(1, 8), 0, *[X] * 7, 1], 3, ["m is 9, not 2 to 8", "count them again"]),
                                      (changed(5, 3), 5, ["the parent of node 3 is 3, not 1 to 2", "after its parent"]),
                                      (changed(16, 5), 6, ["the label of node 6 is 5, neither below n", "mend the export"]),
                                      (changed(10, 1), 6, ["the label of node 0 is 1, not 0", "mend the export"]),
                                      (changed(16, 4), 31, ["label 3 stands 0 times, label 4 stands 2 times, not once",
                                                            "a population that stands twice or is missing"]),
                                      (changed(16, X), 31, ["label 3 stands 0 times, not once", "field sheet"]),
-                                     (changed(9, 6), 7, ["inner node 5 has 1", "take out inner nodes"]),
-                                     (changed(6, 2), 7, ["node 2 is a tip and has a child"])):
+                                     ([5, 9, *P[2:10], 1, *P[10:], X], 7, ["inner node 8 has no child",
+                                                                           "take out inner nodes without a child"]),
+                                     (changed(6, 2), 7, ["node 2 is a tip and has a child", "give tips no child"])):
             self.refused(packed(table, Q), number, "first tree", *words)
             self.refused(packed(Q, table), 100 + number, "second tree", *words, "word 1")
         self.refused(packed(P, THREE), 8, "the first tree has 5 tips, the second 3", "take the populations out")
@@ -644,6 +664,16 @@ class Pages(unittest.TestCase):
                 message = run_leskwyn("compare", "pair.bin", cwd=folder).stderr.decode()
                 self.assertTrue(message.startswith(f"leskwyn: refused {number}: pair.bin: first tree: "), message)
                 self.assertIn(f"`{message.rstrip()}`", page)
+
+    def test_pass_through_notes_on_the_commands_page(self) -> None:
+        """What table says of a tree with one pass-through node, and of one with too many."""
+        page = " ".join((ROOT / "docs/COMMANDS.md").read_text(encoding="utf-8").split())
+        with tempfile.TemporaryDirectory() as folder:
+            (pathlib.Path(folder) / "both.nwk").write_text(f"((A),B,C);({'(' * 9}A{')' * 9},B,C);")
+            notes = run_leskwyn("table", "both.nwk", "-o", "pair.bin", "--quiet", cwd=folder).stderr.decode().splitlines()
+        self.assertEqual(len(notes), 2)
+        for note in notes:
+            self.assertIn(f"`{note}`", page)
 
     def test_readme(self) -> None:
         self.assert_examples("README.md", 2)

@@ -105,6 +105,21 @@ class Sections(unittest.TestCase):
         self.assertGreater(cited, 15)
 
 
+class Sizes(unittest.TestCase):
+    """The largest table has 256 tips and 4n nodes: what the pages and the package tell of the work that two of them take."""
+
+    def test_work(self) -> None:
+        cells = (4 * 256 - 1) ** 2
+        self.assertIn(f" {cells} are enough for any pair, ", text("LIBRARY.md"))
+        self.assertIn(f"\nWORK_CELLS = {cells}\n", (ROOT / "python" / "leskwyn" / "_library.py").read_text(encoding="utf-8"))
+
+    def test_nodes(self) -> None:
+        readme = (ROOT / "README.md").read_text(encoding="utf-8")
+        for row in ("| 1 | m, the number of nodes: n to 4n |\n", "| 3 | m is not n to 4n |",
+                    "| 7 | a tip other than node 0 has a child, or an inner node has none |"):
+            self.assertEqual(readme.count(row), 1, row)
+
+
 class Map(unittest.TestCase):
     """docs/ARCHITECTURE.md has the crates as they are."""
 

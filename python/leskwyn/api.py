@@ -20,9 +20,10 @@ def compare(a: Given, b: Given = None, *, common: bool = False, outgroup: str | 
     is there), or a tree object of DendroPy or ETE. Without `b`, `a` holds both trees, or is the path of a comparison file.
 
     The trees have 2 to 256 tips, with the same names. With `common` each is cut down to the names that both have. Where a
-    tree has its root plays no part, and neither do branch lengths. The triplets take the name `outgroup` for the outgroup,
-    by default the first of the sorted names; no other figure depends on it. With a `weight` p the weighted distance
-    B + p (C + D) is told: 'none', 'full', or a number or text that is k/256 with a k from 0 to 256, as 0.5 and '1/2'.
+    tree has its root plays no part, and neither do branch lengths and nodes with one child. The triplets take the name
+    `outgroup` for the outgroup, by default the first of the sorted names; no other figure depends on it. With a `weight` p the
+    weighted distance B + p (C + D) is told: 'none', 'full', or a number or text that is k/256 with a k from 0 to 256, as 0.5
+    and '1/2'.
 
     Raises Refusal for trees that are turned away, and Trouble for a file that cannot be read; both have `number` and
     `reason`. Raises ValueError for a weight that is none of these.
