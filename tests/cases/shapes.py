@@ -1,4 +1,5 @@
-"""Trees of many shapes: stars, caterpillars, balanced and random trees, and pairs of trees that share splits."""
+"""Trees of many shapes: stars, caterpillars, balanced and random trees, trees with pass-through nodes, and pairs of trees that
+share splits."""
 import random
 from collections import Counter
 from collections.abc import Sequence

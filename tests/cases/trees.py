@@ -150,6 +150,7 @@ def topologies(t: Table) -> Case:
 
 def changes(t: Table) -> Case:
     counts = {number: 0 for number in (0, *sorted(NUMBERS))}
+    assert 4 * t[0] < 512
     for at in range(len(t)):
         # words from 512 to 65534 are too large for every rule alike
         for word in itertools.chain(range(512), [X]):
