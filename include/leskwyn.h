@@ -16,12 +16,13 @@
  * no two of them lend the same cells and nobody writes to a table that is being read. leskwyn_claim_sums,
  * leskwyn_quartet_table and leskwyn_weighted_distance take up to 200 kB of stack, the others up to 20 kB.
  *
- * A tree table. 16-bit words: n, the tips (2 to 256); m, the nodes (n to 2n - 2); then m parent words; then m label
- * words; 2 + 2m words in all.
+ * A tree table. 16-bit words: n, the tips (2 to 256); m, the nodes (n to 4n); then m parent words; then m label words;
+ * 2 + 2m words in all.
  *   - Node 0 is the tip labelled 0. Its parent word is 0. It has exactly one child, node 1, whose parent word is 0.
  *   - For i >= 2, node i's parent is at least 1 and less than i.
  *   - A tip's label is 0 to n - 1, each standing once. LESKWYN_INNER marks an inner node.
- *   - A tip other than node 0 has no child. An inner node has two children or more.
+ *   - A tip other than node 0 has no child. An inner node has one child or more; with one it is a pass-through node,
+ *     which changes no count and no distance.
  * Edge i (1 to m - 1) joins node i to its parent; the labels beyond it are those on node i's side, away from tip 0.
  *
  * Refusals. 0 stands for accepted. A refused call gives its number, 0 in every other field of its answer, and no
@@ -29,12 +30,12 @@
  *
  *   of a table   1   fewer than two words
  *                2   n is not 2 to 256
- *                3   m is not n to 2n - 2
+ *                3   m is not n to 4n
  *                4   the length is not 2 + 2m
  *                5   a parent word breaks its rule
  *                6   node 0's label is not 0, or a label is neither LESKWYN_INNER nor below n
  *               31   some label from 0 to n - 1 does not stand exactly once
- *                7   a tip other than node 0 has a child, or an inner node has fewer than two
+ *                7   a tip other than node 0 has a child, or an inner node has none
  *   of labels   10   a label is n or more
  *               11   two of the labels are equal
  *   of an edge  13   the edge is 0, or m or more
@@ -60,8 +61,8 @@ extern "C" {
 /* The label word of an inner node. */
 #define LESKWYN_INNER 65535
 
-/* Cells that are enough for the work of every pair: (510 - 1)(510 - 1), for two binary trees of 256 tips. */
-#define LESKWYN_WORK_CELLS 259081
+/* Cells that are enough for the work of every pair: (1024 - 1)(1024 - 1), for two trees of 256 tips and 1024 nodes. */
+#define LESKWYN_WORK_CELLS 1046529
 
 /* The refusal, or 0; the first cell of the labels beyond an edge in a walk, and how many they are. */
 typedef struct { uint16_t refusal, start, labels; } leskwyn_beyond_answer;
@@ -83,7 +84,8 @@ typedef struct { uint16_t refusal; uint64_t a, b, c, d, e, distance; } leskwyn_q
 
 /*
  * The refusal, or 0; the splits of the first tree, of the second, and of both; the Robinson-Foulds distance,
- * first + second - 2 common. A split is an edge with at least two tips on each side.
+ * first + second - 2 common. A split is the pair of tip sets of an edge that has at least two tips on each side; a pair
+ * that several edges have is one split.
  */
 typedef struct { uint16_t refusal; uint64_t first, second, common, distance; } leskwyn_split_counts_answer;
 

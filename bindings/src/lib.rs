@@ -1,10 +1,11 @@
 //! Safe calls into Leskwyn, a library that counts two population trees against each other, quartet by quartet, and is
 //! proved to count right. Build it first: `rt staticlib capi` in the root of the repository.
 //!
-//! A tree is a table of 16-bit words: n, the tips (2 to 256); m, the nodes (n to 2n - 2); m parent words; m label
-//! words, [`INNER`] for an inner node. Node 0 is the tip labelled 0, and its only child is node 1; both have the
-//! parent word 0. Every other node's parent is at least 1 and less than the node. Each label from 0 to n - 1 stands
-//! once. A tip other than node 0 has no child, an inner node two or more.
+//! A tree is a table of 16-bit words: n, the tips (2 to 256); m, the nodes (n to 4n); m parent words; m label words,
+//! [`INNER`] for an inner node. Node 0 is the tip labelled 0, and its only child is node 1; both have the parent word 0.
+//! Every other node's parent is at least 1 and less than the node. Each label from 0 to n - 1 stands once. A tip other
+//! than node 0 has no child, an inner node one or more. An inner node with one child is a pass-through node, which
+//! changes no count and no distance.
 //!
 //! Any words in slices of any length may be passed. The answer is the whole answer or a [`Refusal`]; a refused call
 //! changes no lent cell. No call allocates, keeps a slice, or touches anything global, so all may be made from several
@@ -33,8 +34,8 @@ pub use version::{version, Version};
 /// The label word of an inner node.
 pub const INNER: u16 = 65535;
 
-/// Cells that are enough for the work of every pair: (510 - 1)(510 - 1), for two binary trees of 256 tips.
-pub const WORK_CELLS: usize = 509 * 509;
+/// Cells that are enough for the work of every pair: (1024 - 1)(1024 - 1), for two trees of 256 tips and 1024 nodes.
+pub const WORK_CELLS: usize = 1023 * 1023;
 
 /// How four tips lie in a tree.
 #[derive(Clone, Copy, Debug, PartialEq, Eq, Hash)]
@@ -75,14 +76,15 @@ pub struct QuartetTable {
     pub distance: u64,
 }
 
-/// The splits of two trees: edges with at least two tips on each side.
+/// The splits of two trees. A split is the pair of tip sets of an edge that has at least two tips on each side; a pair that
+/// several edges have is one split.
 #[derive(Clone, Copy, Debug, PartialEq, Eq, Hash)]
 pub struct SplitCounts {
     /// The first tree's.
     pub first: u64,
     /// The second's.
     pub second: u64,
-    /// Those whose two tip sets occur in both.
+    /// Those of both.
     pub common: u64,
     /// The Robinson-Foulds distance, first + second - 2 common.
     pub distance: u64,
@@ -136,6 +138,9 @@ impl Weight {
 /// assert!(check(&[3, 4, 0, 0, 1, 1, 0, INNER, 1, 2]).is_ok());
 /// assert_eq!(check(&[3, 4, 0, 0, 1, 1, 0, INNER, 1, 3]).unwrap_err().number(), 6);
 /// assert_eq!(check(&[3, 4, 0, 0, 1, 1, 0, INNER, 1, 1]).unwrap_err().number(), 31);
+/// // A pass-through node between two tips, and an inner node without a child.
+/// assert!(check(&[2, 3, 0, 0, 1, 0, INNER, 1]).is_ok());
+/// assert_eq!(check(&[2, 4, 0, 0, 1, 1, 0, INNER, INNER, 1]).unwrap_err().number(), 7);
 /// ```
 ///
 /// # Errors
@@ -299,6 +304,15 @@ pub fn quartet_table(first: &[u16], second: &[u16], work: &mut [u16]) -> Result<
 }
 
 /// The split counts of two trees. Takes and leaves in the work what [`crossings`] does.
+///
+/// ```
+/// use leskwyn::{split_counts, work_cells, INNER as X};
+/// // Below tip 0: ((1,2),3), with a pass-through node above (1,2). Edges 2 and 3 have the same tip sets.
+/// let table = [4, 7, 0, 0, 1, 2, 3, 3, 1, 0, X, X, X, 1, 2, 3];
+/// let splits = split_counts(&table, &table, &mut vec![0; work_cells(&table, &table)?])?;
+/// assert_eq!((splits.first, splits.second, splits.common, splits.distance), (1, 1, 1, 0));
+/// # Ok::<(), leskwyn::Refusal>(())
+/// ```
 ///
 /// # Errors
 ///
