@@ -2,6 +2,7 @@
 //! crossings from sets of labels, topologies by looking at every edge, claims one by one, splits as pairs of tip sets,
 //! triplets by lowest common ancestors. It is slow and means to be.
 
+use std::collections::BTreeSet;
 use std::ops::Range;
 
 use crate::reference::X;
@@ -15,7 +16,7 @@ pub fn tree_refusal(table: &[u16]) -> u16 {
     if !(2..=256).contains(&n) {
         return 2;
     }
-    if m < n || m > 2 * n - 2 {
+    if m < n || m > 4 * n {
         return 3;
     }
     if table.len() != 2 + 2 * m {
@@ -39,7 +40,7 @@ pub fn tree_refusal(table: &[u16]) -> u16 {
     }
     let children = |i: usize| (1..m).filter(|&child| usize::from(parents[child]) == i).count();
     let node_stands = |i: usize| match (i, labels[i]) {
-        (_, X) => children(i) >= 2,
+        (_, X) => children(i) >= 1,
         (0, _) => true,
         _ => children(i) == 0,
     };
@@ -84,7 +85,7 @@ pub fn label_refusal(table: &[u16], labels: &[u16]) -> u16 {
 }
 
 /// A set of labels from 0 to 255.
-#[derive(Clone, Copy, Debug, Default, PartialEq, Eq)]
+#[derive(Clone, Copy, Debug, Default, PartialEq, Eq, PartialOrd, Ord)]
 pub struct Tips([u64; 4]);
 
 impl Tips {
@@ -334,9 +335,13 @@ impl Tree {
         sum
     }
 
-    /// The tip sets of the splits, both sides of each.
-    fn splits(&self) -> Vec<[Tips; 2]> {
-        let sides = |edge| [true, false].map(|beyond| self.tips(Side { edge, beyond }));
+    /// The splits, each as its two tip sets in order. Edges with the same tip sets have one split.
+    fn splits(&self) -> BTreeSet<[Tips; 2]> {
+        let sides = |edge| {
+            let mut sides = [true, false].map(|beyond| self.tips(Side { edge, beyond }));
+            sides.sort_unstable();
+            sides
+        };
         self.edges().map(sides).filter(|split| split.iter().all(|side| side.count() >= 2)).collect()
     }
 }
@@ -354,8 +359,7 @@ pub fn crossings(first: &Tree, second: &Tree) -> Vec<u16> {
 /// The splits of the first tree, of the second, of both, and the Robinson-Foulds distance.
 pub fn split_counts(first: &Tree, second: &Tree) -> [u64; 4] {
     let (ours, theirs) = (first.splits(), second.splits());
-    let is_theirs = |[one, other]: &[Tips; 2]| theirs.contains(&[*one, *other]) || theirs.contains(&[*other, *one]);
-    let common = ours.iter().filter(|split| is_theirs(split)).count();
+    let common = ours.intersection(&theirs).count();
     [ours.len(), theirs.len(), common, ours.len() + theirs.len() - 2 * common].map(|count| count as u64)
 }
 

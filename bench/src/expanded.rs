@@ -1,10 +1,10 @@
 //! The O(n^2 d^2) method of document 001, section 2.3: both trees expanded to binary ones, and equation (1) and dcount
-//! summed over all pairs of extended claims.
+//! summed over all pairs of extended claims. Pass-through nodes stay as they are: no claim points to one.
 
 use crate::reference::X;
 use crate::sides::{shared_sizes, Tree};
 
-/// A binary tree. Edge i joins node i to its parent; it is new if the expansion brought it in. Side 2i is what lies on
+/// A tree whose inner nodes have one child or two. Edge i joins node i to its parent; it is new if the expansion brought it in. Side 2i is what lies on
 /// node i's side of edge i, side 2i + 1 the rest. Parents come before their children.
 struct Expanded {
     parents: Vec<usize>,
@@ -30,7 +30,7 @@ impl Expanded {
                 tree.node_of[usize::from(labels[node])] = place;
                 continue;
             }
-            // A chain of new edges, with one child off each link and two at the last.
+            // A chain of new edges, with one child off each link and two at the last; an only child needs none.
             let (last, others) = below[node].split_last().expect("an inner node has children");
             for (i, &child) in others.iter().enumerate() {
                 if i > 0 {
@@ -60,8 +60,8 @@ impl Expanded {
         Tree { parents: &self.parents, node_of: &self.node_of }
     }
 
-    /// For each original directed edge into an inner node: the side behind it, and the pairs of sides in front of the
-    /// edges that it reaches by new edges alone, itself among them.
+    /// For each original directed edge into a node of degree three or more: the side behind it, and the pairs of sides in
+    /// front of the edges that it reaches by new edges alone, itself among them.
     fn claims(&self) -> Vec<(usize, Vec<[usize; 2]>)> {
         let mut claims = Vec::new();
         for edge in (1..self.nodes()).filter(|&edge| !self.is_new[edge]) {
@@ -78,7 +78,7 @@ impl Expanded {
     }
 
     fn reach(&self, node: usize, from: usize, ahead: &mut Vec<[usize; 2]>) {
-        if node == 0 || self.children[node].is_empty() {
+        if node == 0 || self.children[node].len() < 2 {
             return;
         }
         let up = (self.parents[node], 2 * node + 1, self.is_new[node]);

@@ -48,7 +48,7 @@ fn check(table: &[u16]) -> Result<(), u16> {
     if !(2..=256).contains(&n) {
         return Err(2);
     }
-    if m < n || m > 2 * n - 2 {
+    if m < n || m > 4 * n {
         return Err(3);
     }
     if arrays.len() != 2 * usize::from(m) {
@@ -72,11 +72,12 @@ fn check(table: &[u16]) -> Result<(), u16> {
     if stands[..usize::from(n)].iter().any(|&count| count != 1) {
         return Err(31);
     }
-    let mut children = [0u16; 512];
+    let mut children = [0u16; 1024];
     for (_, &p) in later {
         children[usize::from(p)] += 1;
     }
-    let misplaced = |(&label, &count): (&u16, &u16)| if label == X { count < 2 } else { count > 0 };
+    // An inner node without a child, or a tip with one.
+    let misplaced = |(&label, &count): (&u16, &u16)| (label == X) == (count == 0);
     if labels.iter().zip(&children).skip(1).any(misplaced) {
         return Err(7);
     }
@@ -109,7 +110,7 @@ fn crossings(first: &[u16], second: &[u16], work: &mut [u16]) {
     }
 }
 
-/// The inner nodes of a tree, each as the list of its edges, its own first. Edge i stands as i - 1.
+/// The nodes of a tree, each as the list of its edges, its own first. Edge i stands as i - 1.
 struct Nodes {
     starts: Vec<usize>,
     edges: Vec<usize>,
