@@ -1,4 +1,4 @@
-//! Seeded trees of many shapes, and the tables of them.
+//! Seeded trees of many shapes, and the tables of them, without pass-through nodes and with them.
 
 use crate::random::Random;
 use crate::reference::X;
@@ -39,6 +39,20 @@ impl Numbering {
     pub const ALL: [Numbering; 3] = [Numbering::DepthFirst, Numbering::BreadthFirst, Numbering::Any];
 }
 
+/// The edges that get pass-through nodes.
+#[derive(Clone, Copy, Debug, PartialEq, Eq)]
+pub enum Chains {
+    AboveTips,
+    AboveInner,
+    /// On the edge of tip 0, so that node 1 is a pass-through node.
+    AtNodeOne,
+    Anywhere,
+}
+
+impl Chains {
+    pub const ALL: [Chains; 4] = [Chains::AboveTips, Chains::AboveInner, Chains::AtNodeOne, Chains::Anywhere];
+}
+
 /// A tree without a root: the neighbours of each node, and the node of each label. A node without neighbours is no
 /// part of it.
 #[derive(Clone, Debug)]
@@ -60,6 +74,17 @@ impl Graph {
             Shape::Fours => Graph::fours(n, random),
         };
         random.shuffle(&mut graph.tips);
+        graph
+    }
+
+    /// The tree of an accepted table.
+    #[must_use]
+    pub fn of_table(table: &[u16]) -> Graph {
+        let (n, m) = (usize::from(table[0]), usize::from(table[1]));
+        let (parents, labels) = table[2..].split_at(m);
+        let node_of = |label: usize| labels.iter().position(|&word| usize::from(word) == label).expect("it stands");
+        let mut graph = Graph { near: vec![Vec::new(); m], tips: (0..n).map(node_of).collect() };
+        (1..m).for_each(|node| graph.join(node, usize::from(parents[node])));
         graph
     }
 
@@ -256,6 +281,64 @@ impl Graph {
         self.join(tip, place);
     }
 
+    /// How many nodes the table has.
+    #[must_use]
+    pub fn nodes(&self) -> usize {
+        self.near.iter().filter(|near| !near.is_empty()).count()
+    }
+
+    /// The edges, each with the end on tip 0's side first.
+    #[must_use]
+    pub fn edges_down(&self) -> Vec<(usize, usize)> {
+        let mut found: Vec<(usize, usize)> = Vec::new();
+        let mut waiting = vec![(self.tips[0], usize::MAX)];
+        while let Some((node, above)) = waiting.pop() {
+            let below = self.near[node].iter().filter(|&&next| next != above);
+            let edges: Vec<(usize, usize)> = below.map(|&next| (node, next)).collect();
+            waiting.extend(edges.iter().map(|&(node, next)| (next, node)));
+            found.extend(edges);
+        }
+        found
+    }
+
+    /// The edges that may get pass-through nodes; all of them where none is of that kind.
+    fn places(&self, chains: Chains) -> Vec<(usize, usize)> {
+        let edges = self.edges_down();
+        let is_of_kind = |&(above, below): &(usize, usize)| match chains {
+            Chains::AboveTips => self.tips.contains(&below),
+            Chains::AboveInner => self.near[below].len() >= 3,
+            Chains::AtNodeOne => above == self.tips[0],
+            Chains::Anywhere => true,
+        };
+        let places: Vec<(usize, usize)> = edges.iter().copied().filter(is_of_kind).collect();
+        if places.is_empty() {
+            edges
+        } else {
+            places
+        }
+    }
+
+    /// The tree with that many pass-through nodes in the midst of an edge.
+    #[must_use]
+    pub fn with_chain(&self, (above, below): (usize, usize), length: usize) -> Graph {
+        let mut graph = self.clone();
+        (0..length).fold(below, |lowest, _| graph.midst((above, lowest)));
+        graph
+    }
+
+    /// The tree with so many nodes: what it lacks is put in as pass-through nodes, on some of the edges of that kind.
+    #[must_use]
+    pub fn with_chains(&self, chains: Chains, nodes: usize, random: &mut Random) -> Graph {
+        let mut places = self.places(chains);
+        random.shuffle(&mut places);
+        places.truncate(random.between(1, places.len()));
+        let mut lengths = vec![0; places.len()];
+        for _ in self.nodes()..nodes {
+            lengths[random.below(places.len())] += 1;
+        }
+        places.into_iter().zip(lengths).fold(self.clone(), |graph, (place, length)| graph.with_chain(place, length))
+    }
+
     /// A tree that differs in a few places: tips moved, labels exchanged, edges contracted.
     #[must_use]
     pub fn near_partner(&self, random: &mut Random) -> Graph {
@@ -322,6 +405,28 @@ pub fn pair(shape: Shape, n: usize, partner: Partner, random: &mut Random) -> (V
         return (second, first);
     }
     (first, second)
+}
+
+/// The table with so many nodes, in any numbering: what it lacks is put in as pass-through nodes.
+pub fn chained(table: &[u16], chains: Chains, nodes: usize, random: &mut Random) -> Vec<u16> {
+    let numbering = *random.pick(&Numbering::ALL);
+    Graph::of_table(table).with_chains(chains, nodes, random).table(numbering, random)
+}
+
+/// How many nodes the table may have with pass-through nodes: any number up to 4n, and often 4n.
+pub fn any_nodes(table: &[u16], random: &mut Random) -> usize {
+    let (n, m) = (usize::from(table[0]), usize::from(table[1]));
+    if random.chance(25) {
+        4 * n
+    } else {
+        random.between(m, 4 * n)
+    }
+}
+
+/// The table with any number of pass-through nodes on edges of any kind, in any numbering.
+pub fn any_chained(table: &[u16], random: &mut Random) -> Vec<u16> {
+    let (chains, nodes) = (*random.pick(&Chains::ALL), any_nodes(table, random));
+    chained(table, chains, nodes, random)
 }
 
 /// The table of a tree, in any numbering.
