@@ -1,13 +1,15 @@
 //! The exported functions against figures that were counted some other way: every number, every figure, every lent
 //! cell before and after, and the cells on either side of those that are lent.
 
+use leskwyn::file::{compare_tables, Figures};
 use leskwyn::raw::{
     self, BeyondAnswer, CentreAnswer, ClaimSumsAnswer, PairFunction, QuartetTableAnswer, SplitCountsAnswer,
     TopologyAnswer, TripletTableAnswer,
 };
-use leskwyn::{ClaimSums, QuartetTable, Refusal, SplitCounts, TripletTable};
+use leskwyn::{ClaimSums, QuartetTable, Refusal, SplitCounts, TripletTable, Weight};
 
 use crate::enumerate::{self, Topology, Tree};
+use crate::pass_through::{taken_out, TakenOut};
 use crate::random::Random;
 use crate::reference::X;
 use crate::weights::{self, Weighing};
@@ -50,6 +52,11 @@ impl Expected {
             splits: enumerate::split_counts(first, second),
             triplets,
         }
+    }
+
+    /// All but the crossings, which have cells for pass-through nodes too.
+    fn figures(&self) -> ([u64; 4], [u64; 5], [u64; 4], [u64; 5]) {
+        (self.claims, self.quartets, self.splits, self.triplets)
     }
 
     fn quartet_table(&self) -> QuartetTable {
@@ -132,7 +139,7 @@ fn walk_agrees(table: &[u16], expected: u16, tree: Option<&Tree>, random: &mut R
 /// the same cells on another.
 fn beyond_agrees(table: &[u16], expected: u16, tree: Option<&Tree>, random: &mut Random) {
     let n = table.first().map_or(0, |&n| usize::from(n).min(300));
-    let m = table.get(1).map_or(0, |&m| m.min(600));
+    let m = table.get(1).map_or(0, |&m| m.min(1100));
     let places = tree.map(Tree::places_beyond).unwrap_or_default();
     for cells in [n.saturating_sub(1), n, n + 3] {
         let other = random.words(cells);
@@ -337,6 +344,52 @@ pub fn pair_agrees(first: &[u16], second: &[u16], expected: &Expected, random: &
             wrappers_agree(first, second, cells, Some(expected), random);
         });
     });
+}
+
+/// The printed figures of two accepted tables, and the bits of some weighted distances.
+fn figures(first: &[u16], second: &[u16]) -> (Figures, [u64; 4]) {
+    let mut work = vec![0; leskwyn::work_cells(first, second).expect("accepted")];
+    let weights =
+        [Weight::None, Weight::Full, Weight::Part(weights::over_256(1)), Weight::Part(weights::over_256(128))];
+    let weighted =
+        weights.map(|weight| leskwyn::weighted_distance(first, second, &mut work, weight).expect("accepted"));
+    (compare_tables(first, second).expect("accepted"), weighted.map(f64::to_bits))
+}
+
+/// Two accepted tables, counted by `count`: the library agrees on them, and both have the same figures without the
+/// pass-through nodes of either table, or of both.
+pub fn passing_through_agrees(
+    first: &[u16],
+    second: &[u16],
+    count: impl Fn(&[u16], &[u16]) -> Expected,
+    random: &mut Random,
+) -> Expected {
+    let expected = count(first, second);
+    pair_agrees(first, second, &expected, random);
+    let (ours, theirs) = (taken_out(first).table, taken_out(second).table);
+    let counted = count(&ours, &theirs);
+    assert_eq!(expected.figures(), counted.figures(), "{first:?} and {second:?}, counted");
+    let told = figures(first, second);
+    for (one, other) in [(&ours[..], second), (first, &theirs[..]), (&ours, &theirs)] {
+        assert_eq!(told, figures(one, other), "{first:?} and {second:?}, {one:?} and {other:?}");
+    }
+    expected
+}
+
+/// Topologies, centres and the labels beyond edges are those of the table without its pass-through nodes.
+pub fn tree_passes_through(table: &[u16], random: &mut Random) {
+    let TakenOut { table: bare, was } = taken_out(table);
+    let (tree, without) = (Tree::of(table), Tree::of(&bare));
+    for edge in 1..bare[1] {
+        let labels = tree.labels_beyond(was[usize::from(edge)]);
+        assert_eq!(labels, without.labels_beyond(edge), "edge {edge} of {bare:?}, of {table:?}");
+    }
+    for _ in 0..8 {
+        let [a, b, c, d] = [0; 4].map(|_: u16| random.below(usize::from(table[0])) as u16);
+        assert_eq!(leskwyn::topology(table, a, b, c, d), leskwyn::topology(&bare, a, b, c, d), "{table:?}");
+        let centre = leskwyn::centre(&bare, a, b, c).map(|node| was[usize::from(node)]);
+        assert_eq!(leskwyn::centre(table, a, b, c), centre, "{a} {b} {c} in {table:?}");
+    }
 }
 
 /// Two tables of which one is refused, or which do not fit each other.

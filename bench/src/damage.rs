@@ -7,13 +7,13 @@ use crate::reference::X;
 pub const NUMBERS: [u16; 8] = [1, 2, 3, 4, 5, 6, 31, 7];
 
 /// An accepted table, spoiled with the rule of that number in view. What number it has afterwards is for the
-/// enumerator to say: two tips, for one, cannot break rule 7 alone.
+/// enumerator to say: two nodes, for one, cannot break rule 7 alone.
 pub fn damaged(table: &[u16], number: u16, random: &mut Random) -> Vec<u16> {
     let mut spoiled = table.to_vec();
     match number {
         1 => spoiled.truncate(random.below(2)),
         2 => spoiled[0] = *random.pick(&[0, 1, 257, 258, 512, 32768, X]),
-        3 => spoiled[1] = *random.pick(&[0, 1, table[0] - 1, 2 * table[0] - 1, 2 * table[0], 32768, X]),
+        3 => spoiled[1] = *random.pick(&[0, 1, table[0] - 1, 4 * table[0] + 1, 4 * table[0] + 2, 32768, X]),
         4 => damage_length(&mut spoiled, random),
         5 => damage_parent(&mut spoiled, random),
         6 => damage_label(&mut spoiled, random),
@@ -29,7 +29,7 @@ fn damage_length(table: &mut Vec<u16>, random: &mut Random) {
         0 => table.push(random.word()),
         1 => table.truncate(random.between(2, words - 1)),
         2 => table.extend(random.words(more)),
-        _ => table[1] = random.between(n, 2 * n - 2) as u16,
+        _ => table[1] = random.between(n, 4 * n) as u16,
     }
 }
 
@@ -69,16 +69,30 @@ fn damage_places(table: &mut [u16], random: &mut Random) {
         return;
     }
     let i = random.between(2, m - 1);
-    match random.below(2) {
+    let inner: Vec<usize> = (2..m).filter(|&node| table[2 + m + node] == X).collect();
+    match random.below(4) {
         0 => table[2 + i] = random.between(1, i - 1) as u16,
+        1 | 2 if !inner.is_empty() => without_children(table, *random.pick(&inner)),
         _ => table.swap(2 + m + random.between(1, m - 1), 2 + m + i),
     }
+}
+
+/// The children of a node other than 0 and 1 hang from its parent in its place.
+pub fn without_children(table: &mut [u16], node: usize) {
+    let m = usize::from(table[1]);
+    let above = table[2 + node];
+    let children = table[2..2 + m].iter_mut().filter(|parent| usize::from(**parent) == node);
+    children.for_each(|parent| *parent = above);
 }
 
 /// Words with little plan: each rule is kept in most cases and by chance, so that all numbers come up.
 pub fn noise(random: &mut Random) -> Vec<u16> {
     let n = if random.chance(90) { random.between(2, 6) } else { random.below(2) };
-    let m = if random.chance(90) { random.between(n, (2 * n).max(3) - 2) } else { random.below(12) };
+    let m = match random.below(10) {
+        0 => random.below(12),
+        1..=3 => random.between(n, 4 * n),
+        _ => random.between(n, (2 * n).max(3) - 2),
+    };
     let mut labels: Vec<u16> = (0..n as u16).chain(std::iter::repeat(X)).take(m).collect();
     if m > 1 {
         random.shuffle(&mut labels[1..]);

@@ -6,7 +6,7 @@ use std::path::{Path, PathBuf};
 use std::process::{Command, Stdio};
 
 use bench::damage::{damaged, noise, NUMBERS};
-use bench::generate::{pair, table, Partner, Shape};
+use bench::generate::{any_chained, chained, pair, table, Chains, Partner, Shape};
 use bench::random::Random;
 use bench::reference::{P, Q, TABLES};
 use leskwyn::file::{bytes, compare, listing};
@@ -58,6 +58,20 @@ fn generated_pairs() {
 }
 
 #[test]
+fn pairs_with_pass_through_nodes() {
+    let program = proved_program();
+    let mut random = Random::seeded(605);
+    for at in 0..500 {
+        let shape = Shape::ALL[at % Shape::ALL.len()];
+        let partner = if at % 2 == 0 { Partner::Near } else { Partner::Far };
+        // 31 tips are the most whose two tables of 4n nodes have 1016 bytes or fewer.
+        let (first, second) = pair(shape, 2 + at % 30, partner, &mut random);
+        let (first, second) = (any_chained(&first, &mut random), any_chained(&second, &mut random));
+        assert!(file_agrees(&program, &bytes(&first, &second)));
+    }
+}
+
+#[test]
 fn damaged_pairs() {
     let program = proved_program();
     let mut random = Random::seeded(610);
@@ -65,6 +79,9 @@ fn damaged_pairs() {
     for at in 0..500 {
         let shape = *random.pick(&Shape::ALL);
         let (mut first, mut second) = pair(shape, 2 + at % 24, Partner::Far, &mut random);
+        if random.chance(50) {
+            first = any_chained(&first, &mut random);
+        }
         let number = NUMBERS[at % NUMBERS.len()];
         match at % 3 {
             0 => first = damaged(&first, number, &mut random),
@@ -127,14 +144,18 @@ fn every_word_of_a_file_changed() {
     }
 }
 
+/// Two tables of 126 nodes: binary trees of 64 tips, and fewer tips with pass-through nodes.
 #[test]
 fn the_longest_files() {
     let program = proved_program();
     let mut random = Random::seeded(630);
     for shape in [Shape::Binary, Shape::Caterpillar, Shape::Balanced] {
-        let table = table(shape, 64, &mut random);
-        let file = bytes(&table, &table);
-        assert_eq!(file.len(), MOST);
-        assert!(file_agrees(&program, &file));
+        for tips in [64, 63, 48, 32] {
+            let bare = table(shape, tips, &mut random);
+            let long = chained(&bare, *random.pick(&Chains::ALL), 126, &mut random);
+            let file = bytes(&long, &long);
+            assert_eq!(file.len(), MOST);
+            assert!(file_agrees(&program, &file));
+        }
     }
 }

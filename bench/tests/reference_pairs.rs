@@ -2,9 +2,12 @@
 
 use bench::agree::{centre_agrees, pair_agrees, topology_agrees, tree_agrees, Expected};
 use bench::enumerate::Tree;
+use bench::generate::{any_nodes, chained, Chains};
 use bench::random::Random;
 use bench::reference::{P, PAIRS, Q, R, TABLES, THREE, TWO, X};
 use bench::{common_ancestors, cubic, expanded, straight};
+use leskwyn::file::compare_tables;
+use leskwyn::{ClaimSums, QuartetTable, SplitCounts, TripletTable};
 
 /// The cases A to E, and the distance B + C + D.
 fn with_distance([a, b, c, d, e]: [u64; 5]) -> [u64; 6] {
@@ -20,6 +23,30 @@ fn the_pairs_have_their_figures() {
         assert_eq!(figures, (pair.claims, pair.quartets, pair.splits), "{} by the enumerator", pair.name);
         assert_eq!(with_distance(expected.triplets), pair.triplets, "triplets of {} by the enumerator", pair.name);
         pair_agrees(pair.first, pair.second, &expected, &mut random);
+    }
+}
+
+/// Pass-through nodes are put in above tips, above inner nodes, at node 1 and anywhere, in both tables.
+#[test]
+fn the_pairs_have_their_figures_with_pass_through_nodes() {
+    let mut random = Random::seeded(3);
+    for (pair, chains) in PAIRS.iter().flat_map(|pair| Chains::ALL.map(|chains| (pair, chains))) {
+        for _ in 0..40 {
+            let [first, second] = [pair.first, pair.second].map(|table| {
+                let nodes = any_nodes(table, &mut random);
+                chained(table, chains, nodes, &mut random)
+            });
+            let told = format!("{} as {first:?} and {second:?}", pair.name);
+            let figures = compare_tables(&first, &second).expect("accepted");
+            let ClaimSums { first, second, same, different } = figures.claims;
+            assert_eq!([first, second, same, different], pair.claims, "claims of {told}");
+            let QuartetTable { a, b, c, d, e, distance } = figures.quartets;
+            assert_eq!([a, b, c, d, e, distance], pair.quartets, "quartets of {told}");
+            let SplitCounts { first, second, common, distance } = figures.splits;
+            assert_eq!([first, second, common, distance], pair.splits, "splits of {told}");
+            let TripletTable { a, b, c, d, e, distance } = figures.triplets;
+            assert_eq!([a, b, c, d, e, distance], pair.triplets, "triplets of {told}");
+        }
     }
 }
 
@@ -80,7 +107,8 @@ fn the_edges_of_acceptance() {
         table
     };
     assert_eq!([1, 257].map(|n| number(&with(0, n))), [2, 2]);
-    assert_eq!([4, 9].map(|m| number(&with(1, m))), [3, 3]);
+    assert_eq!([4, 21].map(|m| number(&with(1, m))), [3, 3]);
+    assert_eq!([5, 9, 20].map(|m| number(&with(1, m))), [4, 4, 4]);
     assert_eq!(number(&[P, &[0]].concat()), 4);
     assert_eq!(number(TWO), 0);
     assert_eq!(number(THREE), 0);

@@ -4,9 +4,10 @@
 use std::collections::BTreeMap;
 
 use bench::agree::{pair_agrees, refusal_agrees, tree_agrees, Expected};
-use bench::damage::{damaged, noise, NUMBERS};
+use bench::damage::{damaged, noise, without_children, NUMBERS};
 use bench::enumerate::{pair_refusal, tree_refusal};
-use bench::generate::{table, Shape};
+use bench::generate::{any_chained, chained, table, Chains, Shape};
+use bench::pass_through::pass_through_nodes;
 use bench::random::Random;
 use bench::reference::{W, X};
 use bench::straight;
@@ -28,9 +29,17 @@ impl Met {
     }
 }
 
+/// A table of n tips, in half of the cases with pass-through nodes.
+fn table_of(n: usize, random: &mut Random) -> Vec<u16> {
+    let bare = table(*random.pick(&Shape::ALL), n, random);
+    if random.chance(50) {
+        return any_chained(&bare, random);
+    }
+    bare
+}
+
 fn any_table(most: usize, random: &mut Random) -> Vec<u16> {
-    let shape = *random.pick(&Shape::ALL);
-    table(shape, random.between(2, most), random)
+    table_of(random.between(2, most), random)
 }
 
 #[test]
@@ -56,10 +65,7 @@ fn damaged_pairs() {
     let mut met = Met::default();
     for at in 0..12_000 {
         let n = if at % 40 == 0 { random.between(15, 256) } else { random.between(2, 14) };
-        let [mut first, mut second] = [0; 2].map(|_| {
-            let shape = *random.pick(&Shape::ALL);
-            table(shape, n, &mut random)
-        });
+        let [mut first, mut second] = [0; 2].map(|_| table_of(n, &mut random));
         let cells = (usize::from(first[1]) - 1) * (usize::from(second[1]) - 1);
         let spoil = random.between(1, 3);
         if spoil & 1 != 0 {
@@ -118,6 +124,50 @@ fn label_trouble() {
     }
 }
 
+/// m at the edges of n to 4n, for every n: words that keep this rule and break the next, then tables that keep all the
+/// others.
+#[test]
+fn numbers_of_nodes() {
+    let mut random = Random::seeded(516);
+    let check = |table: &[u16]| leskwyn::check(table).err().map_or(0, leskwyn::Refusal::number);
+    for n in 2..=256u16 {
+        for m in [n, 2 * n - 2, 2 * n - 1, 2 * n, 4 * n - 1, 4 * n] {
+            tree_agrees(&[n, m], &mut random);
+            assert_eq!(check(&[n, m]), 4, "{n} and {m}");
+        }
+        for m in [0, 1, n - 1, 4 * n + 1, 4 * n + 2, 8 * n, 32768 + n, X] {
+            tree_agrees(&[n, m], &mut random);
+            assert_eq!(check(&[n, m]), 3, "{n} and {m}");
+        }
+        let bare = table(*random.pick(&Shape::ALL), usize::from(n), &mut random);
+        for (m, number) in [(2 * n - 1, 0), (4 * n, 0), (4 * n + 1, 3)] {
+            let long = chained(&bare, *random.pick(&Chains::ALL), usize::from(m), &mut random);
+            assert_eq!((long[1], tree_refusal(&long), check(&long)), (m, number, number), "{long:?}");
+        }
+    }
+}
+
+/// The only child of a pass-through node hangs from that node's parent instead.
+#[test]
+fn an_only_child_lost() {
+    let mut random = Random::seeded(517);
+    let mut lost = 0;
+    for _ in 0..2_000 {
+        let bare = table(*random.pick(&Shape::ALL), random.between(2, 12), &mut random);
+        let long = any_chained(&bare, &mut random);
+        for node in pass_through_nodes(&long).into_iter().filter(|&node| node > 1) {
+            let mut spoiled = long.clone();
+            without_children(&mut spoiled, node);
+            tree_agrees(&spoiled, &mut random);
+            assert_eq!(tree_refusal(&spoiled), 7, "{spoiled:?}");
+            assert_eq!(refusal_agrees(&spoiled, &long, 3_000, &mut random), 7);
+            assert_eq!(refusal_agrees(&long, &spoiled, 0, &mut random), 107);
+            lost += 1;
+        }
+    }
+    assert!(lost > 2_000, "{lost} lost their only child");
+}
+
 #[test]
 fn tips_that_differ() {
     let mut random = Random::seeded(520);
@@ -135,8 +185,7 @@ fn tips_that_differ() {
 fn a_cell_too_few() {
     let mut random = Random::seeded(530);
     for n in 2..=256 {
-        let first = table(*random.pick(&Shape::ALL), n, &mut random);
-        let second = table(*random.pick(&Shape::ALL), n, &mut random);
+        let (first, second) = (table_of(n, &mut random), table_of(n, &mut random));
         let cells = (usize::from(first[1]) - 1) * (usize::from(second[1]) - 1);
         assert_eq!(refusal_agrees(&first, &second, cells - 1, &mut random), 9);
     }

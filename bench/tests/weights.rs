@@ -4,7 +4,7 @@
 use bench::agree::{weighted_agrees, Expected};
 use bench::damage::damaged;
 use bench::enumerate::pair_refusal;
-use bench::generate::{pair, table, Partner, Shape};
+use bench::generate::{any_chained, chained, pair, table, Chains, Partner, Shape};
 use bench::random::Random;
 use bench::reference::PAIRS;
 use bench::weights::{every_kind, numerator, over_256, right_fractions, weighted, wrong_fractions, Weighing};
@@ -61,7 +61,10 @@ fn small_pairs() {
     let mut random = Random::seeded(620);
     let weighings = parts();
     for at in 0..280 {
-        let (first, second) = pair(Shape::ALL[at % Shape::ALL.len()], 4 + at % 9, Partner::Far, &mut random);
+        let (mut first, second) = pair(Shape::ALL[at % Shape::ALL.len()], 4 + at % 9, Partner::Far, &mut random);
+        if at % 4 == 0 {
+            first = any_chained(&first, &mut random);
+        }
         let expected = Expected::enumerated(&first, &second);
         for &weighing in &weighings {
             weighted_agrees(&first, &second, expected.crossings.len(), weighing, Some(&expected), &mut random);
@@ -85,6 +88,11 @@ fn the_most_tips() {
         let cells = expected.crossings.len();
         for weighing in every_kind(&[0.5, -0.0, 1.0 / 512.0, f64::NAN]) {
             weighted_agrees(&first, &second, cells, weighing, Some(&expected), &mut random);
+        }
+        let [first, second] = [first, second].map(|table| chained(&table, Chains::Anywhere, 1024, &mut random));
+        for k in [0, 1, 128, 255, 256] {
+            let answer = weighted_distance(&first, &second, &mut work, Weight::Part(over_256(k))).expect("accepted");
+            assert_eq!(answer.to_bits(), weighted(expected.quartets, k).to_bits(), "{k}/256 with 1024 nodes");
         }
     }
 }
