@@ -35,6 +35,32 @@ fn the_largest_trees() {
     assert_eq!(printed(&bytes(&table, &table)), expected);
 }
 
+/// The same tree with a chain of so many pass-through nodes at node 1.
+fn with_chain(table: &[u16], length: u16) -> Vec<u16> {
+    let (n, m) = (table[0], table[1]);
+    let (parents, labels) = table[2..].split_at(usize::from(m));
+    // Node 0, the chain, and the other nodes with numbers that are greater by its length.
+    let later = parents[1..].iter().map(|parent| parent + length);
+    let parents = [0].into_iter().chain(0..length).chain(later);
+    let inner = vec![leskwyn::INNER; usize::from(length)];
+    let labels = [&labels[..1], &inner, &labels[1..]].concat();
+    [n, m + length].into_iter().chain(parents).chain(labels).collect()
+}
+
+/// A caterpillar of 510 nodes with 514 pass-through nodes, and with one more.
+#[test]
+fn the_most_nodes() {
+    let table = caterpillar(256);
+    let (long, too_long) = (with_chain(&table, 514), with_chain(&table, 515));
+    assert_eq!(leskwyn::work_cells(&long, &long), Ok(leskwyn::WORK_CELLS));
+    let expected = printed(&bytes(&table, &table));
+    assert!(expected.ends_with("\nsplits 253 253 253 0\ntriplets 2731135 0 0 0 0\n"));
+    assert_eq!(printed(&bytes(&long, &long)), expected);
+    assert_eq!(printed(&bytes(&long, &table)), expected);
+    assert_eq!(printed(&bytes(&too_long, &table)), "refused 3\n");
+    assert_eq!(printed(&bytes(&table, &too_long)), "refused 103\n");
+}
+
 /// Refused for what is in it: never 9, never 14.
 #[test]
 fn large_files_that_are_refused() {
