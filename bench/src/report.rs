@@ -81,6 +81,20 @@ pub fn triplets(measured: &[Measured]) -> String {
     text
 }
 
+/// The times of the same trees without pass-through nodes and with them, as a table in Markdown.
+pub fn pass_through(measured: &[Measured]) -> String {
+    let mut text = String::from(
+        "| trees, n = 256 | this library (µs) | straight Rust (µs) | O(n²d²) (µs) | O(n³) (µs) | triplet table (µs) \
+         | library ÷ straight |\n|---|---:|---:|---:|---:|---:|---:|\n",
+    );
+    for Measured { name, micros: times, triplets, .. } in measured {
+        let columns = times.map(micros).join(" | ");
+        let (triplets, compared) = (micros(*triplets), ratio(times[0], times[1]));
+        writeln!(text, "| {name} | {columns} | {triplets} | {compared} |").expect("a string takes all");
+    }
+    text
+}
+
 /// The processor as the system names it.
 fn processor() -> String {
     let told = fs::read_to_string("/proc/cpuinfo").unwrap_or_default();
@@ -96,8 +110,9 @@ pub fn commands(page: &str) -> &str {
 }
 
 /// docs/BENCHMARKS.md but for its last section.
-pub fn page(measured: &[Measured]) -> String {
+pub fn page(measured: &[Measured], passed_through: &[Measured]) -> String {
     let (processor, table, ratios, triplets) = (processor(), table(measured), ratios(measured), triplets(measured));
+    let pass_through = pass_through(passed_through);
     format!(
         "# Benchmarks
 
@@ -132,7 +147,13 @@ within one run, in microseconds: what else the machine does only adds to a time.
 same pairs, timed in the same turns. Its five cases agree with those of a method in O(n³), by the lowest common ancestors of
 all two tips (`bench/src/common_ancestors.rs`).
 
-{triplets}"
+{triplets}
+## Pass-through nodes
+
+Two random binary trees of 256 tips, without pass-through nodes and with 514 of them in each on random edges, which is the
+most that a table may have: m = 4n. Both pairs are timed in the same turns.
+
+{pass_through}"
     )
 }
 

@@ -4,7 +4,7 @@
 use std::hint::black_box;
 use std::time::{Duration, Instant};
 
-use bench::generate::{Graph, Numbering, Shape};
+use bench::generate::{Chains, Graph, Numbering, Shape};
 use bench::random::Random;
 use bench::{common_ancestors, cubic, expanded, straight};
 
@@ -22,12 +22,14 @@ const fn pairing(name: &'static str, first: Shape, second: Shape) -> Pairing {
     Pairing { name, first, second }
 }
 
+const RANDOM_BINARY: Pairing = pairing("random binary", Shape::Binary, Shape::Binary);
+
 pub const PAIRINGS: [Pairing; 12] = [
     pairing("caterpillars", Shape::Caterpillar, Shape::Caterpillar),
     pairing("balanced", Shape::Balanced, Shape::Balanced),
     pairing("stars", Shape::Star, Shape::Star),
     pairing("mixed degree", Shape::Mixed, Shape::Mixed),
-    pairing("random binary", Shape::Binary, Shape::Binary),
+    RANDOM_BINARY,
     pairing("degree four", Shape::Fours, Shape::Fours),
     pairing("caterpillar, star", Shape::Caterpillar, Shape::Star),
     pairing("balanced, caterpillar", Shape::Balanced, Shape::Caterpillar),
@@ -124,17 +126,34 @@ fn tables(pairing: &Pairing, tips: usize) -> [Vec<u16>; 2] {
     [pairing.first, pairing.second].map(|shape| Graph::of(shape, tips, &mut random).table(Numbering::Any, &mut random))
 }
 
-/// All sizes of a pairing, timed in turn, round after round.
-pub fn measure(pairing: &Pairing) -> Vec<Measured> {
-    let tables = TIPS.map(|tips| tables(pairing, tips));
-    let mut courses = tables.each_ref().map(|[first, second]| Course::of(pairing.name, first, second));
+/// Some pairs of trees, each under its name, timed in turn, round after round.
+fn timed(pairs: &[(&'static str, [Vec<u16>; 2])]) -> Vec<Measured> {
+    let mut courses: Vec<Course> =
+        pairs.iter().map(|(name, [first, second])| Course::of(name, first, second)).collect();
     for round in 0..ROUNDS {
         courses.iter_mut().for_each(|course| course.round(round));
     }
-    let least = courses.map(|course| course.times.map(fastest));
-    let measured = |tips: usize, times: [f64; TIMED]| {
-        let [micros @ .., triplets] = times;
-        Measured { name: pairing.name, tips, micros, triplets }
+    let measured = |(course, (name, [first, _])): (Course, &(&'static str, [Vec<u16>; 2]))| {
+        let [micros @ .., triplets] = course.times.map(fastest);
+        Measured { name, tips: usize::from(first[0]), micros, triplets }
     };
-    TIPS.into_iter().zip(least).map(|(tips, times)| measured(tips, times)).collect()
+    courses.into_iter().zip(pairs).map(measured).collect()
+}
+
+/// All sizes of a pairing.
+pub fn measure(pairing: &Pairing) -> Vec<Measured> {
+    timed(&TIPS.map(|tips| (pairing.name, tables(pairing, tips))))
+}
+
+/// Two random binary trees of 256 tips, without pass-through nodes and with as many as there may be.
+pub fn measure_pass_through() -> Vec<Measured> {
+    const TIPS: usize = 256;
+    let mut random = Random::seeded(4 * TIPS as u64);
+    let bare = tables(&RANDOM_BINARY, TIPS);
+    let long = bare.each_ref().map(|table| {
+        let tree = Graph::of_table(table).with_chains(Chains::Anywhere, 4 * TIPS, &mut random);
+        tree.table(Numbering::Any, &mut random)
+    });
+    assert_eq!([&bare, &long].map(|[first, second]| [first[1], second[1]]), [[510, 510], [1024, 1024]]);
+    timed(&[("random binary, m = 510", bare), ("the same trees, m = 1024", long)])
 }
