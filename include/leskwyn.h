@@ -14,7 +14,7 @@
  *
  * Threads. No globals, no allocation, no input or output. Calls from several threads at once need no lock, as long as
  * no two of them lend the same cells and nobody writes to a table that is being read. leskwyn_claim_sums,
- * leskwyn_quartet_table and leskwyn_weighted_distance take up to 200 kB of stack, the others up to 20 kB.
+ * leskwyn_quartet_table and leskwyn_weighted_distance take up to 240 kB of stack, the others up to 40 kB.
  *
  * A tree table. 16-bit words: n, the tips (2 to 256); m, the nodes (n to 4n); then m parent words; then m label words;
  * 2 + 2m words in all.

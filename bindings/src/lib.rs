@@ -9,7 +9,8 @@
 //!
 //! Any words in slices of any length may be passed. The answer is the whole answer or a [`Refusal`]; a refused call
 //! changes no lent cell. No call allocates, keeps a slice, or touches anything global, so all may be made from several
-//! threads at once. [`claim_sums`], [`quartet_table`] and [`weighted_distance`] take up to 200 kB of stack.
+//! threads at once. [`claim_sums`], [`quartet_table`] and [`weighted_distance`] take up to 240 kB of stack, the others up
+//! to 40 kB.
 //!
 //! ```
 //! use leskwyn::{quartet_table, work_cells, INNER as X};
@@ -76,8 +77,8 @@ pub struct QuartetTable {
     pub distance: u64,
 }
 
-/// The splits of two trees. A split is the pair of tip sets of an edge that has at least two tips on each side; a pair that
-/// several edges have is one split.
+/// The splits of two trees. A split is the pair of tip sets of an edge that has at least two tips on each side; a pair
+/// that several edges have is one split.
 #[derive(Clone, Copy, Debug, PartialEq, Eq, Hash)]
 pub struct SplitCounts {
     /// The first tree's.
