@@ -4,8 +4,8 @@
 use crate::reference::X;
 use crate::sides::{shared_sizes, Tree};
 
-/// A tree whose inner nodes have one child or two. Edge i joins node i to its parent; it is new if the expansion brought it in. Side 2i is what lies on
-/// node i's side of edge i, side 2i + 1 the rest. Parents come before their children.
+/// A tree whose inner nodes have one child or two. Edge i joins node i to its parent; it is new if the expansion brought
+/// it in. Side 2i is what lies on node i's side of edge i, side 2i + 1 the rest. Parents come before their children.
 struct Expanded {
     parents: Vec<usize>,
     is_new: Vec<bool>,
@@ -60,8 +60,8 @@ impl Expanded {
         Tree { parents: &self.parents, node_of: &self.node_of }
     }
 
-    /// For each original directed edge into a node of degree three or more: the side behind it, and the pairs of sides in
-    /// front of the edges that it reaches by new edges alone, itself among them.
+    /// For each original directed edge into a node of degree three or more: the side behind it, and the pairs of sides
+    /// in front of the edges that it reaches by new edges alone, itself among them.
     fn claims(&self) -> Vec<(usize, Vec<[usize; 2]>)> {
         let mut claims = Vec::new();
         for edge in (1..self.nodes()).filter(|&edge| !self.is_new[edge]) {

@@ -42,7 +42,9 @@ impl Numbering {
 /// The edges that get pass-through nodes.
 #[derive(Clone, Copy, Debug, PartialEq, Eq)]
 pub enum Chains {
+    /// Above tips other than tip 0.
     AboveTips,
+    /// Above inner nodes.
     AboveInner,
     /// On the edge of tip 0, so that node 1 is a pass-through node.
     AtNodeOne,

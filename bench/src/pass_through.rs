@@ -86,25 +86,24 @@ mod tests {
         }
     }
 
-    /// Where the chains stand.
+    /// The label of the first node below a chain that is no pass-through node.
+    fn label_below(table: &[u16], node: usize) -> u16 {
+        let (parents, labels) = table[2..].split_at(usize::from(table[1]));
+        let goes = pass_through_nodes(table);
+        let mut lowest = node;
+        while goes.contains(&lowest) {
+            lowest = parents.iter().skip(1).position(|&parent| usize::from(parent) == lowest).expect("one child") + 1;
+        }
+        labels[lowest]
+    }
+
+    /// Chains of each kind stand where they should: P has 8 nodes, and gets 12 more.
     #[test]
     fn of_each_kind() {
         let mut random = Random::seeded(1010);
-        let below = |table: &[u16], node: usize| {
-            let parents = &table[2..2 + usize::from(table[1])];
-            let child = |node: usize| (1..parents.len()).find(|&child| usize::from(parents[child]) == node);
-            let nodes = pass_through_nodes(table);
-            let mut lowest = node;
-            while nodes.contains(&lowest) {
-                lowest = child(lowest).expect("one child");
-            }
-            lowest
-        };
         for _ in 0..200 {
-            let above_tips = chained(P, Chains::AboveTips, 20, &mut random);
-            let above_inner = chained(P, Chains::AboveInner, 20, &mut random);
-            let at_node_one = chained(P, Chains::AtNodeOne, 20, &mut random);
-            let label_below = |table: &[u16], node| table[2 + usize::from(table[1]) + below(table, node)];
+            let [above_tips, above_inner, at_node_one] = [Chains::AboveTips, Chains::AboveInner, Chains::AtNodeOne]
+                .map(|chains| chained(P, chains, 20, &mut random));
             assert!(pass_through_nodes(&above_tips).iter().all(|&node| label_below(&above_tips, node) != X));
             assert!(pass_through_nodes(&above_inner).iter().all(|&node| label_below(&above_inner, node) == X));
             assert_eq!(pass_through_nodes(&at_node_one), (1..=12).collect::<Vec<usize>>());
