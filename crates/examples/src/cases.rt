@@ -31,19 +31,19 @@ use super::print;
 use super::quartet_cases;
 use super::tree_cases;
 use table_words::as_index;
-ghost use Prim.Native.Nat.{_≤_};
+
+// The cells that two tables of 256 tips and 1024 nodes need.
+const MOST_CELLS: usize = 1046529;
 
 fn cells_of(thousands: u16, units: u16) -> usize {
     thousands as usize * 1000 + units as usize
 }
 
-// The most cells that a case of this kind gets. Two tables of 510 nodes need 259081; those of the cases have no more.
-fn most_cells(kind: u16) -> usize
-    ensures { λ r. ⌜ r ≤ 259081 ⌝ }
-{
+// The most cells that a case of this kind gets.
+fn most_cells(kind: u16) -> usize {
     match kind {
         1 | 10 | 11 | 12 => 1024,
-        _ => 259081,
+        _ => MOST_CELLS,
     }
 }
 
@@ -84,13 +84,22 @@ fn ask_pair(kind: u16, first: &[u16], second: &[u16], work: &mut [u16]) {
     }
 }
 
-fn ask(kind: u16, cells: usize, len: usize, tables: &[u16]) {
-    let mut work = [0u16; 259081];
-    if cells <= most_cells(kind) {
+// The case with as many of the lent cells as it asks for.
+fn ask_lent(kind: u16, cells: usize, len: usize, tables: &[u16], work: &mut [u16]) {
+    if cells <= work.len() {
         if len <= tables.len() {
             ask_pair(kind, &tables[..len], &tables[len..], &mut work[..cells]);
             return;
         }
+    }
+    print::bad_case();
+}
+
+fn ask(kind: u16, cells: usize, len: usize, tables: &[u16]) {
+    let mut work = [0u16; MOST_CELLS];
+    if cells <= most_cells(kind) {
+        ask_lent(kind, cells, len, tables, &mut work);
+        return;
     }
     print::bad_case();
 }

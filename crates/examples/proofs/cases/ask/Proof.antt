@@ -1,8 +1,8 @@
--- The parts of the words and of the cells that are lent have their lengths.
+-- All cells are lent.
 -- Assumes nothing.
 use mathlib.Core.Path.{sym}
-use lib.Seq.{length-take-le}
-use native.Mathlib.Omega.{arith}
+use Prim.Native.Nat.{ℕ}
+use lib.ListN.{length-replicate}
 use borrow.Author.Needs.{needs}
 use Rattle.examples.proofs.cases.ask.Statement.{statement}
 use Rattle.examples.proofs.cases.ask.Tie as tie
@@ -10,29 +10,11 @@ use Rattle.examples.proofs.cases.ask.Tie as tie
 most-cells-requires : tie.Need-most-cells-requires
 most-cells-requires c κs = search needs
 
-slice-aggregate-ask-pair : tie.Need-slice-aggregate-ask-pair
-slice-aggregate-ask-pair c = sym (length-take-le _ _ (omega arith))
+slice-aggregate-ask-lent : tie.Need-slice-aggregate-ask-lent
+slice-aggregate-ask-lent c = sym (length-replicate {A = ℕ} 1046529 0)
 
-mul-ask-pair : tie.Need-mul-ask-pair
-mul-ask-pair c = search needs
-
-sub-ask-pair : tie.Need-sub-ask-pair
-sub-ask-pair c = search needs
-
-part-ask-pair-start : tie.Need-part-ask-pair-start
-part-ask-pair-start c = search needs
-
-part-ask-pair-end : tie.Need-part-ask-pair-end
-part-ask-pair-end c = search needs
-
-array-borrow-prefix-work : tie.Need-array-borrow-prefix-work
-array-borrow-prefix-work c = search needs
-
-slice-aggregate-ask-pair-2 : tie.Need-slice-aggregate-ask-pair-2
-slice-aggregate-ask-pair-2 c = sym (length-take-le _ _ (omega arith))
-
-ask-pair-requires : tie.Need-ask-pair-requires
-ask-pair-requires c κs = search needs
+ask-lent-requires : tie.Need-ask-lent-requires
+ask-lent-requires c κs = search needs
 
 returns : tie.Need-returns
 returns c = search needs
@@ -48,14 +30,8 @@ ask-spec =
     tie.close
     (tie.spec
     most-cells-requires
-    slice-aggregate-ask-pair
-    mul-ask-pair
-    sub-ask-pair
-    part-ask-pair-start
-    part-ask-pair-end
-    array-borrow-prefix-work
-    slice-aggregate-ask-pair-2
-    ask-pair-requires
+    slice-aggregate-ask-lent
+    ask-lent-requires
     returns
     bad-case-requires
     returns-2)
