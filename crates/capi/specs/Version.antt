@@ -6,10 +6,10 @@ abbrev pub major : ℕ
 major = 0
 
 abbrev pub minor : ℕ
-minor = 5
+minor = 6
 
 abbrev pub patch : ℕ
-patch = 1
+patch = 0
 
 -- the three as one number, so that a later release has a greater one
 abbrev pub version : ℕ

@@ -4,9 +4,9 @@ ghost use Rattle.capi.specs.Version.{version};
 
 const MAJOR: u32 = 0;
 
-const MINOR: u32 = 5;
+const MINOR: u32 = 6;
 
-const PATCH: u32 = 1;
+const PATCH: u32 = 0;
 
 // The version number as one number.
 #[no_mangle]
