@@ -9,6 +9,7 @@ pub mod FourLabels
 pub mod Holders
 pub mod LabelSums
 pub mod LowestAncestors
+pub mod Meeting
 pub mod OneCentre
 pub mod OrderedClaims
 pub mod PartedFours

@@ -1,5 +1,6 @@
 pub mod LabelOrder
 pub mod Centre
 pub mod Topology
+pub mod Witness
 pub mod theorems
 pub mod lemmas

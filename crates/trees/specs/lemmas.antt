@@ -1,6 +1,7 @@
 pub mod CentreOutcomes
 pub mod Climbing
 pub mod RootedArrays
+pub mod Seen
 pub mod ShownPairings
 pub mod SideCells
 pub mod Sides

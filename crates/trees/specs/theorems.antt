@@ -3,3 +3,4 @@ pub mod LabelOrderLaws
 pub mod PartnerLaws
 pub mod TopologyExamples
 pub mod TopologyLaws
+pub mod WitnessLaws

@@ -87,7 +87,7 @@ pub fn centre(table: &[u16], a: u16, b: u16, c: u16) -> CentreAnswer
 }
 
 // The same over the two parts of a checked table.
-fn centre_node(parents: &[u16], labels: &[u16], a: u16, b: u16, c: u16) -> u16
+pub(crate) fn centre_node(parents: &[u16], labels: &[u16], a: u16, b: u16, c: u16) -> u16
     requires { ⌜ RootedArrays (now parents) (now labels) ⌝ }
     ensures { λ r. ⌜ r ≡ centreOver (now (parents .entry)) (now (labels .entry)) a b c ⌝ }
 {

@@ -4,6 +4,7 @@ mod words; // words.rt: words as indices, and indices as words
 mod asked; // asked.rt: the labels that a caller asks about
 mod centres; // centres.rt: the centre of three labels
 mod quartet; // quartet.rt: the topology of four labels
+mod witness; // witness.rt: the edge that parts four labels, or the node where they meet
 
 pub use centres::CentreAnswer;
 pub use centres::centre;
@@ -18,3 +19,6 @@ pub use walks::beyond;
 pub use walks::beyond_refusal;
 pub use walks::part_beyond;
 pub use walks::walk;
+pub use witness::Witness;
+pub use witness::WitnessAnswer;
+pub use witness::witness_of;

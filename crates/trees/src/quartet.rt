@@ -28,7 +28,7 @@ pub struct TopologyAnswer {
 
 // The pairing that an edge shows of four labels, from the number that says which of them lie beyond it:
 // 1 for ab|cd, 2 for ac|bd, 3 for ad|bc, 0 for none.
-fn pairing_of(sides: usize) -> usize
+pub(crate) fn pairing_of(sides: usize) -> usize
     ensures { λ r. ⌜ r ≡ pairing sides ⌝ }
 {
     if sides == 3 {
@@ -81,7 +81,14 @@ fn larger(a: u16, b: u16) -> u16
 }
 
 // Which of the four labels lie beyond each edge: 1 for a, 2 for b, 4 for c, 8 for d, added up the tree.
-fn sides_of(parents: &[u16], labels: &[u16], a: u16, b: u16, c: u16, d: u16) -> [usize; NODES]
+pub(crate) fn sides_of(
+    parents: &[u16],
+    labels: &[u16],
+    a: u16,
+    b: u16,
+    c: u16,
+    d: u16,
+) -> [usize; NODES]
     requires { ⌜ RootedArrays (now parents) (now labels) ⌝ }
     ensures { λ r. ⌜ SidesAre (now (parents .entry)) (now (labels .entry)) a b c d r ⌝ }
 {
@@ -115,7 +122,7 @@ fn shown_pairing(sides: &[usize; NODES], m: usize) -> usize
 }
 
 // A pairing's number as a topology.
-fn named_pairing(k: usize, a: u16, b: u16, c: u16, d: u16) -> Topology
+pub(crate) fn named_pairing(k: usize, a: u16, b: u16, c: u16, d: u16) -> Topology
     ensures { λ r. ⌜ r ≡ topologyShown k a b c d ⌝ }
 {
     if k == 1 {

@@ -1,6 +1,6 @@
 -- What a test says in ordinary mathematics; `some` and `every` as a loop finds them.
 -- Assumes nothing.
-use mathlib.Core.Path.{_≡_, refl, sym, subst}
+use mathlib.Core.Path.{_≡_, refl, sym, ap, subst}
 use mathlib.Core.Bool.{Bool, true, false, not, _&&_, _||_, Bool·beq}
 use mathlib.Core.Logic.{_⊎_, inl, inr, _≢_, _↔_}
 use Prim.Native.Nat.{ℕ, zero, suc, _≤_, _<_}
@@ -8,7 +8,7 @@ use native.Mathlib.Nat.{eq-or-lt-of-le, le-of-suc-le-suc}
 use native.Mathlib.Omega.{arith}
 use lib.Dec.{T, eqb, ltb, leb, eqb→eq, eqb-refl, leb→le, le→leb, nleb→lt, not-T, T-not}
 use Rattle.sums.specs.theorems.BitLaws.{T-true, T-false}
-use Rattle.sums.specs.Tests.{some, every}
+use Rattle.sums.specs.Tests.{some, every, first}
 
 -- ---- and, or, not
 
@@ -134,6 +134,20 @@ some-first (suc n) q t = elim (T-dec (some n q)) [
       let r = some-iff (suc n) q .0 t in
       (r .0, r .1, r .2, λ j m p. T-not (some n q) z (some-iff n q .1 (j, omega (arith, r .1, m), p))))
 ]
+
+pub first-is : (n : ℕ) (q : ℕ → Bool) (i : ℕ) → i < n → T (q i) → ((j : ℕ) → j < i → T (q j) → ⊥) → first n q ≡ i
+unfolding first
+first-is zero q i l t h = absurd (omega arith)
+first-is (suc n) q zero l t h = rw (T-true (q 0) t, first)
+first-is (suc n) q (suc i) l t h =
+    rw (T-false (q 0) (h 0 (omega arith)), first)
+    (ap suc (first-is n (λ j. q (suc j)) i (omega arith) t (λ j m. h (suc j) (omega arith))))
+
+pub first-passes : (n : ℕ) (q : ℕ → Bool) → T (some n q)
+    → (first n q < n) × T (q (first n q)) × ((j : ℕ) → j < first n q → T (q j) → ⊥)
+first-passes n q t =
+    let r = some-first n q t in
+    rw (first-is n q (r .0) (r .1) (r .2) (r .3)) (r .1, r .2, r .3)
 
 -- ---- as a loop finds them
 

@@ -26,7 +26,7 @@ centreOver ps ls a b c =
     centreOf (word ps) (length ps - 1) (at a) (at b) (at c)
 
 module _ (t : Table) (g : IsTree t) where
-  centre-of-parts : (a b c : ℕ) → centreOver (parents t) (labels t) a b c ≡ centre t a b c
+  pub centre-of-parts : (a b c : ℕ) → centreOver (parents t) (labels t) a b c ≡ centre t a b c
   unfolding centreOver centre parent label nodeOf
   centre-of-parts a b c = rw (parents-length t (g .words), labels-length t (g .words))
 

@@ -54,11 +54,11 @@ module _ (t : Table) (a b c d : ℕ) where
       sides-are v l =
           rw (labels-length t (g .words)) at (h .sides-is v (omega (arith, parents-length t (g .words))))
 
-      shown-at : (i : ℕ) → i < nodes t → pairing (sides t i a b c d) ≡ pairing (word cells i)
+      pub shown-at : (i : ℕ) → i < nodes t → pairing (sides t i a b c d) ≡ pairing (word cells i)
       shown-at i l = ap pairing (sym (sides-are i l))
 
       -- the pairing that the first edge shows which shows one names the topology
-      topology-shown : (k : ℕ) → Shown cells (nodes t) k → topologyShown k a b c d ≡ topology t a b c d
+      pub topology-shown : (k : ℕ) → Shown cells (nodes t) k → topologyShown k a b c d ≡ topology t a b c d
       unfolding topologyShown
       topology-shown zero s = sym (shown-none t a b c d (λ i l m. shown-at i m ∙ s .none refl i l m))
       topology-shown (suc zero) s =
