@@ -1,3 +1,4 @@
+pub mod AskedFour
 pub mod CentreLaws
 pub mod LabelOrderLaws
 pub mod PartnerLaws

@@ -53,7 +53,7 @@ work-iff : (t u : Table) (cells : ℕ) → Kept (workOrder t u cells) ↔ (cells
 unfolding workOrder
 work-iff t u cells = let l = not-lt-iff cells (cellsNeeded t u) in (λ k. l .0 (k .0), λ h. (l .1 h, tt))
 
-tables-numbered : (t u : Table) → Numbered (tablesOrder t u)
+pub tables-numbered : (t u : Table) → Numbered (tablesOrder t u)
 unfolding tablesOrder tipsOrder
 tables-numbered t u = numbered-append (treeOrder t) _ (tree-numbered t)
     (numbered-append (plus 100 (treeOrder u)) _ (plus-numbered 100 (treeOrder u) (tree-numbered u)) (omega arith, tt))

@@ -24,14 +24,14 @@ AllBelow n xs = (i : ℕ) → i < length xs → word xs i < n
 abbrev pub Different : List ℕ → Type 0
 Different xs = (i j : ℕ) → i < length xs → j < i → word xs j ≢ word xs i
 
-below-iff : (n : ℕ) (xs : List ℕ) → T (not (tooLarge n xs)) ↔ AllBelow n xs
+pub below-iff : (n : ℕ) (xs : List ℕ) → T (not (tooLarge n xs)) ↔ AllBelow n xs
 unfolding tooLarge
 below-iff n xs = let s = not-some-iff (length xs) (λ i. leb n (word xs i)) in (
   λ h i l. not-le-iff n (word xs i) .0 (s .0 h i l),
   λ h. s .1 (λ i l. not-le-iff n (word xs i) .1 (h i l)),
 )
 
-different-iff : (xs : List ℕ) → T (not (twoEqual xs)) ↔ Different xs
+pub different-iff : (xs : List ℕ) → T (not (twoEqual xs)) ↔ Different xs
 unfolding twoEqual
 different-iff xs =
     let earlier : ℕ → ℕ → Bool = λ i j. eqb (word xs j) (word xs i) in

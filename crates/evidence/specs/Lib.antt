@@ -1,0 +1,3 @@
+pub mod EvidenceAnswer
+pub mod theorems
+pub mod lemmas
