@@ -8,6 +8,9 @@ use Rattle.walks.specs.declared.edges.PartBeyond.{PartBeyond}
 use Rattle.trees.specs.declared.centres.CentreAnswer as trees-centre
 use Rattle.trees.specs.declared.quartet.TopologyAnswer as trees-topology
 use Rattle.trees.specs.Topology.{butterflyOf, partnerOf}
+use Rattle.trees.specs.Witness.{isEdge, numberOf}
+use Rattle.evidence.specs.declared.shown.EvidenceAnswer as shown
+use Rattle.evidence.specs.EvidenceAnswer.{whichOf}
 use Rattle.splits.specs.declared.counts.SplitCounts.{SplitCounts}
 use Rattle.claims.specs.declared.totals.ClaimSums.{ClaimSums}
 use Rattle.quartets.specs.declared.tables.QuartetTable.{QuartetTable}
@@ -23,6 +26,7 @@ use Rattle.capi.specs.declared.answers.QuartetTableAnswer.{QuartetTableA
 use Rattle.capi.specs.declared.answers.SplitCountsAnswer.{SplitCountsAnswer}
 use Rattle.capi.specs.declared.answers.TripletTableAnswer.{TripletTableAnswer}
 use Rattle.capi.specs.declared.answers.WeightedDistanceAnswer.{WeightedDistanceAnswer}
+use Rattle.capi.specs.declared.answers.EvidenceAnswer.{EvidenceAnswer}
 
 unfoldable pub plainBeyond : PartBeyond → BeyondAnswer
 plainBeyond a = record { refusal = a .refusal; start = a .start; labels = a .count }
@@ -99,3 +103,13 @@ weightOf (suc (suc (suc kind))) x = Part (fin false 1 (pos 1))
 
 unfoldable pub plainWeighted : WeightedDistance → WeightedDistanceAnswer
 plainWeighted a = record { refusal = a .refusal; distance = a .distance }
+
+unfoldable pub plainEvidence : shown.EvidenceAnswer → EvidenceAnswer
+plainEvidence a = record {
+  refusal = a .refusal;
+  which = whichOf (a .which);
+  «first_edge» = isEdge (a .first);
+  «first_number» = numberOf (a .first);
+  «second_edge» = isEdge (a .second);
+  «second_number» = numberOf (a .second);
+}

@@ -73,3 +73,14 @@ pub struct WeightedDistanceAnswer {
     pub refusal: u16,
     pub distance: f64,
 }
+
+// The number; 0 to 4 for the cases A to E; for each tree 1 and its edge, or 0 and its meeting node.
+#[repr(C)]
+pub struct EvidenceAnswer {
+    pub refusal: u16,
+    pub which: u16,
+    pub first_edge: u16,
+    pub first_number: u16,
+    pub second_edge: u16,
+    pub second_number: u16,
+}

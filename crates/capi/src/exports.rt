@@ -2,19 +2,23 @@
 use super::answers::BeyondAnswer;
 use super::answers::CentreAnswer;
 use super::answers::ClaimSumsAnswer;
+use super::answers::EvidenceAnswer;
 use super::answers::QuartetTableAnswer;
 use super::answers::SplitCountsAnswer;
 use super::answers::TopologyAnswer;
 use super::answers::TripletTableAnswer;
 use super::answers::WeightedDistanceAnswer;
+use quartets::Case;
 use quartets::claim_sums;
 use quartets::crossings;
+use quartets::evidence;
 use quartets::quartet_table;
 use quartets::split_counts;
 use quartets::triplet_table;
 use table_words::Cell;
 use table_words::as_count;
 use trees::Topology;
+use trees::Witness;
 use trees::centre;
 use trees::check;
 use trees::part_beyond;
@@ -31,7 +35,9 @@ ghost use Rattle.walks.specs.WalkOrders.{walkOrder};
 ghost use Rattle.walks.specs.Walk.{afterWalk, placeBeyond};
 ghost use Rattle.trees.specs.Centre.{centreAnswer};
 ghost use Rattle.trees.specs.Topology.{topologyAnswer};
+ghost use Rattle.trees.specs.Witness.{isEdge, numberOf};
 ghost use Rattle.pair_check.specs.PairOrder.{pairOrder};
+ghost use Rattle.evidence.specs.EvidenceAnswer.{whichOf, evidenceAnswer};
 ghost use Rattle.tree_pairs.specs.Crossings.{afterCrossings};
 ghost use Rattle.splits.specs.SplitAnswer.{splitAnswer};
 ghost use Rattle.claims.specs.ClaimAnswer.{claimAnswer};
@@ -40,7 +46,7 @@ ghost use Rattle.triplets.specs.TripletAnswer.{tripletAnswer};
 ghost use Rattle.weights.specs.WeightedAnswer.{weightedAnswer, afterWeighted};
 ghost use Rattle.capi.specs.PlainAnswers.{plainBeyond, plainCentre, plainTopology, plainClaims};
 ghost use Rattle.capi.specs.PlainAnswers.{plainTable, libraryTable, plainSplits, plainTriplets};
-ghost use Rattle.capi.specs.PlainAnswers.{weightOf, plainWeighted};
+ghost use Rattle.capi.specs.PlainAnswers.{weightOf, plainWeighted, plainEvidence};
 
 // The tree check's number.
 #[no_mangle]
@@ -248,5 +254,61 @@ pub extern "C" fn leskwyn_weighted_distance(
     WeightedDistanceAnswer {
         refusal: answer.refusal,
         distance: answer.distance,
+    }
+}
+
+// The number of a case: 0 to 4 for A to E.
+fn which_of(which: Case) -> u16
+    ensures { λ r. ⌜ r ≡ whichOf which ⌝ }
+{
+    match which {
+        Case::A => 0,
+        Case::B => 1,
+        Case::C => 2,
+        Case::D => 3,
+        Case::E => 4,
+    }
+}
+
+// 1 and the edge, or 0 and the meeting node.
+struct PlainWitness {
+    edge: u16,
+    number: u16,
+}
+
+fn plain_witness(witness: Witness) -> PlainWitness
+    ensures { λ r. ⌜ (r .edge ≡ isEdge witness) × (r .number ≡ numberOf witness) ⌝ }
+{
+    match witness {
+        Witness::Edge(i) => PlainWitness { edge: 1, number: i },
+        Witness::Meet(v) => PlainWitness { edge: 0, number: v },
+    }
+}
+
+// The case of four labels, and what shows it in each tree.
+#[no_mangle]
+pub extern "C" fn leskwyn_evidence(
+    first: &[u16],
+    second: &[u16],
+    a: u16,
+    b: u16,
+    c: u16,
+    d: u16,
+) -> EvidenceAnswer
+    ensures { λ r. ⌜ r ≡ plainEvidence (evidenceAnswer (now (first .entry)) (now (second .entry)) a b c d) ⌝ }
+{
+    let answer = evidence(first, second, a, b, c, d);
+    let which = answer.which;
+    let one = answer.first;
+    let other = answer.second;
+    let here = plain_witness(one);
+    let there = plain_witness(other);
+    EvidenceAnswer {
+        refusal: answer.refusal,
+        which: which_of(which),
+        first_edge: here.edge,
+        first_number: here.number,
+        second_edge: there.edge,
+        second_number: there.number,
     }
 }

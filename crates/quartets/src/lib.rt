@@ -1,9 +1,12 @@
-// Two tree tables: crossings, claim sums, the quartet table, split counts and the triplet table. Every public function takes
-// any words in slices of any length, and answers in full or refuses with one number.
+// Two tree tables: crossings, claim sums, the quartet table, split counts, the triplet table, and the evidence for four labels.
+// Every public function takes any words in slices of any length, and answers in full or refuses with one number.
 mod tables; // tables.rt: the quartet table of two trees
 
 pub use claims::ClaimSums;
 pub use claims::claim_sums;
+pub use evidence::Case;
+pub use evidence::EvidenceAnswer;
+pub use evidence::evidence;
 pub use pair_check::CheckedPair;
 pub use pair_check::check_pair;
 pub use pair_check::check_work;

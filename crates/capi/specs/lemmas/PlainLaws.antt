@@ -14,10 +14,13 @@ use lib.IntN.{pos}
 use lib.Ieee.{Float, fin}
 use Rattle.trees.specs.declared.quartet.TopologyAnswer as trees-topology
 use Rattle.trees.specs.declared.quartet.Topology.the-variants.{Butterfly, Star}
+use Rattle.trees.specs.Witness.{isEdge, numberOf}
+use Rattle.evidence.specs.declared.shown.EvidenceAnswer as shown
+use Rattle.evidence.specs.EvidenceAnswer.{whichOf}
 use Rattle.splits.specs.declared.counts.SplitCounts.{SplitCounts}
 use Rattle.capi.specs.declared.answers.TopologyAnswer.{TopologyAnswer}
 use Rattle.capi.specs.PlainAnswers.{plainTopology}
-use Rattle.capi.specs.PlainAnswers.{plainSplits, weightOf, plainWeighted}
+use Rattle.capi.specs.PlainAnswers.{plainSplits, weightOf, plainWeighted, plainEvidence}
 use Rattle.weights.specs.declared.weight.Weight.the-variants.{None, Full, Part}
 
 -- from the widened counts
@@ -36,6 +39,20 @@ pub star-plain : (r : trees-topology.TopologyAnswer) → r .topology ≡ Star
     → record { refusal = r .refusal; butterfly = 0; partner = 0 } ≡ plainTopology r
 unfolding plainTopology
 star-plain r e = rw e refl
+
+-- from the case's number and each witness's two
+pub evidence-plain : (r : shown.EvidenceAnswer) (w e i f j : ℕ) → w ≡ whichOf (r .which) → e ≡ isEdge (r .first)
+    → i ≡ numberOf (r .first) → f ≡ isEdge (r .second) → j ≡ numberOf (r .second)
+    → record {
+      refusal = r .refusal;
+      which = w;
+      «first_edge» = e;
+      «first_number» = i;
+      «second_edge» = f;
+      «second_number» = j;
+    } ≡ plainEvidence r
+unfolding plainEvidence
+evidence-plain r w e i f j ew ee ei ef ej = rw (ew, ee, ei, ef, ej) refl
 
 -- ---- kinds of weights
 
