@@ -14,6 +14,7 @@ from leskwyn.errors import Trouble
 TOP = os.path.dirname(os.path.dirname(os.path.dirname(os.path.abspath(__file__))))
 # LESKWYN_WORK_CELLS of the header: enough for every pair, (1024 - 1)(1024 - 1).
 WORK_CELLS = 1046529
+MOST_WORD = 65535
 Cells = ctypes.Array[ctypes.c_uint16]
 
 
@@ -35,6 +36,11 @@ class TripletTable(ctypes.Structure):
 
 class WeightedDistance(ctypes.Structure):
     _fields_ = [("refusal", ctypes.c_uint16), ("distance", ctypes.c_double)]
+
+
+class Evidence(ctypes.Structure):
+    _fields_ = [(name, ctypes.c_uint16)
+                for name in ("refusal", "which", "first_edge", "first_number", "second_edge", "second_number")]
 
 
 class PairCall(typing.NamedTuple):
@@ -92,6 +98,7 @@ def library() -> ctypes.CDLL:
         for name, (answer, besides) in PAIR_CALLS.items():
             call = getattr(found, name)
             call.argtypes, call.restype = slices + besides, answer
+        found.leskwyn_evidence.argtypes, found.leskwyn_evidence.restype = slices[:4] + [ctypes.c_uint16] * 4, Evidence
         found.leskwyn_version.argtypes, found.leskwyn_version.restype = [], ctypes.c_uint32
     except (OSError, AttributeError) as error:
         raise Trouble(f"cannot load the library {path}: {error}") from None
@@ -130,3 +137,11 @@ def triplet_table(first: Words, second: Words, lent: Cells) -> TripletTable:
 def weighted_distance(first: Words, second: Words, lent: Cells, kind: int, fraction: float) -> WeightedDistance:
     """The weighted distance B + p (C + D) under the weight of that kind and fraction, or a refusal."""
     return ask("leskwyn_weighted_distance", WeightedDistance, first, second, lent, kind, fraction)
+
+
+def evidence(first: Words, second: Words, labels: Sequence[int]) -> Evidence:
+    """The case of four labels, and for each tree the edge that parts them or the node where they meet, or a refusal. It takes no
+    work. A label that does not fit in a word is n or more as the largest word is."""
+    call: typing.Callable[..., Evidence] = library().leskwyn_evidence
+    a, b, c, d = (min(label, MOST_WORD) for label in labels)
+    return call(first.cells, first.count, second.cells, second.count, a, b, c, d)

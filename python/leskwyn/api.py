@@ -1,12 +1,13 @@
-"""What Python callers use: compare, against and matrix."""
+"""What Python callers use: compare, against, matrix and why."""
 from collections.abc import Iterable, Sequence
 
-from leskwyn import _library, counting, files
+from leskwyn import _library, counting, evidence, files
 from leskwyn.counting import Number
 from leskwyn.errors import Refusal
+from leskwyn.evidence import Evidence
 from leskwyn.figures import Comparison
-from leskwyn.labels import outgroup_first
-from leskwyn.sources import Given, is_comparison_file, named_file, trees_given, trees_of_bytes
+from leskwyn.labels import labels_given, labels_of_tips, outgroup_first
+from leskwyn.sources import ComparisonFile, Given, is_comparison_file, named_file, trees_given, trees_of_bytes
 from leskwyn.tables import tables_of_file
 from leskwyn.trees import Placed, checked, labels_of_names, pruned, table_of
 from leskwyn.weights import GivenWeight, Weight, weight_of
@@ -33,19 +34,10 @@ def compare(a: Given, b: Given = None, *, common: bool = False, outgroup: str | 
         >>> leskwyn.compare("((a,b),(c,d));", "(a,b,c,d);", weight="1/2").weighted_distance
         0.5
     """
-    given = optional_weight(weight)
-    if b is not None:
-        trees = trees_given(a, "the first tree", 1) + trees_given(b, "the second tree", 1)
-        return compare_trees(*trees, common=common, outgroup=outgroup, weight=given)
-    path = named_file(a)
-    if path is None:
-        return compare_trees(*trees_given(a, "the text", 2), common=common, outgroup=outgroup, weight=given)
-    content = files.read_bytes(path)
-    if not is_comparison_file(content):
-        return compare_trees(*trees_of_bytes(path, content, 2), common=common, outgroup=outgroup, weight=given)
-    if outgroup is not None:
-        raise Refusal(f"{path} is a comparison file, without names: its outgroup is label 0")
-    return compare_file(path, content, given)
+    given, pair = optional_weight(weight), pair_given(a, b, outgroup)
+    if isinstance(pair, ComparisonFile):
+        return compare_file(*pair, given)
+    return compare_trees(*pair, common=common, outgroup=outgroup, weight=given)
 
 
 def against(reference: Given, trees: Iterable[Given], *, common: bool = False, jobs: int | None = None,
@@ -87,7 +79,42 @@ def matrix(trees: Iterable[Given], *, measure: str = "quartet", normalised: bool
     return counting.distances(tables, measure, normalised, threads(jobs), weight=given)
 
 
+def why(a: Given, b: Given, names: Iterable[str | int], *, common: bool = False, outgroup: str | None = None) -> Evidence:
+    """Why two trees part four populations alike or differently, as an Evidence: the case A to E and, for each tree, the edge that
+    parts the four two and two, or the node where they meet.
+
+    The trees are given as to compare; with None for `b`, `a` holds both trees, or is the path of a comparison file. `names` are
+    four tips in any order, for a comparison file four labels. `common` is as for compare; on `outgroup` depends how edges and
+    nodes are numbered, and so which of several edges that part the four is told.
+
+    Raises Refusal and Trouble as compare does, and ValueError if there are not four names.
+
+        >>> found = leskwyn.why("((a,b),(c,d));", "(a,b,c,d);", ["a", "b", "c", "d"])
+        >>> found.case, found.first_tree.pairs, found.second_tree.pairs
+        ('C', (('a', 'b'), ('c', 'd')), None)
+    """
+    four, pair = four_words(names), pair_given(a, b, outgroup)
+    if isinstance(pair, ComparisonFile):
+        return why_file(*pair, four)
+    return why_trees(*pair, four, common=common, outgroup=outgroup)
+
+
 # ---- what these share with the commands
+
+def pair_given(a: Given, b: Given, outgroup: str | None) -> list[Placed] | ComparisonFile:
+    """Two trees, or the comparison file that holds them."""
+    if b is not None:
+        return trees_given(a, "the first tree", 1) + trees_given(b, "the second tree", 1)
+    path = named_file(a)
+    if path is None:
+        return trees_given(a, "the text", 2)
+    content = files.read_bytes(path)
+    if not is_comparison_file(content):
+        return trees_of_bytes(path, content, 2)
+    if outgroup is not None:
+        raise Refusal(f"{path} is a comparison file, without names: its outgroup is label 0")
+    return ComparisonFile(path, content)
+
 
 def optional_weight(weight: GivenWeight) -> Weight | None:
     return None if weight is None else weight_of(weight)
@@ -107,6 +134,33 @@ def compare_file(place: str, content: bytes, weight: Weight | None = None) -> Co
     try:
         return counting.compared((f"{place}, first tree", f"{place}, second tree"), _library.words(first),
                                  _library.words(second), (), weight)
+    except Refusal as refusal:
+        raise Refusal(f"{place}: {refusal.reason}", refusal.number) from None
+
+
+def four_words(names: Iterable[str | int]) -> list[str]:
+    """Four names or labels as text."""
+    if isinstance(names, str):
+        raise TypeError("names is a str; four names are needed, as a list")
+    four = [str(name) for name in names]
+    if len(four) != 4:
+        raise ValueError(f"there are {len(four)} names; four are needed")
+    return four
+
+
+def why_trees(first: Placed, second: Placed, four: Sequence[str], *, common: bool = False,
+              outgroup: str | None = None) -> Evidence:
+    (first, second), names = same_names([first, second], common, outgroup)
+    labels = labels_of_names(names)
+    tables = [table_of(placed.tree, labels) for placed in (first, second)]
+    return evidence.of_labels((first.place, second.place), tables[0], tables[1], labels_of_tips(four, names), names)
+
+
+def why_file(place: str, content: bytes, four: Sequence[str]) -> Evidence:
+    """The evidence for four labels of a comparison file."""
+    first, second = tables_of_file(place, content)
+    try:
+        return evidence.of_labels((f"{place}, first tree", f"{place}, second tree"), first, second, labels_given(four), ())
     except Refusal as refusal:
         raise Refusal(f"{place}: {refusal.reason}", refusal.number) from None
 

@@ -1,4 +1,4 @@
-"""The commands compare, matrix and against, and the way from the command line to each command.
+"""The commands compare, matrix, against and why, and the way from the command line to each command.
 
     leskwyn COMMAND [OPTION...] [FILE...]
 
@@ -12,11 +12,11 @@ from collections.abc import Callable
 
 from leskwyn import __version__, counting, files, text
 from leskwyn._library import TOP
-from leskwyn.api import compare_file, compare_trees
-from leskwyn.errors import LeskwynError, Refusal, Trouble
+from leskwyn.api import compare_file, compare_trees, why_file, why_trees
+from leskwyn.errors import LeskwynError, Refusal, Trouble, counted, quoted
 from leskwyn.figures import Comparison
 from leskwyn.labels import outgroup_first
-from leskwyn.sources import is_comparison_file, trees_of_bytes, trees_of_path
+from leskwyn.sources import ComparisonFile, is_comparison_file, trees_of_bytes, trees_of_path
 from leskwyn.trees import Placed, checked, labels_of_names, table_of
 from leskwyn.usage import Parser, ProgressLine, Usage, add_common, add_jobs, add_outgroup, add_weight, with_common
 from leskwyn.weights import Weight
@@ -28,6 +28,8 @@ Counts population trees against each other, four populations at a time, by a lib
 
   leskwyn                          compares the two example trees
   leskwyn compare A B              two trees: what they part alike and differently, the distances
+  leskwyn why A B NAME NAME NAME NAME
+                                   four populations: how each tree parts them, and by which edge
   leskwyn against REF FILE...      one tree against many, a row for each
   leskwyn matrix FILE...           all pairs of trees, a square of distances
   leskwyn table A B -o PAIR        two trees as one comparison file
@@ -46,6 +48,26 @@ STATUS = """
 exit status: 0 done; 1 refused; 2 wrong usage, a file that cannot be read or written, or no library"""
 
 
+# ---- two trees
+
+def add_tables(parser: Parser) -> None:
+    parser.add_argument("--tables", action="store_true", help="take the one file for a comparison file, whatever its bytes")
+
+
+def pair_read(parser: Parser, options: argparse.Namespace) -> list[Placed] | ComparisonFile:
+    """The trees of two files, those of one, or the comparison file that holds them."""
+    if len(options.trees) == 2:
+        return with_common([placed for path in options.trees for placed in trees_of_path(path, 1)], options.common)
+    place, content = files.shown_path(options.trees[0]), files.read_bytes(options.trees[0])
+    if not options.tables and not is_comparison_file(content):
+        return with_common(trees_of_bytes(place, content, 2), options.common)
+    if options.common:
+        parser.error("--common goes by names, and a comparison file has none")
+    if options.outgroup is not None:
+        parser.error("--outgroup goes by names, and a comparison file has none: its outgroup is label 0")
+    return ComparisonFile(place, content)
+
+
 # ---- compare
 
 def compare_parser() -> Parser:
@@ -62,7 +84,7 @@ def compare_parser() -> Parser:
     add_weight(parser)
     add_outgroup(parser)
     add_common(parser)
-    parser.add_argument("--tables", action="store_true", help="take the one file for a comparison file, whatever its bytes")
+    add_tables(parser)
     return parser
 
 
@@ -75,22 +97,13 @@ def example_trees(outgroup: str | None, weight: Weight | None) -> Comparison:
     return compare_trees(*trees, outgroup=outgroup, weight=weight)
 
 
-def one_file(path: str, options: argparse.Namespace) -> Comparison:
-    """The figures of a file that holds both trees."""
-    place, content = files.shown_path(path), files.read_bytes(path)
-    if not options.tables and not is_comparison_file(content):
-        return compare_trees(*with_common(trees_of_bytes(place, content, 2), options.common), outgroup=options.outgroup,
-                             weight=options.weight)
-    if options.common:
-        compare_parser().error("--common goes by names, and a comparison file has none")
-    if options.outgroup is not None:
-        compare_parser().error("--outgroup goes by names, and a comparison file has none: its outgroup is label 0")
-    return compare_file(place, content, options.weight)
-
-
-def two_files(paths: list[str], options: argparse.Namespace) -> Comparison:
-    trees = [placed for path in paths for placed in trees_of_path(path, 1)]
-    return compare_trees(*with_common(trees, options.common), outgroup=options.outgroup, weight=options.weight)
+def compared(options: argparse.Namespace) -> Comparison:
+    if not options.trees:
+        return example_trees(options.outgroup, options.weight)
+    pair = pair_read(compare_parser(), options)
+    if isinstance(pair, ComparisonFile):
+        return compare_file(*pair, options.weight)
+    return compare_trees(*pair, outgroup=options.outgroup, weight=options.weight)
 
 
 def compare_options(arguments: list[str]) -> argparse.Namespace:
@@ -106,15 +119,62 @@ def compare_options(arguments: list[str]) -> argparse.Namespace:
 
 def compare_command(options: argparse.Namespace) -> int:
     try:
-        if len(options.trees) == 1:
-            found = one_file(options.trees[0], options)
-        else:
-            found = two_files(options.trees, options) if options.trees else example_trees(options.outgroup, options.weight)
+        found = compared(options)
     except Refusal as refusal:
         if options.format == "listing" and refusal.number is not None:
             files.print_text(f"refused {refusal.number}\n")
         raise
     files.print_text(text.FORMATS[options.format]([found]))
+    return 0
+
+
+# ---- why
+
+def why_parser() -> Parser:
+    parser = Parser("why", usage="leskwyn why A [B] NAME NAME NAME NAME [--format text|json] [--outgroup NAME] [--common] "
+                                 "[--tables]",
+                    description="Shows why two trees part four populations alike or differently: the edge that parts them in each "
+                                "tree,\nor the node where they meet.",
+                    epilog="The trees are given as to compare; of a comparison file the names are labels. Where several edges part "
+                           "the\nfour, that with the lowest number in the tree's table is told. docs/COMMANDS.md has the keys of "
+                           "json.\n" + STATUS)
+    parser.add_argument("words", nargs="*", metavar="FILE, NAME", help="one or two Newick files, or a comparison file; then four "
+                                                                       "names. - is standard input")
+    parser.add_argument("--format", choices=list(text.EVIDENCE_FORMATS), default="text", help="for people, or for programs")
+    parser.add_argument("--outgroup", metavar="NAME", help="the tip from which edges and nodes are numbered; else the first of the "
+                                                           "sorted names")
+    add_common(parser)
+    add_tables(parser)
+    return parser
+
+
+def why_options(arguments: list[str]) -> argparse.Namespace:
+    parser = why_parser()
+    options = parser.parsed_words(arguments, "words")
+    options.trees, options.names = options.words[:-4], options.words[-4:]
+    if len(options.trees) not in (1, 2):
+        parser.error(f"{counted(len(options.words), 'word')}; one or two files and four names are needed")
+    if options.tables and len(options.trees) != 1:
+        parser.error("2 files; one comparison file is needed")
+    parser.check_files(options.trees)
+    return options
+
+
+def why_pair(options: argparse.Namespace) -> list[Placed] | ComparisonFile:
+    """Where one file does not do and the first name is a file too, a name is missing."""
+    try:
+        return pair_read(why_parser(), options)
+    except Refusal:
+        if len(options.trees) == 1 and os.path.isfile(options.names[0]):
+            why_parser().error(f"{quoted(options.names[0])} is a file, and after it stand three names; four are needed")
+        raise
+
+
+def why_command(options: argparse.Namespace) -> int:
+    pair = why_pair(options)
+    found = (why_file(*pair, options.names) if isinstance(pair, ComparisonFile) else
+             why_trees(*pair, options.names, outgroup=options.outgroup))
+    files.print_text(text.EVIDENCE_FORMATS[options.format](found))
     return 0
 
 
@@ -230,7 +290,7 @@ class Counting(typing.NamedTuple):
 
 
 COUNTING = {"compare": Counting(compare_options, compare_command), "matrix": Counting(matrix_options, matrix_command),
-            "against": Counting(against_options, against_command)}
+            "against": Counting(against_options, against_command), "why": Counting(why_options, why_command)}
 OTHERS = {"table": table_command, "show": show_command}
 
 

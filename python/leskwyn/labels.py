@@ -1,26 +1,57 @@
-"""Labels of names: which name is the outgroup, and lists of labels, 'label TAB name' lines, that are read back."""
+"""Labels of names: which name is the outgroup, which four are asked about, and lists of labels, 'label TAB name' lines, that are
+read back."""
 import re
+from collections.abc import Sequence
 
 from leskwyn import files
 from leskwyn.errors import Refusal, quoted, some_of
 from leskwyn.newick import name_of_word
 from leskwyn.trees import form_hint, repeated
 
+LABEL = re.compile("[0-9]{1,5}")
 LABEL_LINE = re.compile(r"([0-9]+)\t(.*)", re.DOTALL)
 ESCAPES = {"\\": "\\\\", "\r": "\\r", "\n": "\\n"}
 ESCAPED = re.compile(r"\\([\\rn])")
 PLAIN = {"\\": "\\", "r": "\r", "n": "\n"}
 
 
+def tip_named(word: str, names: list[str]) -> str | None:
+    """The tip that a word tells: by its name, or as the word that stands for it in Newick text."""
+    return next((name for name in (word, name_of_word(word)) if name in names), None)
+
+
 def outgroup_first(names: list[str], outgroup: str | None) -> list[str]:
-    """The names in the order of their labels: the outgroup, if one is wanted, and then the others as they stand. It is told by
-    its name, or by the word that stands for it in Newick text."""
+    """The names in the order of their labels: the outgroup, if one is wanted, and then the others as they stand."""
     if outgroup is None:
         return names
-    found = next((name for name in (outgroup, name_of_word(outgroup)) if name in names), None)
+    found = tip_named(outgroup, names)
     if found is None:
         raise Refusal(f"the outgroup {quoted(outgroup)} is not a tip of every tree{form_hint([outgroup], names)}")
     return [found] + [name for name in names if name != found]
+
+
+def labels_of_tips(words: Sequence[str], names: list[str]) -> list[int]:
+    """The labels of four different tips, of the names in the order of their labels."""
+    found = {word: tip_named(word, names) for word in words}
+    strange = [word for word, name in found.items() if name is None]
+    if strange:
+        raise Refusal(f"{some_of(strange)} {'is not a tip' if len(strange) == 1 else 'are not tips'} of both trees"
+                      + form_hint(strange, names))
+    tips = [name for name in map(found.get, words) if name is not None]
+    again = repeated(tips)
+    if again:
+        raise Refusal(f"{some_of(again)} {'stands' if len(again) == 1 else 'stand'} more than once; four different names are "
+                      "needed")
+    return [names.index(name) for name in tips]
+
+
+def labels_given(words: Sequence[str]) -> list[int]:
+    """Labels as they are given for a comparison file. The library judges whether it has them."""
+    strange = [word for word in words if not LABEL.fullmatch(word)]
+    if strange:
+        raise Refusal(f"{some_of(strange)} {'is no label' if len(strange) == 1 else 'are no labels'}: a comparison file has no "
+                      "names, and its labels are numbers from 0")
+    return [int(word) for word in words]
 
 
 def label_list(names: list[str]) -> str:

@@ -29,6 +29,12 @@ def is_unmarked(content: bytes) -> bool:
     return False
 
 
+class ComparisonFile(typing.NamedTuple):
+    """The bytes of a comparison file, and the words that tell in a message where they come from."""
+    place: str
+    content: bytes
+
+
 # ---- NEXUS
 
 # A length or a support value with a decimal comma, such as :0,25 and )0,95; a tip after a length has a length of its own.

@@ -1,14 +1,16 @@
-"""Figures as text: for people, as TSV, as JSON, and squares of distances."""
+"""Figures as text: for people, as TSV, as JSON, and squares of distances; the evidence for four tips."""
 from collections.abc import Sequence
 
 from leskwyn.counting import Number
 from leskwyn.errors import one_line
+from leskwyn.evidence import Evidence, Witness
 from leskwyn.figures import KEYS, Comparison, keys_of
 from leskwyn.weights import told_fraction
 
 CASES = [("A", "parted alike by both trees"), ("B", "parted differently"), ("C", "parted by the first tree only"),
          ("D", "parted by the second tree only"), ("E", "left open by both trees")]
 WIDTH = 36
+NAMES_ON_A_SIDE = 10
 
 
 def row(name: str, figure: str, note: str = "") -> str:
@@ -131,3 +133,52 @@ def square_phylip(places: Sequence[str], square: Sequence[Sequence[Number]]) -> 
 
 
 SQUARES = {"tsv": square_tsv, "phylip": square_phylip}
+
+
+# ---- the evidence for four tips
+
+def told_name(name: str) -> str:
+    """The name, in quotes where it could be read as more than one."""
+    return f"'{one_line(name)}'" if any(mark in name for mark in ",+") or name != name.strip() else one_line(name)
+
+
+def told_names(names: Sequence[str], most: int) -> str:
+    """So many names at most, and how many more there are."""
+    more = len(names) - most
+    return ", ".join(map(told_name, names[:most])) + (f" and {more} more" if more > 0 else "")
+
+
+def part_rows(parts: Sequence[Sequence[str]], four: Sequence[str]) -> str:
+    """A row for each part with some of the four: these, then the others with them; a last row for the parts without any."""
+    own = [[name for name in part if name in four] for part in parts]
+    others = [[name for name in part if name not in four] for part in parts]
+    heads = [" + ".join(map(told_name, names)) for names in own if names]
+    width, rows = max(map(len, heads)), []
+    for head, names, with_them in zip(heads, own, others):
+        rows.append(f"{head:{width}}   with {told_names(with_them, NAMES_ON_A_SIDE - len(names))}" if with_them else head)
+    apart = others[len(heads):]
+    if apart:
+        rows.append(f"on {len(apart)} other {'branch' if len(apart) == 1 else 'branches'}: "
+                    + told_names([name for part in apart for name in part], NAMES_ON_A_SIDE))
+    return "".join(f"  {row}\n" for row in rows)
+
+
+def witness_for_people(w: Witness, four: Sequence[str]) -> str:
+    told = (f"parts them two and two, by edge {w.edge}:" if w.edge is not None else
+            f"leaves them open; they meet at node {w.node}, on four branches:")
+    return f"{told}\n{part_rows(w.parts, four)}\n"
+
+
+def evidence_for_people(e: Evidence) -> str:
+    return (f"first tree: {one_line(e.first)}\n" + witness_for_people(e.first_tree, e.names)
+            + f"second tree: {one_line(e.second)}\n" + witness_for_people(e.second_tree, e.names)
+            + f"case {e.case}: {dict(CASES)[e.case]}\n")
+
+
+def evidence_json(e: Evidence) -> str:
+    """One object on one line."""
+    import json
+    return json.dumps(e.as_dict(), ensure_ascii=False) + "\n"
+
+
+EVIDENCE_FORMATS = {"text": evidence_for_people, "json": evidence_json}

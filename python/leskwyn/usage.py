@@ -34,16 +34,23 @@ class Parser(argparse.ArgumentParser):
     def _print_message(self, message: str, file: typing.Any = None) -> None:
         files.print_text(message)
 
-    def parsed(self, arguments: list[str], names: str) -> argparse.Namespace:
-        """The options; `names` is the argument that takes files."""
+    def parsed_words(self, arguments: list[str], words: str) -> argparse.Namespace:
+        """The options; `words` is the argument that takes all words that are no options."""
         end = arguments.index("--") if "--" in arguments else len(arguments)
         options = self.parse_intermixed_args(arguments[:end])
-        found = getattr(options, names) + arguments[end + 1:]
-        if "" in found:
+        setattr(options, words, getattr(options, words) + arguments[end + 1:])
+        return options
+
+    def check_files(self, paths: list[str]) -> None:
+        if "" in paths:
             self.error("an empty file name")
-        if found.count("-") > 1:
+        if paths.count("-") > 1:
             self.error("standard input can be read only once")
-        setattr(options, names, found)
+
+    def parsed(self, arguments: list[str], names: str) -> argparse.Namespace:
+        """The options; `names` is the argument that takes files."""
+        options = self.parsed_words(arguments, names)
+        self.check_files(getattr(options, names))
         return options
 
 
