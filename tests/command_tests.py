@@ -1,5 +1,5 @@
 #!/usr/bin/env python3
-"""Tests of the commands compare, matrix and against, of docs/COMMANDS.md, and of what the commands say where things fail.
+"""Tests of the commands compare, matrix, against and why, of docs/COMMANDS.md, and of what the commands say where things fail.
 
     python3 tests/command_tests.py
 
@@ -28,6 +28,7 @@ import unittest.mock
 sys.dont_write_bytecode = True
 from command_runs import ENVIRONMENT, LESKWYN, ROOT, CommandTest, Done, inside
 from cases import skips
+from cases.evidence import evidence
 from cases.newick import star_text
 from cases.pairs import pair_refusal, split_counts
 from cases.shapes import balanced, caterpillar
@@ -339,6 +340,177 @@ class Refusals(TreesTest):
             self.assert_message(done, 1, "standard input", words)
 
 
+class Why(TreesTest):
+    """Feathers have edge 2 to Bute and Coll and edge 6 to Lundy and Texel, wings edge 3 to Coll and Foula and edge 6."""
+
+    FOUR = ["Azores", "Bute", "Coll", "Lundy"]
+    # The four of README.md, 'Five minutes', with what parts them, by hand.
+    FEATHERS = ["parts them two and two, by edge 2:", "  Azores + Lundy   with Foula, Texel", "  Bute + Coll", ""]
+    WINGS = ["leaves them open; they meet at node 1, on four branches:", "  Azores", "  Bute", "  Coll     with Foula",
+             "  Lundy    with Texel", ""]
+    TOLD = {"names": FOUR, "case": "C",
+            "first_tree": {"pairs": [["Azores", "Lundy"], ["Bute", "Coll"]], "edge": 2, "node": None,
+                           "parts": [["Azores", "Foula", "Lundy", "Texel"], ["Bute", "Coll"]]},
+            "second_tree": {"pairs": None, "edge": None, "node": 1,
+                            "parts": [["Azores"], ["Bute"], ["Coll", "Foula"], ["Lundy", "Texel"]]}}
+
+    def why(self, *arguments: str, stdin: bytes | str = b"") -> list[str]:
+        done = self.here("why", *arguments, stdin=stdin)
+        self.assertEqual((done.returncode, done.stderr), (0, b""), done)
+        return done.stdout.decode().removesuffix("\n").split("\n")
+
+    def told(self, *arguments: str, stdin: bytes | str = b"") -> dict[str, object]:
+        line, = self.why(*arguments, "--format", "json", stdin=stdin)
+        return json.loads(line)
+
+    def test_text(self) -> None:
+        for four in itertools.permutations(self.FOUR):
+            self.assertEqual(self.why("feathers.nwk", "wings.nwk", *four),
+                             ["first tree: feathers.nwk", *self.FEATHERS, "second tree: wings.nwk", *self.WINGS,
+                              "case C: parted by the first tree only"])
+        self.assertEqual(self.why("wings.nwk", "feathers.nwk", *self.FOUR)[1:], [
+            *self.WINGS, "second tree: feathers.nwk", *self.FEATHERS, "case D: parted by the second tree only"])
+
+    def test_cases(self) -> None:
+        """README.md, 'Five minutes': sets of four of each case."""
+        for four, case in (("Lundy Texel Bute Foula", "A: parted alike by both trees"),
+                           ("Bute Coll Foula Lundy", "B: parted differently"),
+                           ("Azores Bute Coll Texel", "C: parted by the first tree only"),
+                           ("Azores Coll Foula Texel", "D: parted by the second tree only"),
+                           ("Azores Bute Foula Texel", "E: left open by both trees")):
+            self.assertEqual(self.why("both.nwk", *four.split())[-1], f"case {case}")
+            self.assertEqual(self.told("both.nwk", *four.split())["case"], case[0])
+
+    def test_every_way_of_giving_two_trees(self) -> None:
+        for trees, stdin, first, second in (
+                (["feathers.nwk", "wings.nwk"], "", "feathers.nwk", "wings.nwk"),
+                (["both.nwk"], "", "both.nwk, first tree", "both.nwk, second tree"),
+                (["-"], FEATHERS + WINGS, "standard input, first tree", "standard input, second tree"),
+                (["-", "wings.nwk"], FEATHERS, "standard input", "wings.nwk"),
+                (["feathers.nwk", "-"], WINGS, "feathers.nwk", "standard input")):
+            expected = {"first": first, "second": second, **self.TOLD}
+            for words in ([*trees, *self.FOUR], ["--", *trees, *self.FOUR], [*trees, "--", *self.FOUR],
+                          [*trees, "--common", *self.FOUR], [*trees, *self.FOUR[:2], "--outgroup", "Azores", *self.FOUR[2:]]):
+                done = self.here("why", "--format", "json", *words, stdin=stdin)
+                self.assertEqual((done.returncode, done.stderr, done.stdout.count(b"\n")), (0, b"", 1), words)
+                self.assertEqual(json.loads(done.stdout), expected)
+        self.assertEqual(list(expected), ["first", "second", "names", "case", "first_tree", "second_tree"])
+
+    def test_comparison_files(self) -> None:
+        """With labels for names; the numbers are those of the trees' texts."""
+        self.assertEqual(self.here("table", "both.nwk", "-o", "pair.bin", "--quiet").returncode, 0)
+        labels = {name: str(label) for label, name in enumerate(["Azores", "Bute", "Coll", "Foula", "Lundy", "Texel"])}
+        told = self.told("pair.bin", *(labels[name] for name in self.FOUR))
+        for tree in ("first_tree", "second_tree"):
+            for key in ("edge", "node"):
+                self.assertEqual(told[tree][key], self.TOLD[tree][key])
+            self.assertEqual(told[tree]["parts"], [[labels[name] for name in part] for part in self.TOLD[tree]["parts"]])
+        self.assertEqual((told["first"], told["case"], told["names"]), ("pair.bin, first tree", "C", ["0", "1", "2", "4"]))
+        self.assertEqual(self.why("-", "4", "3", "2", "1", "--tables", stdin=packed(P, Q)), [
+            "first tree: standard input, first tree", "parts them two and two, by edge 5:", "  1 + 2   with 0", "  3 + 4", "",
+            "second tree: standard input, second tree", "leaves them open; they meet at node 3, on four branches:",
+            "  1   with 0", "  2", "  3", "  4", "", "case C: parted by the first tree only"])
+
+    def test_every_set_of_four_of_reference_tables(self) -> None:
+        for t, u in itertools.product((P, Q, W), repeat=2):
+            for four in itertools.combinations(range(5), 4):
+                told = self.told("-", *map(str, four), stdin=packed(t, u))
+                number, which, *shown = evidence(t, u, four)
+                numbers = [one for tree in ("first_tree", "second_tree") for one in (told[tree]["edge"], told[tree]["node"])]
+                expected = [one for edge, at in (shown[:2], shown[2:]) for one in ((at, None) if edge else (None, at))]
+                self.assertEqual((number, told["case"], numbers), (0, "ABCDE"[which], expected))
+
+    def test_ten_names_on_a_side(self) -> None:
+        """The pair and eight others; of a branch one and nine others; then how many more. json has all."""
+        for count, more in ((7, ""), (8, ""), (9, " and 1 more"), (20, " and 12 more")):
+            names = [f"x{i:02}" for i in range(count)]
+            self.file("many.nwk", f"((a,b),(c,d,{','.join(names)}));((a,{','.join(names)}),b,c,d);")
+            lines = self.why("many.nwk", "a", "b", "c", "d")
+            self.assertEqual(lines[1:4], ["parts them two and two, by edge 3:", "  a + b",
+                                          f"  c + d   with {', '.join(names[:8])}{more}"])
+            more = f" and {count - 9} more" if count > 9 else ""
+            self.assertIn(f"  a   with {', '.join(names[:9])}{more}", lines)
+            self.assertEqual(self.told("many.nwk", "a", "b", "c", "d")["first_tree"]["parts"], [["a", "b"], ["c", "d", *names]])
+
+    def test_other_branches(self) -> None:
+        lines = self.why("-", "a", "b", "c", "d", stdin="(a,b,c,d,(x,y));(d,c,b,a,x,y);")
+        self.assertEqual([line for line in lines if "other" in line], ["  on 1 other branch: x, y", "  on 2 other branches: x, y"])
+        names = [f"x{i:02}" for i in range(16)]
+        lines = self.why("-", "a", "b", "c", "d", stdin=star_text(["a", "b", "c", "d", *names]) * 2)
+        self.assertEqual(lines[2:7], ["  a", "  b", "  c", "  d", f"  on 16 other branches: {', '.join(names[:10])} and 6 more"])
+
+    def test_outgroup(self) -> None:
+        """Of several edges that part the four, that nearest to the outgroup has the lowest number here."""
+        self.file("worm.nwk", "(a,(b,(x,(c,d))));" * 2)
+        for arguments, parts in (([], [["a", "b"], ["c", "d", "x"]]), (["--outgroup", "d"], [["d", "c"], ["a", "b", "x"]])):
+            told = self.told("worm.nwk", "d", "c", "b", "a", *arguments)["first_tree"]
+            self.assertEqual((told["parts"], sorted(map(sorted, told["pairs"]))), (parts, [["a", "b"], ["c", "d"]]))
+        self.assert_message(self.here("why", "both.nwk", *self.FOUR, "--outgroup", "Zeist"), 1, "the outgroup 'Zeist' is not a tip")
+
+    def test_common(self) -> None:
+        self.file("more.nwk", "((Azores,Zeist),Bute,(Coll,(Foula,'Y e')),(Lundy,Texel));")
+        done = self.here("why", "feathers.nwk", "more.nwk", *self.FOUR, "--common")
+        self.assertEqual((done.returncode, done.stderr.decode()), (0, "leskwyn: left out of more.nwk: 'Y e', 'Zeist'\n"))
+        self.assertEqual(done.stdout.decode().split("\n")[-2], "case C: parted by the first tree only")
+        done = self.here("why", "feathers.nwk", "more.nwk", *self.FOUR)
+        self.assert_message(done, 1, "only more.nwk has 'Y e', 'Zeist'", "--common")
+        done = self.here("why", "feathers.nwk", "more.nwk", "Azores", "Bute", "Coll", "Zeist", "--common")
+        self.assertEqual((done.returncode, done.stdout), (1, b""))
+        self.assertIn("leskwyn: 'Zeist' is not a tip of both trees\n", done.stderr.decode())
+
+    def test_names_as_they_are_written(self) -> None:
+        """A name that could be read as several stands in quotes, and no line has a line break of a name."""
+        self.file("names.nwk", "(('a, b',Parus_major),('c + d','e\nf',\"it's\",' g'));" * 2)
+        lines = self.why("names.nwk", "a, b", "Parus_major", "c + d", "e\nf")
+        self.assertCountEqual(lines[2:4], ["  Parus major + 'a, b'", "  'c + d' + e\\nf" + 9 * " " + "with ' g', it's"])
+        lines = self.why("-", "--", "-", "-x", "a", "b", stdin="(-,-x,(a,b));" * 2)
+        self.assertEqual(lines[2:4], ["  - + -x", "  a + b"])
+
+    def test_names_that_are_refused(self) -> None:
+        for four, words in ((["Azores", "Bute", "Coll", "Zeist"], "'Zeist' is not a tip of both trees"),
+                            (["azores", "Bute", "Coll", "Zeist"], "'azores', 'Zeist' are not tips of both trees"),
+                            (["Azores", "Bute", "Coll", "Bute"], "'Bute' stands more than once; four different names are needed"),
+                            (["Azores", "Bute", "Coll", ""], "'' is not a tip of both trees"),
+                            (["Azores", "Bute", "Coll", "a\nb"], "'a\\nb' is not a tip of both trees")):
+            for options in ([], ["--format", "json"]):
+                self.assert_message(self.here("why", "feathers.nwk", "wings.nwk", *four, *options), 1, words)
+        self.file("pair.bin", packed(P, Q))
+        for four, words in (("0 1 2 5", "refused 10: pair.bin: there is no label 5: the labels are 0 to 4"),
+                            ("0 9 9 65536", "refused 10: pair.bin: there is no label 9, 9, 65536: the labels are 0 to 4"),
+                            ("0 1 2 2", "refused 11: pair.bin: label 2 stands more than once; four different ones are needed"),
+                            ("0 1 2 x", "pair.bin: 'x' is no label: a comparison file has no names, and its labels are numbers"),
+                            ("0 1 2 123456", "pair.bin: '123456' is no label"), ("0 1 2 \u0663", "pair.bin: '\u0663' is no label")):
+            self.assert_message(self.here("why", "pair.bin", *four.split()), 1, words)
+
+    def test_trees_that_are_refused(self) -> None:
+        """As compare refuses them, before labels are looked at."""
+        for content, number in ((packed(P), 101), (packed(P, THREE), 8), (packed(P, Q) + b"\0", 15),
+                                (packed(P[:16] + [5] + P[17:], Q), 6)):
+            done, compared = (self.here(*words, "--tables", stdin=content)
+                              for words in (["why", "-", "9", "9", "9", "9"], ["compare", "-"]))
+            self.assertEqual((done.returncode, done.stdout, done.stderr), (1, b"", compared.stderr))
+            self.assertTrue(done.stderr.decode().startswith(f"leskwyn: refused {number}: standard input: "))
+        self.assert_message(self.here("why", "-", *self.FOUR, stdin=FEATHERS), 1, "one tree in the file; two trees are needed")
+        done = self.here("why", "feathers.nwk", "-", *self.FOUR, stdin=packed(P, Q))
+        self.assert_message(done, 1, "is a comparison file", "alone")
+        self.assert_message(self.here("why", "-", *self.FOUR, stdin="(A,B,A);" * 2), 1, "first tree: repeated tip names: 'A'")
+
+    def test_wrong_usage(self) -> None:
+        for arguments, words in (([], "0 words; one or two files and four names are needed"), (["both.nwk"], "1 word; "),
+                                 (self.FOUR, "4 words; "), (["feathers.nwk", "wings.nwk", *self.FOUR, "Foula"], "7 words; "),
+                                 (["feathers.nwk", "wings.nwk", *self.FOUR, "--tables"], "2 files; one comparison file is needed"),
+                                 (["-", "-", *self.FOUR], "standard input can be read only once"),
+                                 (["", "wings.nwk", *self.FOUR], "an empty file name"),
+                                 (["both.nwk", *self.FOUR, "--format", "tsv"], "invalid choice: 'tsv'"),
+                                 (["both.nwk", *self.FOUR, "--weight", "1/2"], "unrecognized arguments: --weight"),
+                                 (["feathers.nwk", "wings.nwk", *self.FOUR[:3]],
+                                  "'wings.nwk' is a file, and after it stand three names; four are needed")):
+            self.assert_message(self.here("why", *arguments), 2, words, "leskwyn why --help tells the usage")
+        for option, words in (["--common"], "--common goes by names"), (["--outgroup", "0"], "its outgroup is label 0"):
+            done = self.here("why", "-", "0", "1", "2", "3", *option, stdin=packed(P, Q))
+            self.assert_message(done, 2, words, "leskwyn why --help tells the usage")
+
+
 class Many(TreesTest):
     TREES = [FEATHERS, WINGS, "(Azores,Bute,Coll,Foula,Lundy,Texel);\n", FEATHERS]
 
@@ -464,7 +636,7 @@ class Usage(TreesTest):
         self.assert_message(self.here("compare", "both.nwk", "--weight", "1/2", "--listing"), 2, "--listing and --weight exclude")
         self.assert_message(self.here("matrix", "both.nwk", "--weight", "1/2"), 2, "only 'weighted' takes a weight")
         self.assert_message(self.here("matrix", "both.nwk", "--measure", "weighted"), 2, "the weighted distance needs a weight")
-        self.assert_message(self.here("comprae"), 2, "no command 'comprae'; the commands are compare, matrix, against, table,")
+        self.assert_message(self.here("comprae"), 2, "no command 'comprae'; the commands are compare, matrix, against, why, table,")
 
     def test_wrong_weights(self) -> None:
         """Wrong usage, in every command and before a file is read, with the nearest two."""
@@ -486,6 +658,7 @@ class Usage(TreesTest):
         for command in ("compare", "matrix", "against"):
             self.assert_message(self.here(command, "feathers.nwk", "absent"), 2, "cannot read absent: No such file")
             self.assert_message(self.here(command, "feathers.nwk", "."), 2, "cannot read .: Is a directory")
+        self.assert_message(self.here("why", "feathers.nwk", "absent", "a", "b", "c", "d"), 2, "cannot read absent: No such file")
         for arguments in (["absent"], ["absent", "--tables"], ["absent", "feathers.nwk"]):
             self.assert_message(self.here("compare", "--listing", *arguments), 2, "cannot read absent: No such file")
         self.assert_message(self.here("compare", "--listing", "."), 2, "cannot read .: Is a directory")
@@ -506,7 +679,7 @@ class Usage(TreesTest):
     def test_help_and_version(self) -> None:
         version = f"leskwyn (Leskwyn) {leskwyn.__version__}\n".encode()
         self.assertEqual(run_leskwyn("--version").stdout, version)
-        for command in ("compare", "matrix", "against", "table", "show"):
+        for command in ("compare", "matrix", "against", "why", "table", "show"):
             for arguments, word in ((["--version"], version), (["--help"], b"usage: leskwyn " + command.encode())):
                 done = run_leskwyn(command, *arguments)
                 self.assertEqual((done.returncode, done.stderr), (0, b""))
@@ -519,7 +692,8 @@ class Surroundings(TreesTest):
     """Output that cannot be written, input that is closed, no library, an old Python: a sentence and status 2."""
 
     WRITERS = [["compare", "both.nwk"], ["compare", "--listing", "both.nwk"], ["compare", "--listing", "--tables", "both.nwk"],
-               ["matrix", "both.nwk"], ["against", "feathers.nwk", "wings.nwk"], ["--help"],
+               ["matrix", "both.nwk"], ["against", "feathers.nwk", "wings.nwk"],
+               ["why", "both.nwk", "Azores", "Bute", "Coll", "Foula"], ["--help"],
                ["compare", "--help"], ["--version"], ["show", "--version"], ["table", "both.nwk"]]
 
     def assert_one_sentence(self, done: Done, status: int, *words: bytes) -> None:
@@ -681,7 +855,7 @@ class Pages(unittest.TestCase):
     def test_python_examples(self) -> None:
         text = (ROOT / "docs" / "COMMANDS.md").read_text(encoding="utf-8")
         blocks = "\n".join(re.findall(r"^```python\n(.*?)^```$", text, re.M | re.S))
-        modules = [("docs/COMMANDS.md", blocks), *((name, getattr(leskwyn, name).__doc__) for name in ("compare", "matrix")),
+        modules = [("docs/COMMANDS.md", blocks), *((name, getattr(leskwyn, name).__doc__) for name in ("compare", "matrix", "why")),
                    ("leskwyn", leskwyn.__doc__)]
         runner = doctest.DocTestRunner(verbose=False)
         with inside(ROOT), contextlib.redirect_stdout(io.StringIO()) as said:

@@ -6,7 +6,8 @@
 
 Needs target/libleskwyn.so, or what LESKWYN_LIBRARY names, and the proved program. Figures are held to the program's listing,
 to a brute force over sets of four that looks at the edges of named trees, and to one over sets of three that climbs to their
-lowest common ancestors; Robinson-Foulds distances to DendroPy and to ETE where they are installed.
+lowest common ancestors; the evidence for four tips to a search over all edges and all nodes; Robinson-Foulds distances to
+DendroPy and to ETE where they are installed.
 """
 import dataclasses
 import decimal
@@ -33,15 +34,16 @@ ROOT = pathlib.Path(__file__).resolve().parent.parent
 sys.path.insert(0, str(ROOT / "python"))
 from command_runs import CommandTest
 from cases import skips
+from cases.evidence import Witness, evidence, parted
 from cases.newick import Tree, random_names, random_tree, star_text, with_pass_through, written_tree
 from cases.pairs import split_counts
 from cases.quartets import OUTSIDE_PAIRS, REFERENCE_PAIRS, cases_by_pairs
 from cases.shapes import balanced, caterpillar, chained, randomly_chained, related_pair, star, unrelated_pair
-from cases.tables import LABEL_TROUBLE, NUMBERS, OUTSIDE, PASS_THROUGH, P, Q, REFERENCE, W, X, damaged
+from cases.tables import LABEL_TROUBLE, NUMBERS, OUTSIDE, PASS_THROUGH, P, Q, REFERENCE, THREE, TWO, W, X, Table, damaged
 from cases.triplets import triplet_table
 
 import leskwyn
-from leskwyn import _library, api, counting, sources, weights
+from leskwyn import _library, api, counting, sources, trees, weights
 
 PROGRAM = pathlib.Path(os.environ.get("LESKWYN_COMPARE") or ROOT / "target" / "bin" / "compare").absolute()
 MOST_BYTES = 1016
@@ -751,6 +753,274 @@ class Given(unittest.TestCase):
             leskwyn.compare("(A,B,C);", "(A,X,Y);", common=True)
 
 
+def library_evidence(t: Table, u: Table, labels: typing.Iterable[int]) -> list[int]:
+    """All fields of the library's answer."""
+    answer = _library.evidence(_library.words(t), _library.words(u), list(labels))
+    return [getattr(answer, name) for name, _ in answer._fields_]
+
+
+def evidence_pairs(seed: int, count: int) -> typing.Iterator[tuple[Table, Table]]:
+    """Random pairs of 4 to 12 tips, with pass-through nodes in neither table, in one, or in both."""
+    rng = random.Random(seed)
+    for case in range(count):
+        t, u = rng.choice([related_pair, unrelated_pair])(rng, 4 + case % 9)
+        yield (randomly_chained(rng, t) if case // 9 % 4 in (1, 3) else t), (randomly_chained(rng, u) if case // 9 % 4 > 1 else u)
+
+
+class LibraryEvidence(unittest.TestCase):
+    """What the library tells of four labels, by a search over all edges and nodes."""
+
+    def test_every_set_of_four(self) -> None:
+        """Of each pair every set, and the sums of the cases are the quartet table."""
+        rng, seen, sizes = random.Random(21), [0] * 5, set()
+        for t, u in evidence_pairs(20, 108):
+            cases = [0] * 5
+            for four in itertools.combinations(range(t[0]), 4):
+                told = library_evidence(t, u, rng.sample(four, 4))
+                self.assertEqual(told, evidence(t, u, four), (t, u, four))
+                cases[told[1]] += 1
+            found = api.compare_file("file", packed(t, u))
+            self.assertEqual(cases, [found.same, found.different, found.first_only, found.second_only, found.neither])
+            self.assertEqual(cases, cases_by_pairs(t, u))
+            seen = [one + more for one, more in zip(seen, cases)]
+            sizes.add((t[0], t[1] == 4 * t[0] or u[1] == 4 * t[0]))
+        self.assertGreater(min(seen), 100)
+        self.assertEqual({n for n, largest in sizes if largest}, set(range(4, 13)))
+
+    def test_every_order(self) -> None:
+        for t, u in evidence_pairs(22, 18):
+            for four in itertools.combinations(range(t[0]), 4):
+                answers = {tuple(library_evidence(t, u, order)) for order in itertools.permutations(four)}
+                self.assertEqual(len(answers), 1, (t, u, four))
+
+    def test_by_hand(self) -> None:
+        """P is (0,1,(2,(3,4))) with the inner nodes 1, 3 and 5; Q is (0,1,(2,3,4)) with 1 and 3; W is a star around node 1. P with
+        pass-through nodes has the edges 3, 5 and 6 in a chain, and 7 above 3 and 4."""
+        chain = PASS_THROUGH[0][0]
+        for t, u, four, expected in ((P, Q, (0, 1, 2, 3), [0, 0, 1, 3, 1, 3]), (P, Q, (0, 1, 3, 4), [0, 0, 1, 3, 1, 3]),
+                                     (P, Q, (1, 2, 3, 4), [0, 2, 1, 5, 0, 3]), (Q, P, (0, 2, 3, 4), [0, 3, 0, 3, 1, 5]),
+                                     (W, W, (0, 1, 2, 3), [0, 4, 0, 1, 0, 1]), (W, P, (1, 2, 3, 4), [0, 3, 0, 1, 1, 5]),
+                                     (P, REFERENCE[2], (0, 1, 2, 3), [0, 1, 1, 3, 1, 3]),
+                                     (chain, P, (0, 1, 2, 3), [0, 0, 1, 3, 1, 3]), (P, chain, (1, 2, 3, 4), [0, 0, 1, 5, 1, 7]),
+                                     (chain, W, (0, 1, 3, 4), [0, 2, 1, 3, 0, 1])):
+            self.assertEqual(library_evidence(t, u, four), expected, (t, u, four))
+            self.assertEqual(evidence(t, u, four), expected, (t, u, four))
+
+    def test_one_slice(self) -> None:
+        """The same words for both trees."""
+        for t in REFERENCE + OUTSIDE:
+            words = _library.words(t)
+            for four in itertools.combinations(range(t[0]), 4):
+                answer = _library.evidence(words, words, four)
+                self.assertEqual([getattr(answer, name) for name, _ in answer._fields_], evidence(t, t, four))
+
+    def test_refusals(self) -> None:
+        """Those of the pair, without 9, then 10, then 11; a refusal shows E and nothing else."""
+        asked = [(0, 1, 2, 3), (3, 1, 3, 2), (5, 1, 2, 3), (5, 5, 1, 1), (1, 1, 1, 9), (X, 0, 0, X), (0, 1, 0, 1)]
+        spoiled = [*damaged(P), *(t for t, _ in LABEL_TROUBLE)]
+        pairs = [*((t, W) for t in spoiled), *((W, t) for t in spoiled), *((t, t) for t in spoiled)]
+        pairs += [*itertools.product([P, W, THREE, TWO], repeat=2), (P, spoiled[0]), (THREE, spoiled[-1])]
+        numbers = set()
+        for (t, u), labels in itertools.product(pairs, asked):
+            told = library_evidence(t, u, labels)
+            self.assertEqual(told, evidence(t, u, labels), (t, u, labels))
+            numbers.add(told[0])
+        self.assertEqual(numbers, {0, *NUMBERS, *(100 + number for number in NUMBERS), 8, 10, 11})
+
+    def test_labels_beyond_a_word(self) -> None:
+        """None of them is taken for the label that is left of it in 16 bits."""
+        for label in (65536, 65537, 1 << 32):
+            self.assertEqual(library_evidence(P, Q, (label, 1, 2, 3)), [10, 4, 0, 0, 0, 0])
+
+    def test_256_tips(self) -> None:
+        """In a caterpillar the labels above x lie beyond edge 2x + 1, so a < b < c < d are parted by 2b + 1 and, if c - b > 1, by
+        later edges."""
+        rng, worm, fan = random.Random(23), caterpillar(256), star(256)
+        most = chained(rng, fan, 1024)
+        for _ in range(300):
+            a, b, c, d = sorted(rng.sample(range(256), 4))
+            self.assertEqual(library_evidence(worm, fan, (c, a, d, b)), [0, 2, 1, 2 * b + 1, 0, 1])
+            self.assertEqual(library_evidence(worm, worm, (a, b, c, d)), [0, 0, 1, 2 * b + 1, 1, 2 * b + 1])
+            told = library_evidence(most, worm, (b, d, c, a))
+            # the one inner node of several children
+            self.assertEqual((told[:3], most[2:2 + 1024].count(told[3])), ([0, 3, 0], 255))
+
+
+class Why(unittest.TestCase):
+    """The evidence for four named tips."""
+
+    def assert_shows(self, found: leskwyn.Witness, seen: Witness, table: Table, names: list[str]) -> None:
+        """What a search of the table sees, in names in the order of their labels."""
+        def named(labels: typing.Iterable[int]) -> tuple[str, ...]:
+            return tuple(names[label] for label in sorted(labels))
+        self.assertEqual((found.edge, found.node), (seen.number, None) if seen.edge else (None, seen.number))
+        if seen.pairs is None:
+            self.assertIsNone(found.pairs)
+        else:
+            self.assertEqual(list(found.pairs), [named(pair) for pair in sorted(seen.pairs, key=min)])
+        self.assertCountEqual(found.parts, map(named, parted(table).parts(seen)))
+
+    def assert_is_of(self, found: leskwyn.Witness, tree: Tree, four: frozenset[str]) -> None:
+        """What a search of the named tree sees, without a table."""
+        pairs = parting(sides_of(tree), four)
+        self.assertEqual(found.pairs and frozenset(map(frozenset, found.pairs)), pairs)
+        def beyond(a: int, b: int) -> frozenset[str]:
+            return frozenset(tree.names_beyond(a, b))
+        edges = {frozenset([beyond(a, b), beyond(b, a)]) for a, b in tree.edges()}
+        nodes = {frozenset(beyond(a, b) for b in others) for a, others in tree.joined.items()}
+        self.assertIn(frozenset(map(frozenset, found.parts)), edges if pairs else nodes)
+        # two parts with a pair each, or four with one each and then the others
+        held = [four & set(part) for part in found.parts]
+        self.assertEqual(list(map(len, held)), [2, 2] if pairs else [1] * 4 + [0] * (len(held) - 4))
+        self.assertEqual(held[:4], sorted(held[:4], key=min))
+
+    def test_random_trees(self) -> None:
+        """Every set of four, in texts and in objects, with pass-through nodes or without."""
+        rng, cases = random.Random(24), set()
+        for case in range(24):
+            plain = random_named_trees(rng, 4 + case % 6)
+            named = [with_pass_through(rng, tree, rng.randint(1, len(tree.name))) if case % 2 else tree for tree in plain]
+            texts = [written_tree(rng, tree) for tree in named]
+            names = sorted(plain[0].name.values())
+            tables = [trees.table_of(sources.trees_of_text("", text, 1)[0].tree, {name: at for at, name in enumerate(names)})
+                      for text in texts]
+            for labels in itertools.combinations(range(len(names)), 4):
+                four = [names[label] for label in labels]
+                with self.subTest(texts=texts, four=four):
+                    found = leskwyn.why(*texts, rng.sample(four, 4))
+                    self.assertEqual((found.first, found.second, found.names), ("the first tree", "the second tree", tuple(four)))
+                    self.assertEqual("ABCDE".index(found.case), evidence(*tables, labels)[1])
+                    for one, table, tree in zip((found.first_tree, found.second_tree), tables, named):
+                        self.assert_shows(one, parted(table).witness(frozenset(labels)), table, names)
+                        self.assert_is_of(one, tree, frozenset(four))
+                    self.assertEqual(leskwyn.why("".join(texts), None, four).case, found.case)
+                    again = leskwyn.why(*map(in_nodes, named), four)
+                    self.assertEqual((again.case, again.first_tree.pairs), (found.case, found.first_tree.pairs))
+                    cases.add(found.case)
+        self.assertEqual(cases, set("ABCDE"))
+
+    def test_outgroups(self) -> None:
+        """The case and the pairs do not depend on it; numbers do, and which of several edges is told."""
+        rng, told = random.Random(25), set()
+        for case in range(10):
+            named = random_named_trees(rng, 6 + case % 3)
+            texts = [written_tree(rng, tree) for tree in named]
+            for outgroup, _ in itertools.product(sorted(named[0].name.values()), range(4)):
+                names = [outgroup, *sorted(set(named[0].name.values()) - {outgroup})]
+                labels = sorted(rng.sample(range(len(names)), 4))
+                four = [names[label] for label in labels]
+                found, other = leskwyn.why(*texts, four, outgroup=outgroup), leskwyn.why(*texts, four)
+                self.assertEqual((found.names, found.case), (tuple(four), other.case))
+                for one, text, tree in zip((found.first_tree, found.second_tree), texts, named):
+                    table = trees.table_of(sources.trees_of_text("", text, 1)[0].tree, {name: at for at, name in enumerate(names)})
+                    self.assert_shows(one, parted(table).witness(frozenset(labels)), table, names)
+                    self.assertEqual(one.pairs and frozenset(map(frozenset, one.pairs)), parting(sides_of(tree), frozenset(four)))
+                told.add((found.first_tree.edge == other.first_tree.edge, found.first_tree.parts == other.first_tree.parts))
+        self.assertIn((False, False), told)
+
+    def test_the_example_trees(self) -> None:
+        """By hand: feathers have the edges 2 to Bute and Coll and 6 to Lundy and Texel, wings 3 to Coll and Foula and 6."""
+        found = leskwyn.why(FEATHERS, str(WINGS), ["Lundy", "Coll", "Azores", "Bute"])
+        self.assertEqual(found, leskwyn.Evidence(
+            str(FEATHERS), str(WINGS), ("Azores", "Bute", "Coll", "Lundy"), "C",
+            leskwyn.Witness((("Azores", "Lundy"), ("Bute", "Coll")), 2, None,
+                            (("Azores", "Foula", "Lundy", "Texel"), ("Bute", "Coll"))),
+            leskwyn.Witness(None, None, 1, (("Azores",), ("Bute",), ("Coll", "Foula"), ("Lundy", "Texel")))))
+        for four, case, first, second in (("Azores Bute Coll Foula", "B", (2, None), (3, None)),
+                                          ("Texel Bute Lundy Azores", "A", (6, None), (6, None)),
+                                          ("Azores Coll Foula Texel", "D", (None, 1), (3, None)),
+                                          ("Azores Bute Foula Lundy", "E", (None, 1), (None, 1))):
+            found = leskwyn.why(FEATHERS, WINGS, four.split())
+            self.assertEqual((found.case, (found.first_tree.edge, found.first_tree.node),
+                              (found.second_tree.edge, found.second_tree.node)), (case, first, second))
+
+    def test_branches_without_any_of_the_four(self) -> None:
+        found = leskwyn.why("(a,x,b,(y,z),c,d);", "((a,b,x),(c,d,(y,z)));", "d c b a".split())
+        self.assertEqual(found.first_tree.parts, (("a",), ("b",), ("c",), ("d",), ("x",), ("y", "z")))
+        self.assertEqual(found.second_tree.parts, (("a", "b", "x"), ("c", "d", "y", "z")))
+
+    def test_a_comparison_file(self) -> None:
+        path = ROOT / "examples" / "p-q.bin"
+        for labels in ([4, 3, 2, 1], ["1", "2", "3", "4"], (1, "02", 3, "4")):
+            self.assertEqual(leskwyn.why(path, None, labels), leskwyn.Evidence(
+                f"{path}, first tree", f"{path}, second tree", ("1", "2", "3", "4"), "C",
+                leskwyn.Witness((("1", "2"), ("3", "4")), 5, None, (("0", "1", "2"), ("3", "4"))),
+                leskwyn.Witness(None, None, 3, (("0", "1"), ("2",), ("3",), ("4",)))))
+        with self.assertRaisesRegex(leskwyn.Refusal, "p-q.bin is a comparison file, without names: its outgroup is label 0"):
+            leskwyn.why(path, None, [0, 1, 2, 3], outgroup="1")
+        for labels, number, words in (([0, 1, 2, 5], 10, "there is no label 5: the labels are 0 to 4"),
+                                      ([7, 65536, 1, 1], 10, "there is no label 7, 65536: the labels are 0 to 4"),
+                                      ([1, 2, 1, 3], 11, "label 1 stands more than once; four different ones are needed"),
+                                      ([1, 2, -1, 10**6], None, "'-1', '1000000' are no labels: a comparison file has no names"),
+                                      (["P", 1, 2, 3], None, "'P' is no label: a comparison file has no names")):
+            with self.assertRaises(leskwyn.Refusal) as raised:
+                leskwyn.why(path, None, labels)
+            self.assertEqual(raised.exception.number, number)
+            self.assertIn(f"{path}: {words}", raised.exception.reason)
+
+    def test_labels_in_their_order(self) -> None:
+        """By number: 2 before 10."""
+        with tempfile.NamedTemporaryFile() as file:
+            file.write(packed(star(12), caterpillar(12)))
+            file.flush()
+            found = leskwyn.why(file.name, None, [10, 2, 11, 0])
+        self.assertEqual((found.names, found.case, found.second_tree.pairs, found.second_tree.edge),
+                         (("0", "2", "10", "11"), "D", (("0", "2"), ("10", "11")), 5))
+        self.assertEqual(found.first_tree.parts, tuple((str(label),) for label in (0, 2, 10, 11, 1, 3, 4, 5, 6, 7, 8, 9)))
+
+    def test_broken_tables(self) -> None:
+        """The number of the pair comes before those of the labels, with its reason."""
+        for (table, number), second in itertools.product(LABEL_TROUBLE, (False, True)):
+            with tempfile.NamedTemporaryFile() as file:
+                file.write(packed(Q, table) if second else packed(table, Q))
+                file.flush()
+                with self.assertRaises(leskwyn.Refusal) as raised:
+                    leskwyn.why(file.name, None, [99, 99, 0, 0])
+            self.assertEqual(raised.exception.number, 100 * second + number)
+            self.assertRegex(raised.exception.reason, f"{'second' if second else 'first'} tree: ")
+
+    def test_common(self) -> None:
+        pair = ["((a,b),(c,d,x));", "((a,c),(b,d),(y,z));"]
+        with self.assertRaisesRegex(leskwyn.Refusal, "the trees have different tips"):
+            leskwyn.why(*pair, ["a", "b", "c", "d"])
+        found = leskwyn.why(*pair, ["a", "b", "c", "d"], common=True)
+        self.assertEqual((found.case, found.first_tree.parts, found.second_tree.parts),
+                         ("B", (("a", "b"), ("c", "d")), (("a", "c"), ("b", "d"))))
+        with self.assertRaisesRegex(leskwyn.Refusal, "^'x' is not a tip of both trees$"):
+            leskwyn.why(*pair, ["a", "b", "c", "x"], common=True)
+
+    def test_names(self) -> None:
+        """By the name, or as the word that stands for it in Newick text; the name goes first."""
+        text = "((a_b,'a_b'),('it''s',(c,M\u00f6we)));"
+        found = leskwyn.why(text, text, ["a_b", "'a b'", "it's", "c"])
+        self.assertEqual(found.names, ("a b", "a_b", "c", "it's"))
+        self.assertEqual(leskwyn.why(text, text, ["'a_b'", "a b", "'it''s'", "'c'"]), found)
+        for names, words in ((["a b", "c", "x", "'y'"], "^'x', ''y'' are not tips of both trees$"),
+                             (["a b", "c", "x", "x"], "^'x' is not a tip of both trees$"),
+                             (["a b", "c", "C", "it's"], "^'C' is not a tip of both trees$"),
+                             (["a b", "c", "", "it's"], "^'' is not a tip of both trees$"),
+                             (["a b", "a_b", "c", "'a b'"], "^'a b' stands more than once; four different names are needed$"),
+                             (["a b", "c", "c", "a b"], "^'a b', 'c' stand more than once; four different names are needed$"),
+                             (["a b", "c", "a_b", "Mo\u0308we"], "'M\u00f6we' differs only in Unicode form")):
+            with self.subTest(names=names), self.assertRaisesRegex(leskwyn.Refusal, words) as raised:
+                leskwyn.why(text, text, names)
+            self.assertIsNone(raised.exception.number)
+
+    def test_how_many_names(self) -> None:
+        for names in ([], ["a"], ["a", "b", "c"], ["a", "b", "c", "d", "a"]):
+            with self.assertRaisesRegex(ValueError, f"^there are {len(names)} names; four are needed$"):
+                leskwyn.why("((a,b),(c,d));", "(a,b,c,d);", names)
+        with self.assertRaisesRegex(TypeError, "^names is a str; four names are needed, as a list$"):
+            leskwyn.why("((a,b),(c,d));", "(a,b,c,d);", "abcd")
+        self.assertEqual(leskwyn.why("((1,2),(3,4));", "(1,2,3,4);", (4, 3, 2, 1)).case, "C")
+        self.assertEqual(leskwyn.why("((a,b),(c,d));", "(a,b,c,d);", iter("abcd")).case, "C")
+
+    def test_trees_without_sets_of_four(self) -> None:
+        for text in ("(a,b);", "(a,(b,c));"):
+            with self.assertRaisesRegex(leskwyn.Refusal, "'d' is not a tip of both trees|'c', 'd' are not tips"):
+                leskwyn.why(text, text, ["a", "b", "c", "d"])
+
+
 class Weights(unittest.TestCase):
     """The spellings of a weight, and the sentence that turns another one away."""
 
@@ -808,6 +1078,12 @@ class Answers(unittest.TestCase):
         self.assertEqual(sum([found.same, found.different, found.first_only, found.second_only, found.neither]),
                          found.sets_of_four)
         self.assertEqual((found.outgroup, sum(triplets_of(found))), (found.names[0], found.sets_of_three))
+        shown = leskwyn.why(FEATHERS, WINGS, ["Azores", "Bute", "Coll", "Lundy"])
+        for part, field in ((shown, "case"), (shown.first_tree, "edge")):
+            with self.assertRaises(dataclasses.FrozenInstanceError):
+                setattr(part, field, None)
+        self.assertEqual(json.loads(json.dumps(shown.as_dict())), shown.as_dict())
+        self.assertEqual(len({shown, leskwyn.why(FEATHERS, WINGS, ["Bute", "Azores", "Lundy", "Coll"])}), 1)
 
     def test_errors(self) -> None:
         with tempfile.NamedTemporaryFile() as file:
@@ -840,8 +1116,9 @@ class Answers(unittest.TestCase):
     def test_help(self) -> None:
         for name in leskwyn.__all__:
             self.assertTrue(getattr(leskwyn, name).__doc__, name)
-        for field in dataclasses.fields(leskwyn.Comparison):
-            self.assertRegex(leskwyn.Comparison.__doc__, rf"(?m)^ *(\w+, )?{field.name}\b")
+        for answer in (leskwyn.Comparison, leskwyn.Evidence, leskwyn.Witness):
+            for field in dataclasses.fields(answer):
+                self.assertRegex(answer.__doc__, rf"(?m)^ *(\w+, )?{field.name}\b")
 
 
 if __name__ == "__main__":
