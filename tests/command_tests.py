@@ -7,6 +7,7 @@ Needs target/libleskwyn.so, or what LESKWYN_LIBRARY names. The figures of the ex
 examples of the pages are run.
 """
 import contextlib
+import dataclasses
 import doctest
 import importlib.util
 import io
@@ -868,6 +869,11 @@ class Pages(unittest.TestCase):
         text = (ROOT / "docs" / "COMMANDS.md").read_text(encoding="utf-8")
         self.assertEqual(re.findall(r"^\| `(\w+)` \|(?:.*\|){2}$", text.split("## Keys\n")[1].split("\n## ")[0], re.M),
                          [*KEYS, *WEIGHTED_KEYS])
+
+    def test_every_key_of_why_is_told(self) -> None:
+        text = (ROOT / "docs" / "COMMANDS.md").read_text(encoding="utf-8")
+        fields = [field.name for answer in (leskwyn.Evidence, leskwyn.Witness) for field in dataclasses.fields(answer)]
+        self.assertEqual(re.findall(r"^\| `(\w+)` \|.*\|$", text.split("## why\n")[1].split("\n## ")[0], re.M), fields)
 
 
 if __name__ == "__main__":
