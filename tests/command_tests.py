@@ -477,7 +477,7 @@ class Why(TreesTest):
                 self.assert_message(self.here("why", "feathers.nwk", "wings.nwk", *four, *options), 1, words)
         self.file("pair.bin", packed(P, Q))
         for four, words in (("0 1 2 5", "refused 10: pair.bin: there is no label 5: the labels are 0 to 4"),
-                            ("0 9 9 65536", "refused 10: pair.bin: there is no label 9, 9, 65536: the labels are 0 to 4"),
+                            ("0 9 9 65536", "refused 10: pair.bin: there is no label 9, 65536: the labels are 0 to 4"),
                             ("0 1 2 2", "refused 11: pair.bin: label 2 stands more than once; four different ones are needed"),
                             ("0 1 2 x", "pair.bin: 'x' is no label: a comparison file has no names, and its labels are numbers"),
                             ("0 1 2 123456", "pair.bin: '123456' is no label"), ("0 1 2 \u0663", "pair.bin: '\u0663' is no label")):

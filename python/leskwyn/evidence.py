@@ -98,7 +98,7 @@ def refused(number: int, first: Words, second: Words, labels: Sequence[int]) -> 
     """Raises the refusal that the library tells, with its reason."""
     tips = first.cells[0]
     if number == 10:
-        wrong = ", ".join(str(label) for label in labels if label >= tips)
+        wrong = ", ".join(str(label) for label in dict.fromkeys(labels) if label >= tips)
         raise Refusal(f"there is no label {wrong}: the labels are 0 to {tips - 1}", number)
     if number == 11:
         again = ", ".join(repeated(list(map(str, labels))))
