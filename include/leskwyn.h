@@ -25,8 +25,8 @@
  *     which changes no count and no distance.
  * Edge i (1 to m - 1) joins node i to its parent; the labels beyond it are those on node i's side, away from tip 0.
  *
- * Refusals. 0 stands for accepted. A refused call gives its number, 0 in every other field of its answer, and no
- * change to a lent cell. Where several conditions hold, the first in this order decides.
+ * Refusals. 0 stands for accepted. A refused call gives its number, 0 in every other field of its answer (but case E
+ * where a case is told), and no change to a lent cell. Where several conditions hold, the first in this order decides.
  *
  *   of a table   1   fewer than two words
  *                2   n is not 2 to 256
@@ -103,6 +103,25 @@ typedef struct { uint16_t refusal; uint64_t a, b, c, d, e, distance; } leskwyn_t
  */
 typedef struct { uint16_t refusal; double distance; } leskwyn_weighted_distance_answer;
 
+/*
+ * The cases of four tips in two trees: A, the same butterfly in both; B, different butterflies; C, a butterfly in the
+ * first tree only; D, in the second only; E, a star in both.
+ */
+#define LESKWYN_CASE_A 0
+#define LESKWYN_CASE_B 1
+#define LESKWYN_CASE_C 2
+#define LESKWYN_CASE_D 3
+#define LESKWYN_CASE_E 4
+
+/*
+ * The refusal, or 0; the case of four tips, one of the five above; and for each tree what shows it: 1 and the number of
+ * an edge, or 0 and the number of a node. A butterfly is shown by the lowest-numbered edge that has two of the tips on
+ * each side, a star by the node where all paths between the tips meet.
+ */
+typedef struct {
+    uint16_t refusal, which, first_edge, first_number, second_edge, second_number;
+} leskwyn_evidence_answer;
+
 /* The version of the library that is linked. It is LESKWYN_VERSION where header and library are of one release. */
 uint32_t leskwyn_version(void);
 
@@ -175,6 +194,15 @@ leskwyn_weighted_distance_answer leskwyn_weighted_distance(const uint16_t *first
                                                            const uint16_t *second, size_t second_words,
                                                            uint16_t *work, size_t cells,
                                                            uint16_t kind, double fraction);
+
+/*
+ * The evidence for four tips, whatever their order: the case in which the quartet table counts them, and the edge or
+ * the node of each tree that shows it. It takes no work, so that 9 does not occur. Refuses by the pair's other numbers,
+ * then 10, then 11.
+ */
+leskwyn_evidence_answer leskwyn_evidence(const uint16_t *first, size_t first_words,
+                                         const uint16_t *second, size_t second_words,
+                                         uint16_t a, uint16_t b, uint16_t c, uint16_t d);
 
 #ifdef __cplusplus
 }
