@@ -132,6 +132,65 @@ impl Weight {
     }
 }
 
+/// The case of four tips in two trees.
+#[derive(Clone, Copy, Debug, PartialEq, Eq, Hash)]
+pub enum Case {
+    /// The same butterfly in both trees.
+    A,
+    /// Different butterflies.
+    B,
+    /// A butterfly in the first tree only.
+    C,
+    /// A butterfly in the second tree only.
+    D,
+    /// A star in both.
+    E,
+}
+
+impl Case {
+    /// The case of that number.
+    fn of(which: u16) -> Case {
+        match which {
+            raw::CASE_A => Case::A,
+            raw::CASE_B => Case::B,
+            raw::CASE_C => Case::C,
+            raw::CASE_D => Case::D,
+            _ => Case::E,
+        }
+    }
+}
+
+/// What shows how four tips lie in a tree.
+#[derive(Clone, Copy, Debug, PartialEq, Eq, Hash)]
+pub enum Witness {
+    /// Of a butterfly: the lowest-numbered edge that parts the four two and two.
+    Edge(u16),
+    /// Of a star: the node where all paths between the four meet.
+    Meet(u16),
+}
+
+impl Witness {
+    /// The edge of that number, where `edge` is 1; else the node.
+    fn of(edge: u16, number: u16) -> Witness {
+        if edge == 1 {
+            Witness::Edge(number)
+        } else {
+            Witness::Meet(number)
+        }
+    }
+}
+
+/// Why four tips are counted in the case in which they are.
+#[derive(Clone, Copy, Debug, PartialEq, Eq, Hash)]
+pub struct Evidence {
+    /// The case in which the quartet table counts them.
+    pub which: Case,
+    /// What shows it in the first tree.
+    pub first: Witness,
+    /// What shows it in the second.
+    pub second: Witness,
+}
+
 /// Checks a tree table.
 ///
 /// ```
@@ -381,4 +440,36 @@ pub fn weighted_distance(first: &[u16], second: &[u16], work: &mut [u16], weight
         )
     };
     Refusal::or(answer.refusal, answer.distance)
+}
+
+/// The evidence for four tips in two trees, whatever their order: the case in which [`quartet_table`] counts them, and
+/// the edge or the node of each tree that shows it. It takes no work.
+///
+/// ```
+/// use leskwyn::{evidence, Case, Evidence, Witness, INNER as X};
+/// // Below tip 0: (1,(2,(3,4))) and (1,(2,3,4)).
+/// let p = [5, 8, 0, 0, 1, 1, 3, 3, 5, 5, 0, X, 1, X, 2, X, 3, 4];
+/// let q = [5, 7, 0, 0, 1, 1, 3, 3, 3, 0, X, 1, X, 2, 3, 4];
+/// // Edges 3 and 5 of the first tree part 3 and 4 from 0 and 1.
+/// let alike = Evidence { which: Case::A, first: Witness::Edge(3), second: Witness::Edge(3) };
+/// assert_eq!(evidence(&p, &q, 0, 1, 3, 4), Ok(alike));
+/// let open = Evidence { which: Case::C, first: Witness::Edge(5), second: Witness::Meet(3) };
+/// assert_eq!(evidence(&p, &q, 4, 2, 0, 3), Ok(open));
+/// assert_eq!(evidence(&p, &q, 0, 0, 2, 5).unwrap_err().number(), 10);
+/// assert_eq!(evidence(&p, &q, 0, 0, 2, 4).unwrap_err().number(), 11);
+/// ```
+///
+/// # Errors
+///
+/// Those of [`work_cells`], then 10, then 11.
+pub fn evidence(first: &[u16], second: &[u16], a: u16, b: u16, c: u16, d: u16) -> Result<Evidence, Refusal> {
+    // SAFETY: each pointer and length are those of one live slice.
+    let answer =
+        unsafe { raw::leskwyn_evidence(first.as_ptr(), first.len(), second.as_ptr(), second.len(), a, b, c, d) };
+    let shown = Evidence {
+        which: Case::of(answer.which),
+        first: Witness::of(answer.first_edge, answer.first_number),
+        second: Witness::of(answer.second_edge, answer.second_number),
+    };
+    Refusal::or(answer.refusal, shown)
 }

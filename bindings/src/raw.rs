@@ -88,6 +88,25 @@ pub struct WeightedDistanceAnswer {
     pub distance: f64,
 }
 
+/// The cases of four tips in two trees.
+pub const CASE_A: u16 = 0;
+pub const CASE_B: u16 = 1;
+pub const CASE_C: u16 = 2;
+pub const CASE_D: u16 = 3;
+pub const CASE_E: u16 = 4;
+
+/// The refusal, or 0; the case, E for a refusal; for each tree 1 and an edge, or 0 and a meeting node.
+#[repr(C)]
+#[derive(Clone, Copy, Debug, PartialEq, Eq)]
+pub struct EvidenceAnswer {
+    pub refusal: u16,
+    pub which: u16,
+    pub first_edge: u16,
+    pub first_number: u16,
+    pub second_edge: u16,
+    pub second_number: u16,
+}
+
 /// A function of two tables and the work: each as a pointer and a number of elements.
 pub type PairFunction<T> = unsafe extern "C" fn(*const u16, usize, *const u16, usize, *mut u16, usize) -> T;
 
@@ -161,4 +180,15 @@ extern "C" {
         kind: u16,
         fraction: f64,
     ) -> WeightedDistanceAnswer;
+
+    pub fn leskwyn_evidence(
+        first: *const u16,
+        first_words: usize,
+        second: *const u16,
+        second_words: usize,
+        a: u16,
+        b: u16,
+        c: u16,
+        d: u16,
+    ) -> EvidenceAnswer;
 }
