@@ -1,16 +1,18 @@
 //! An independent check of the exported functions, and other methods to time them against.
 //!
-//! `enumerate` is written from docs/SPECIFICATION.md alone: topologies by looking at every edge, claims one by one, splits
-//! as a set of pairs of tip sets, triplets by climbing to lowest common ancestors. `weights` has the weighted distance, in
-//! whole numbers, and `pass_through` takes pass-through nodes out. Nothing in these, in `cubic` and `expanded`, which follow
-//! document 001, or in `common_ancestors` comes from the library. `straight` is the library's own algorithm as a Rust
-//! programmer would write it, and is there to be timed.
+//! `enumerate` is written from docs/SPECIFICATION.md alone: topologies by looking at every edge, claims one by one,
+//! splits as a set of pairs of tip sets, triplets by climbing to lowest common ancestors. `evidence` looks at every
+//! edge and every node, `weights` has the weighted distance in whole numbers, and `pass_through` takes pass-through
+//! nodes out. Nothing in these, in `cubic` and `expanded`, which follow document 001, or in `common_ancestors` comes
+//! from the library. `straight` is the library's own algorithm as a Rust programmer would write it, and is there to be
+//! timed.
 
 pub mod agree;
 pub mod common_ancestors;
 pub mod cubic;
 pub mod damage;
 pub mod enumerate;
+pub mod evidence;
 pub mod expanded;
 pub mod generate;
 pub mod pass_through;
