@@ -3,12 +3,13 @@
 
 use leskwyn::file::{compare_tables, Figures};
 use leskwyn::raw::{
-    self, BeyondAnswer, CentreAnswer, ClaimSumsAnswer, PairFunction, QuartetTableAnswer, SplitCountsAnswer,
-    TopologyAnswer, TripletTableAnswer,
+    self, BeyondAnswer, CentreAnswer, ClaimSumsAnswer, EvidenceAnswer, PairFunction, QuartetTableAnswer,
+    SplitCountsAnswer, TopologyAnswer, TripletTableAnswer,
 };
-use leskwyn::{ClaimSums, QuartetTable, Refusal, SplitCounts, TripletTable, Weight};
+use leskwyn::{Case, ClaimSums, Evidence, QuartetTable, Refusal, SplitCounts, TripletTable, Weight, Witness};
 
 use crate::enumerate::{self, Topology, Tree};
+use crate::evidence::{self, Climbs};
 use crate::pass_through::{taken_out, TakenOut};
 use crate::random::Random;
 use crate::reference::X;
@@ -200,7 +201,75 @@ pub fn topology_agrees(table: &[u16], tree: Option<&Tree>, four: [u16; 4]) {
     }
 }
 
-/// The answers of the five functions of a pair.
+/// What a refusal shows.
+const REFUSED: Evidence = Evidence { which: Case::E, first: Witness::Meet(0), second: Witness::Meet(0) };
+
+/// The evidence as the exported function answers it.
+fn evidence_answer(refusal: u16, Evidence { which, first, second }: Evidence) -> EvidenceAnswer {
+    let which = match which {
+        Case::A => raw::CASE_A,
+        Case::B => raw::CASE_B,
+        Case::C => raw::CASE_C,
+        Case::D => raw::CASE_D,
+        Case::E => raw::CASE_E,
+    };
+    let [(first_edge, first_number), (second_edge, second_number)] = [first, second].map(|witness| match witness {
+        Witness::Edge(edge) => (1, edge),
+        Witness::Meet(node) => (0, node),
+    });
+    EvidenceAnswer { refusal, which, first_edge, first_number, second_edge, second_number }
+}
+
+/// The climbs of both tables, unless one is refused or they do not fit each other.
+pub fn both_climbs(first: &[u16], second: &[u16]) -> Option<[Climbs; 2]> {
+    let is_pair = enumerate::pair_refusal(first, second, usize::MAX) == 0;
+    is_pair.then(|| [first, second].map(Climbs::of))
+}
+
+/// The evidence for four labels, good or bad, which is handed back. Without climbs the tables are refused.
+pub fn evidence_agrees(
+    first: &[u16],
+    second: &[u16],
+    climbs: Option<&[Climbs; 2]>,
+    four: [u16; 4],
+) -> Result<Evidence, u16> {
+    let refusal = evidence::refusal(first, second, four);
+    let shown = climbs.filter(|_| refusal == 0).map(|[ours, theirs]| evidence::evidence(ours, theirs, four));
+    let [a, b, c, d] = four;
+    // SAFETY: each pointer and length are those of one slice.
+    let answer =
+        unsafe { raw::leskwyn_evidence(first.as_ptr(), first.len(), second.as_ptr(), second.len(), a, b, c, d) };
+    assert_eq!(
+        answer,
+        evidence_answer(refusal, shown.unwrap_or(REFUSED)),
+        "evidence for {four:?} of {first:?} and {second:?}"
+    );
+    let expected = shown.ok_or(refusal);
+    assert_eq!(leskwyn::evidence(first, second, a, b, c, d).map_err(Refusal::number), expected);
+    expected
+}
+
+/// The evidence for some sets of labels, good and bad.
+fn some_evidence_agrees(first: &[u16], second: &[u16], random: &mut Random) {
+    let climbs = both_climbs(first, second);
+    let n = first.first().map_or(0, |&n| usize::from(n).min(300));
+    for at in 0..4 {
+        let mut four = [0; 4].map(|_: u16| random.below(n + 1) as u16);
+        if at % 2 == 0 && n >= 4 {
+            four = different_labels(n, random);
+        }
+        let _ = evidence_agrees(first, second, climbs.as_ref(), four);
+    }
+}
+
+/// Four different labels below n, in any order.
+pub fn different_labels(n: usize, random: &mut Random) -> [u16; 4] {
+    let mut labels: Vec<u16> = (0..n as u16).collect();
+    random.shuffle(&mut labels);
+    [labels[0], labels[1], labels[2], labels[3]]
+}
+
+/// The answers of the five functions of a pair that take work.
 #[derive(Debug, PartialEq, Eq)]
 struct Answers {
     crossings: u16,
@@ -342,6 +411,7 @@ pub fn pair_agrees(first: &[u16], second: &[u16], expected: &Expected, random: &
                 cells_agree(first, second, lent, Some(expected), random);
             }
             wrappers_agree(first, second, cells, Some(expected), random);
+            some_evidence_agrees(first, second, random);
         });
     });
 }
@@ -396,5 +466,6 @@ pub fn tree_passes_through(table: &[u16], random: &mut Random) {
 pub fn refusal_agrees(first: &[u16], second: &[u16], cells: usize, random: &mut Random) -> u16 {
     cells_agree(first, second, cells, None, random);
     wrappers_agree(first, second, cells, None, random);
+    some_evidence_agrees(first, second, random);
     enumerate::pair_refusal(first, second, cells)
 }
