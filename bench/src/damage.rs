@@ -1,10 +1,29 @@
 //! Tables spoiled so that each rule of the tree check is broken somewhere.
 
+use std::collections::BTreeMap;
+
 use crate::random::Random;
 use crate::reference::X;
 
 /// The numbers of the tree check, in the order in which they decide.
 pub const NUMBERS: [u16; 8] = [1, 2, 3, 4, 5, 6, 31, 7];
+
+/// How often each number came up.
+#[derive(Default)]
+pub struct Met(BTreeMap<u16, usize>);
+
+impl Met {
+    pub fn meet(&mut self, number: u16) {
+        *self.0.entry(number).or_default() += 1;
+    }
+
+    pub fn at_least(&self, times: usize, numbers: impl IntoIterator<Item = u16>) {
+        for number in numbers {
+            let met = self.0.get(&number).copied().unwrap_or(0);
+            assert!(met >= times, "{number} came up {met} times: {:?}", self.0);
+        }
+    }
+}
 
 /// An accepted table, spoiled with the rule of that number in view. What number it has afterwards is for the
 /// enumerator to say: two nodes, for one, cannot break rule 7 alone.

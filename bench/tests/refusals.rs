@@ -1,33 +1,14 @@
 //! Damaged tables, tables that do not fit each other, and words with little plan: the number of every function, zeros
 //! in every other field, and no lent cell changed.
 
-use std::collections::BTreeMap;
-
 use bench::agree::{pair_agrees, refusal_agrees, tree_agrees, Expected};
-use bench::damage::{damaged, noise, without_children, NUMBERS};
+use bench::damage::{damaged, noise, without_children, Met, NUMBERS};
 use bench::enumerate::{pair_refusal, tree_refusal};
 use bench::generate::{any_chained, chained, table, Chains, Shape};
 use bench::pass_through::pass_through_nodes;
 use bench::random::Random;
 use bench::reference::{W, X};
 use bench::straight;
-
-/// How often each number came up.
-#[derive(Default)]
-struct Met(BTreeMap<u16, usize>);
-
-impl Met {
-    fn meet(&mut self, number: u16) {
-        *self.0.entry(number).or_default() += 1;
-    }
-
-    fn at_least(&self, times: usize, numbers: impl IntoIterator<Item = u16>) {
-        for number in numbers {
-            let met = self.0.get(&number).copied().unwrap_or(0);
-            assert!(met >= times, "{number} came up {met} times: {:?}", self.0);
-        }
-    }
-}
 
 /// A table of n tips, in half of the cases with pass-through nodes.
 fn table_of(n: usize, random: &mut Random) -> Vec<u16> {
