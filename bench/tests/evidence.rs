@@ -1,10 +1,8 @@
 //! The evidence for sets of four against a search over all edges and all nodes, with pass-through nodes and without.
 //! Some sets besides go with each pair of the other tests.
 
-use std::collections::BTreeMap;
-
 use bench::agree::{both_climbs, different_labels, evidence_agrees};
-use bench::damage::{damaged, noise, NUMBERS};
+use bench::damage::{damaged, noise, Met, NUMBERS};
 use bench::enumerate::{cases, pair_refusal, Tree};
 use bench::evidence::{every_four, every_order};
 use bench::generate::{any_chained, chained, pair, table, Chains, Graph, Numbering, Partner, Shape};
@@ -28,18 +26,29 @@ fn counted(sets: &[([u16; 4], Evidence)]) -> [u64; 5] {
     [Case::A, Case::B, Case::C, Case::D, Case::E].map(count)
 }
 
-/// The cases of all sets are the quartet table, and each edge or node goes with the library's topology.
+/// The topology that an edge or a node shows, the first of the labels being the smallest.
+fn topology_shown(tree: &Tree, [a, b, c, d]: [u16; 4], witness: Witness) -> Topology {
+    let Witness::Edge(edge) = witness else {
+        return Topology::Star;
+    };
+    let beyond = tree.labels_beyond(edge);
+    let with_smallest = |label: &u16| beyond.contains(label) == beyond.contains(&a);
+    Topology::Butterfly([b, c, d].into_iter().find(with_smallest).expect("two on each side"))
+}
+
+/// The cases of all sets are the quartet table, and each edge and node shows the topology that the library tells.
 fn sums_agree(first: &[u16], second: &[u16]) {
     let sets = every_set_agrees(first, second);
+    let (ours, theirs) = (Tree::of(first), Tree::of(second));
     let mut work = vec![0; leskwyn::work_cells(first, second).expect("accepted")];
     let told = leskwyn::quartet_table(first, second, &mut work).expect("accepted");
     assert_eq!(counted(&sets), [told.a, told.b, told.c, told.d, told.e], "{first:?} and {second:?}");
-    assert_eq!(counted(&sets), cases(&Tree::of(first), &Tree::of(second)), "{first:?} and {second:?}");
+    assert_eq!(counted(&sets), cases(&ours, &theirs), "{first:?} and {second:?}");
     for (four, shown) in sets {
-        for (table, witness) in [(first, shown.first), (second, shown.second)] {
-            let [a, b, c, d] = four;
-            let is_star = leskwyn::topology(table, a, b, c, d) == Ok(Topology::Star);
-            assert_eq!(is_star, matches!(witness, Witness::Meet(_)), "{four:?} in {table:?}");
+        let [a, b, c, d] = four;
+        for (table, tree, witness) in [(first, &ours, shown.first), (second, &theirs, shown.second)] {
+            let topology = topology_shown(tree, four, witness);
+            assert_eq!(leskwyn::topology(table, a, b, c, d), Ok(topology), "{four:?} in {table:?}");
         }
     }
 }
@@ -200,21 +209,9 @@ fn any_four(n: usize, random: &mut Random) -> [u16; 4] {
     four
 }
 
-/// How often each number came up.
-#[derive(Default)]
-struct Met(BTreeMap<u16, usize>);
-
-impl Met {
-    fn meet(&mut self, answer: Result<Evidence, u16>) {
-        *self.0.entry(answer.err().unwrap_or(0)).or_default() += 1;
-    }
-
-    fn at_least(&self, times: usize, numbers: impl IntoIterator<Item = u16>) {
-        for number in numbers {
-            let met = self.0.get(&number).copied().unwrap_or(0);
-            assert!(met >= times, "{number} came up {met} times: {:?}", self.0);
-        }
-    }
+/// The number of a refusal, or 0.
+fn number(answer: Result<Evidence, u16>) -> u16 {
+    answer.err().unwrap_or(0)
 }
 
 /// Damage in the first table, in the second, in both, in none, with labels good and bad.
@@ -241,11 +238,10 @@ fn damaged_pairs() {
         }
         let climbs = both_climbs(&first, &second);
         for _ in 0..4 {
-            met.meet(evidence_agrees(&first, &second, climbs.as_ref(), any_four(n, &mut random)));
+            met.meet(number(evidence_agrees(&first, &second, climbs.as_ref(), any_four(n, &mut random))));
         }
     }
     met.at_least(500, NUMBERS.into_iter().chain(NUMBERS.map(|number| 100 + number)).chain([0, 10, 11]));
-    assert_eq!(met.0.get(&9), None);
 }
 
 /// 8 comes before 10 and 11, whichever tree the labels are of.
@@ -304,11 +300,11 @@ fn words_with_little_plan() {
         let climbs = both_climbs(&first, &second);
         let n = first.first().map_or(0, |&n| usize::from(n).min(300));
         for _ in 0..3 {
-            met.meet(evidence_agrees(&first, &second, climbs.as_ref(), any_four(n, &mut random)));
+            met.meet(number(evidence_agrees(&first, &second, climbs.as_ref(), any_four(n, &mut random))));
         }
         let [few, more] = [0; 2].map(|_: usize| random.below(30));
         let (few, more, four) = (random.words(few), random.words(more), [0; 4].map(|_: u16| random.word()));
-        met.meet(evidence_agrees(&few, &more, None, four));
+        met.meet(number(evidence_agrees(&few, &more, None, four)));
     }
     met.at_least(50, NUMBERS.into_iter().chain(NUMBERS.map(|number| 100 + number)).chain([0, 8, 10, 11]));
 }
