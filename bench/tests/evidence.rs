@@ -53,7 +53,7 @@ fn sums_agree(first: &[u16], second: &[u16]) {
     }
 }
 
-/// Two tables of 2 to 12 tips, three quarters of them with pass-through nodes.
+/// Two tables of 2 to 12 tips, with pass-through nodes in neither, in the first, in the second, or in both.
 fn small_pair(at: usize, shape: Shape, partner: Partner, random: &mut Random) -> [Vec<u16>; 2] {
     let (first, second) = pair(shape, 2 + (at + random.below(2)) % 11, partner, random);
     match at % 4 {
