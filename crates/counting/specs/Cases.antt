@@ -7,8 +7,9 @@ use Rattle.sums.specs.Bits.{bit}
 use Rattle.sums.specs.SetsOfFour.{sets4}
 use Rattle.trees.specs.declared.quartet.Topology.{Topology}
 use Rattle.trees.specs.declared.quartet.Topology.the-variants.{Butterfly, Star}
-use Rattle.tree_check.specs.Table.{Table, tips}
+use Rattle.tree_check.specs.Table.{Table}
 use Rattle.trees.specs.Topology.{topology}
+use Rattle.counting.specs.Labels.{Labels}
 
 -- A: the same butterfly in both trees; B: two different ones; C: a butterfly in the first tree alone; D: in the second
 -- alone; E: a star in both
@@ -37,6 +38,10 @@ caseNumber E = 4
 unfoldable pub isCase : Case → Case → Bool
 isCase c k = eqb (caseNumber c) (caseNumber k)
 
+-- the topology of the labels of four ranks
+unfoldable pub topologyAt : Labels → Table → ℕ → ℕ → ℕ → ℕ → Topology
+topologyAt l t w x y z = topology t (l .at w) (l .at x) (l .at y) (l .at z)
+
 -- how many sets of four labels are in the case k
-unfoldable pub quartets : Table → Table → Case → ℕ
-quartets t u k = sets4 (tips t) (λ w x y z. bit (isCase (caseOf (topology t w x y z) (topology u w x y z)) k))
+unfoldable pub quartets : Labels → Table → Table → Case → ℕ
+quartets l t u k = sets4 (l .number) (λ w x y z. bit (isCase (caseOf (topologyAt l t w x y z) (topologyAt l u w x y z)) k))

@@ -1,3 +1,4 @@
+pub mod Labels
 pub mod ClaimSums
 pub mod Cases
 pub mod QuartetTable

@@ -3,24 +3,29 @@
 use mathlib.Core.Bool.{Bool}
 use Prim.Native.Nat.{ℕ, _+_, _*_, _-_}
 use Rattle.shapes.specs.Splits.{splitsOf, commonOf, sameSplitsOf, SameSplits}
-use Rattle.tree_check.specs.Table.{Table, tips, nodes, beyond}
+use Rattle.tree_check.specs.Table.{Table, nodes, beyond}
+use Rattle.counting.specs.Labels.{Labels}
 
--- how many splits a tree has: different pairs of tip sets with two tips or more in each, each pair once
-unfoldable pub splits : Table → ℕ
-splits t = splitsOf (tips t) (nodes t - 1) (beyond t)
+-- the label of rank x lies beyond edge i
+unfoldable pub beyondAt : Labels → Table → ℕ → ℕ → Bool
+beyondAt l t i x = beyond t i (l .at x)
+
+-- how many splits a tree has: different pairs of label sets with two labels or more in each, each pair once
+unfoldable pub splits : Labels → Table → ℕ
+splits l t = splitsOf (l .number) (nodes t - 1) (beyondAt l t)
 
 -- how many splits of the first tree the other has too
-unfoldable pub commonSplits : Table → Table → ℕ
-commonSplits t u = commonOf (tips t) (nodes t - 1) (beyond t) (nodes u - 1) (beyond u)
+unfoldable pub commonSplits : Labels → Table → Table → ℕ
+commonSplits l t u = commonOf (l .number) (nodes t - 1) (beyondAt l t) (nodes u - 1) (beyondAt l u)
 
 -- the Robinson-Foulds distance, first + second − 2 · common
-unfoldable pub robinsonFoulds : Table → Table → ℕ
-robinsonFoulds t u = splits t + splits u - 2 * commonSplits t u
+unfoldable pub robinsonFoulds : Labels → Table → Table → ℕ
+robinsonFoulds l t u = splits l t + splits l u - 2 * commonSplits l t u
 
--- for each split of either tree, the other has one with the same tip sets; two trees without a split have the same
-unfoldable pub sameSplits : Table → Table → Bool
-sameSplits t u = sameSplitsOf (tips t) (nodes t - 1) (beyond t) (nodes u - 1) (beyond u)
+-- for each split of either tree, the other has one with the same label sets; two trees without a split have the same
+unfoldable pub sameSplits : Labels → Table → Table → Bool
+sameSplits l t u = sameSplitsOf (l .number) (nodes t - 1) (beyondAt l t) (nodes u - 1) (beyondAt l u)
 
 -- the same in ordinary mathematics
-abbrev pub HaveSameSplits : Table → Table → Type 0
-HaveSameSplits t u = SameSplits (tips t) (nodes t - 1) (beyond t) (nodes u - 1) (beyond u)
+abbrev pub HaveSameSplits : Labels → Table → Table → Type 0
+HaveSameSplits l t u = SameSplits (l .number) (nodes t - 1) (beyondAt l t) (nodes u - 1) (beyondAt l u)

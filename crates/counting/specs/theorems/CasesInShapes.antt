@@ -16,7 +16,8 @@ use Rattle.tree_check.specs.Table.{Table, tips}
 use Rattle.tree_check.specs.IsTree.{IsTree}
 use Rattle.trees.specs.Topology.{butterfly, named, topology}
 use Rattle.trees.specs.theorems.PartnerLaws.{partner-of-smallest}
-use Rattle.counting.specs.Cases.{Case, A, B, caseOf, caseNumber, isCase, quartets}
+use Rattle.counting.specs.Labels.{Labels, Rising}
+use Rattle.counting.specs.Cases.{Case, A, B, caseOf, caseNumber, isCase, topologyAt, quartets}
 use Rattle.counting.specs.theorems.TreeShape.{shapeOf}
 
 -- ---- the case of two topologies whose butterflies are named by three different labels
@@ -52,7 +53,7 @@ module _ (p q r : ℕ) (pq : p ≢ q) (pr : p ≢ r) (qr : q ≢ r) where
 
 -- ---- four labels in rising order
 
-module _ (t : Table) (g : IsTree t) (n : ℕ) (e : tips t ≡ n) (w x y z : ℕ) where
+module _ (t : Table) (w x y z : ℕ) where
   in-order : w < x → x < y → y < z
       → topology t w x y z ≡ named (butterfly t w x y z) (butterfly t w y x z) (butterfly t w z x y) x y z
   unfolding topology
@@ -62,17 +63,22 @@ module _ (t : Table) (g : IsTree t) (n : ℕ) (e : tips t ≡ n) (w x y z : ℕ)
     partner-of-smallest w z x y (omega arith) (omega arith) (omega arith),
   )
 
-  in-shape : topologyIn (shapeOf t g n e) w x y z
-      ≡ firstPassed (butterfly t w x y z) (butterfly t w y x z) (butterfly t w z x y)
+module _ (l : Labels) (t : Table) (g : IsTree t) (r : Rising (tips t) l) (w x y z : ℕ) where
+  in-shape : topologyIn (shapeOf t g l r) w x y z
+      ≡ firstPassed (butterfly t (l .at w) (l .at x) (l .at y) (l .at z)) (butterfly t (l .at w) (l .at y) (l .at x) (l .at z))
+      (butterfly t (l .at w) (l .at z) (l .at x) (l .at y))
   unfolding topologyIn shapeOf butterfly firstPassed
   in-shape = refl
 
-pub quartets-in-shapes : (t u : Table) (g : IsTree t) (h : IsTree u) (e : tips t ≡ tips u) (k : Case)
-    → quartets t u k ≡ casesIn (shapeOf t g (tips t) refl) (shapeOf u h (tips t) (sym e)) (caseNumber k)
-unfolding quartets casesIn isCase
-quartets-in-shapes t u g h e k = sets4-ext (tips t) _ _ (λ w x y z wx xy yz l.
+pub quartets-in-shapes : (l : Labels) (t u : Table) (g : IsTree t) (h : IsTree u) (r : Rising (tips t) l) (s : Rising (tips u) l)
+    (k : Case) → quartets l t u k ≡ casesIn (shapeOf t g l r) (shapeOf u h l s) (caseNumber k)
+unfolding quartets topologyAt casesIn isCase
+quartets-in-shapes l t u g h r s k = sets4-ext (l .number) _ _ (λ w x y z wx xy yz m.
+    let lwx = r .rises w x wx (omega arith) in
+    let lxy = r .rises x y xy (omega arith) in
+    let lyz = r .rises y z yz m in
     ap (λ (c : ℕ). bit (eqb c (caseNumber k))) (
     ap₂ (λ (a b : Topology). caseNumber (caseOf a b))
-    (in-order t g (tips t) refl w x y z wx xy yz) (in-order u h (tips t) (sym e) w x y z wx xy yz)
-    ∙ case-named x y z (omega arith) (omega arith) (omega arith) _ _ _ _ _ _
-    ∙ sym (ap₂ caseIn (in-shape t g (tips t) refl w x y z) (in-shape u h (tips t) (sym e) w x y z))))
+    (in-order t (l .at w) (l .at x) (l .at y) (l .at z) lwx lxy lyz) (in-order u (l .at w) (l .at x) (l .at y) (l .at z) lwx lxy lyz)
+    ∙ case-named (l .at x) (l .at y) (l .at z) (omega arith) (omega arith) (omega arith) _ _ _ _ _ _
+    ∙ sym (ap₂ caseIn (in-shape l t g r w x y z) (in-shape l u h s w x y z))))

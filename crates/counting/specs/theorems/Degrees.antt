@@ -16,11 +16,13 @@ use Rattle.tree_check.specs.Table.{Table, tips, nodes, parent, nodeOf, beyond}
 use Rattle.tree_check.specs.IsTree.{IsTree}
 use Rattle.tree_check.specs.theorems.RootedTables.{rooted}
 use Rattle.walks.specs.theorems.NodeLabels.{node-at}
+use Rattle.counting.specs.Labels.{Labels, all, Rising}
 use Rattle.counting.specs.ClaimSums.{codes, behindEdge, size}
+use Rattle.counting.specs.theorems.LabelLaws.{all-rising}
 use Rattle.counting.specs.theorems.TreeSplits.{labelled, zero-here}
 
 module _ (t : Table) (g : IsTree t) where
-  some-behind : (c : ℕ) → c < codes t → (x : ℕ) × (x < tips t) × (bit (behindEdge t c x) ≡ 1)
+  some-behind : (c : ℕ) → c < codes t → (x : ℕ) × (x < tips t) × (bit (behindEdge (all (tips t)) t c x) ≡ 1)
   unfolding codes behindEdge beyond
   some-behind c l = go (code-cases c)
     where
@@ -44,29 +46,29 @@ module _ (t : Table) (g : IsTree t) where
                 ∙ omega (arith, z, bit-not (beyond t (suc (c / 2)) 0)),
           )
 
-  size-some : (c : ℕ) → c < codes t → 1 ≤ size t c
+  size-some : (c : ℕ) → c < codes t → 1 ≤ size (all (tips t)) t c
   unfolding size
   size-some c l =
-      let r = some-behind c l in omega (arith, r .2, sum-ge (tips t) (λ x. bit (behindEdge t c x)) (r .0) (r .1))
+      let r = some-behind c l in omega (arith, r .2, sum-ge (tips t) (λ x. bit (behindEdge (all (tips t)) t c x)) (r .0) (r .1))
 
-  -- the sizes of the sets behind the codes into a node add up to n at most, ..
-  pub sizes-most : (v d : ℕ) (c : ℕ → ℕ) → v < nodes t → Lists (codes t) (head (parent t)) v d c
-      → sum d (λ i. size t (c i)) ≤ tips t
+  -- the sizes of the sets behind the codes into a node add up to the number of labels at most, ..
+  pub sizes-most : (l : Labels) → Rising (tips t) l → (v d : ℕ) (c : ℕ → ℕ) → v < nodes t
+      → Lists (codes t) (head (parent t)) v d c → sum d (λ i. size l t (c i)) ≤ l .number
   unfolding size codes behindEdge
-  sizes-most v d c l z = omega (
+  sizes-most l r v d c m z = omega (
     arith,
-    sum-swap d (tips t) (λ i x. bit (behindEdge t (c i) x)),
-    sum-mono (tips t) (λ x. sum d (λ i. bit (behindEdge t (c i) x))) (λ x. 1) (λ x lx.
-        listed-behind-one (parent t) (rooted t g) (nodes t - 1) v (nodeOf t x) d c (omega arith)
-        (let a = node-at t g x lx .0 in omega arith) z),
-    sum-const (tips t) 1,
+    sum-swap d (l .number) (λ i x. bit (behindEdge l t (c i) x)),
+    sum-mono (l .number) (λ x. sum d (λ i. bit (behindEdge l t (c i) x))) (λ x. 1) (λ x lx.
+        listed-behind-one (parent t) (rooted t g) (nodes t - 1) v (nodeOf t (l .at x)) d c (omega arith)
+        (let a = node-at t g (l .at x) (r .inside x lx) .0 in omega arith) z),
+    sum-const (l .number) 1,
   )
 
-  -- .. and so there are at most n codes
+  -- .. and so, of all labels, there are at most n codes
   pub degree-most : (v d : ℕ) (c : ℕ → ℕ) → v < nodes t → Lists (codes t) (head (parent t)) v d c → d ≤ tips t
   degree-most v d c l z = omega (
     arith,
-    sizes-most v d c l z,
-    sum-mono d (λ i. 1) (λ i. size t (c i)) (λ i m. size-some (c i) (z .inside i m)),
+    sizes-most (all (tips t)) (all-rising (tips t)) v d c l z,
+    sum-mono d (λ i. 1) (λ i. size (all (tips t)) t (c i)) (λ i m. size-some (c i) (z .inside i m)),
     sum-const d 1,
   )

@@ -19,7 +19,8 @@ use Rattle.shapes.specs.theorems.RobinsonFoulds.{new-where-distinct}
 use Rattle.tree_check.specs.Table.{Table, tips, nodes, parent, nodeOf, beyond}
 use Rattle.tree_check.specs.IsTree.{IsTree, Child}
 use Rattle.tree_check.specs.theorems.RootedTables.{rooted}
-use Rattle.counting.specs.SplitCounts.{splits, commonSplits}
+use Rattle.counting.specs.Labels.{all}
+use Rattle.counting.specs.SplitCounts.{beyondAt, splits, commonSplits}
 use Rattle.counting.specs.PassThrough.{NoPassThrough}
 use Rattle.counting.specs.theorems.TreeSplits.{child-above, labelled, zero-here}
 use Rattle.counting.specs.theorems.PassThroughNodes.{another-child}
@@ -85,13 +86,13 @@ module _ (t : Table) (g : IsTree t) (none : NoPassThrough t) where
   new-edge = new-where-distinct (tips t) (nodes t - 1) (beyond t) tree-distinct
 
   -- the splits are the edges with two tips or more on each side
-  pub splits-are-edges : splits t ≡ count (nodes t - 1) (λ i. isSplit (tips t) (beyond t) (suc i))
-  unfolding splits splitsOf
+  pub splits-are-edges : splits (all (tips t)) t ≡ count (nodes t - 1) (λ i. isSplit (tips t) (beyond t) (suc i))
+  unfolding splits splitsOf beyondAt
   splits-are-edges = sum-ext (nodes t - 1) _ _ (λ i l. ap bit (new-edge i l))
 
   -- .. and the common ones those whose two tip sets the other tree has too
-  pub common-are-edges : (u : Table) → commonSplits t u
+  pub common-are-edges : (u : Table) → commonSplits (all (tips t)) t u
       ≡ count (nodes t - 1) (λ i. isSplit (tips t) (beyond t) (suc i) && occurs (tips t) (beyond t) (nodes u - 1) (beyond u) (suc i))
-  unfolding commonSplits commonOf
+  unfolding commonSplits commonOf beyondAt
   common-are-edges u = sum-ext (nodes t - 1) _ _
       (λ i l. ap (λ (b : Bool). bit (b && occurs (tips t) (beyond t) (nodes u - 1) (beyond u) (suc i))) (new-edge i l))

@@ -22,7 +22,8 @@ use Rattle.tree_check.specs.Table.{Table, tips, nodes, parent, label, nodeOf, b
 use Rattle.tree_check.specs.IsTree.{IsTree, Child}
 use Rattle.tree_check.specs.theorems.RootedTables.{rooted}
 use Rattle.walks.specs.theorems.NodeLabels.{node-at, node-only}
-use Rattle.counting.specs.SplitCounts.{HaveSameSplits}
+use Rattle.counting.specs.Labels.{all}
+use Rattle.counting.specs.SplitCounts.{beyondAt, HaveSameSplits}
 use Rattle.counting.specs.LabelsAlone.{LabelsAlone}
 use Rattle.counting.specs.PassThrough.{PassThrough, NextAbove, TakenOut}
 use Rattle.counting.specs.theorems.TipLabels.{labels-alone}
@@ -187,7 +188,8 @@ module _ (t u : Table) (g : IsTree t) (h : IsTree u) (m : TakenOut t u) where
       let sides : SameSides (tips t) (beyond u) (beyond t) i (m .node i) = same (λ x lx. sym (same-beyond i l x lx)) in
       (m .node i, split-moves (no-root i (s .above) l) (omega arith) s sides, sides)
 
-  pub taken-out-same-splits : HaveSameSplits t u
+  pub taken-out-same-splits : HaveSameSplits (all (tips t)) t u
+  unfolding beyondAt
   taken-out-same-splits = record { there = there; back = back }
 
   -- the same topologies, and against any third table the same claim sums, five counts, splits and triplets

@@ -18,20 +18,22 @@ use Rattle.shapes.specs.Splits.{isSplit, sameSides, occurs, isNewSplit, splitsO
 use Rattle.tree_check.specs.Table.{Table, tips, nodes, parents, labels, parent, label, nodeBelow, nodeOf, beyond}
 use Rattle.trees.specs.Topology.{butterfly, partner, named, topology}
 use Rattle.walks.specs.theorems.WalkExamples.{X, P, Q, R, W, TwoTips, ThreeTips}
+use Rattle.counting.specs.Labels.{all}
 use Rattle.counting.specs.ClaimSums.{codes, behindEdge, size, crossing, S, S2, S3}
-use Rattle.counting.specs.Cases.{A, B, C, D, E, caseOf, caseNumber, isCase, quartets}
+use Rattle.counting.specs.Cases.{A, B, C, D, E, caseOf, caseNumber, isCase, topologyAt, quartets}
 use Rattle.counting.specs.QuartetTable.{formulaA, formulaB, formulaC, formulaE, formulaDistance, formulaD}
-use Rattle.counting.specs.SplitCounts.{splits, commonSplits, robinsonFoulds, sameSplits}
+use Rattle.counting.specs.SplitCounts.{beyondAt, splits, commonSplits, robinsonFoulds, sameSplits}
 use Rattle.counting.specs.Triplets.{together, triplet, triplets}
 
 -- one line of the reference table: S S′ S2 S3, A B C D E, distance, splits of the first, of the second, common,
 -- Robinson-Foulds distance, A B C D E of the triplets
 unfoldable pub figures : Table → Table → List ℕ
 figures t u =
-    S t ∷ S u ∷ S2 t u ∷ S3 t u
-    ∷ quartets t u A ∷ quartets t u B ∷ quartets t u C ∷ quartets t u D ∷ quartets t u E
-    ∷ (quartets t u B + quartets t u C + quartets t u D)
-    ∷ splits t ∷ splits u ∷ commonSplits t u ∷ robinsonFoulds t u
+    let l = all (tips t) in
+    S l t ∷ S l u ∷ S2 l t u ∷ S3 l t u
+    ∷ quartets l t u A ∷ quartets l t u B ∷ quartets l t u C ∷ quartets l t u D ∷ quartets l t u E
+    ∷ (quartets l t u B + quartets l t u C + quartets l t u D)
+    ∷ splits l t ∷ splits l u ∷ commonSplits l t u ∷ robinsonFoulds l t u
     ∷ triplets t u A ∷ triplets t u B ∷ triplets t u C ∷ triplets t u D ∷ triplets t u E ∷ []
 
 -- K1 to K9
@@ -48,8 +50,8 @@ pub reference-pairs :
     ∷ (0 ∷ 0 ∷ 0 ∷ 0 ∷ 0 ∷ 0 ∷ 0 ∷ 0 ∷ 0 ∷ 0 ∷ 0 ∷ 0 ∷ 0 ∷ 0 ∷ 0 ∷ 0 ∷ 0 ∷ 0 ∷ 0 ∷ [])
     ∷ (0 ∷ 0 ∷ 0 ∷ 0 ∷ 0 ∷ 0 ∷ 0 ∷ 0 ∷ 0 ∷ 0 ∷ 0 ∷ 0 ∷ 0 ∷ 0 ∷ 0 ∷ 0 ∷ 0 ∷ 0 ∷ 0 ∷ []) ∷ []
 unfolding
-    figures S S2 S3 codes behindEdge size crossing sumClaims sumClaimsOf sumIf meet choose2 quartets isCase caseNumber
-    caseOf splits commonSplits robinsonFoulds splitsOf commonOf isNewSplit isSplit sameSides occurs
+    figures S S2 S3 codes behindEdge size crossing sumClaims sumClaimsOf sumIf meet choose2 quartets topologyAt isCase caseNumber
+    caseOf beyondAt splits commonSplits robinsonFoulds splitsOf commonOf isNewSplit isSplit sameSides occurs
     triplets triplet together resolved lowest lastBelow
     topology named partner butterfly parts parted sets2 sets3 sets4 sum bit some every
     ancIn anc edge rising head behind tips nodes parents labels parent label nodeBelow nodeOf beyond
@@ -77,9 +79,9 @@ P' = 5 ∷ 8 ∷ 0 ∷ 0 ∷ 1 ∷ 1 ∷ 2 ∷ 2 ∷ 5 ∷ 5 ∷ 0 ∷ X ∷ X �
 
 -- the same splits are a matter of tip sets alone: P and R have the same parent words, P and P' have not
 pub reference-same-splits :
-    sameSplits P Q ∷ sameSplits P R ∷ sameSplits P W ∷ sameSplits P P ∷ sameSplits P P' ∷ sameSplits W W ∷ []
+    sameSplits (all 5) P Q ∷ sameSplits (all 5) P R ∷ sameSplits (all 5) P W ∷ sameSplits (all 5) P P ∷ sameSplits (all 5) P P' ∷ sameSplits (all 5) W W ∷ []
     ≡ false ∷ false ∷ false ∷ true ∷ true ∷ true ∷ []
 unfolding
-    sameSplits sameSplitsOf allOccur isSplit sameSides occurs sum bit some every ancIn anc
+    beyondAt sameSplits sameSplitsOf allOccur isSplit sameSides occurs sum bit some every ancIn anc
     tips nodes parents labels parent label nodeBelow nodeOf beyond
 reference-same-splits = refl

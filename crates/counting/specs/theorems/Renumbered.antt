@@ -15,7 +15,8 @@ use Rattle.tree_check.specs.Table.{Table, tips, nodes, parent, label, nodeOf, b
 use Rattle.tree_check.specs.IsTree.{IsTree}
 use Rattle.tree_check.specs.theorems.RootedTables.{rooted}
 use Rattle.walks.specs.theorems.NodeLabels.{node-at, node-only}
-use Rattle.counting.specs.SplitCounts.{HaveSameSplits}
+use Rattle.counting.specs.Labels.{all}
+use Rattle.counting.specs.SplitCounts.{beyondAt, HaveSameSplits}
 use Rattle.counting.specs.LabelsAlone.{LabelsAlone}
 use Rattle.counting.specs.theorems.TipLabels.{labels-alone}
 
@@ -119,7 +120,8 @@ module _ (t t' : Table) (g : IsTree t) (g' : IsTree t') (m : Renumbered t t') wh
       let h = same-sides i l in
       (m .to i, split-moves (no-root i (s .above) l) (omega arith) s h, h)
 
-pub renumbered-same-splits : (t t' : Table) → IsTree t → IsTree t' → Renumbered t t' → HaveSameSplits t t'
+pub renumbered-same-splits : (t t' : Table) → IsTree t → IsTree t' → Renumbered t t' → HaveSameSplits (all (tips t)) t t'
+unfolding beyondAt
 renumbered-same-splits t t' g g' m = record {
   there = splits-occur t t' g g' m;
   back = rw (m .same-tips) (splits-occur t' t g' g (numbered-back t t' g m));

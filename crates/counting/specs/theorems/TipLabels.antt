@@ -21,14 +21,16 @@ use Rattle.trees.specs.LabelOrder.{askedOrder, labelOrder}
 use Rattle.trees.specs.theorems.LabelOrderLaws.{AllBelow, Different, label-check}
 use Rattle.walks.specs.theorems.WalkOrderLaws.{tree-accepted}
 use Rattle.trees.specs.Topology.{butterfly, topology, topologyAnswer}
-use Rattle.counting.specs.Cases.{Case, A, B, C, D, caseOf, isCase, quartets}
-use Rattle.counting.specs.SplitCounts.{commonSplits, robinsonFoulds, HaveSameSplits}
+use Rattle.counting.specs.Labels.{Labels, all, Rising}
+use Rattle.counting.specs.Cases.{Case, A, B, C, D, caseOf, isCase, topologyAt, quartets}
+use Rattle.counting.specs.SplitCounts.{beyondAt, commonSplits, robinsonFoulds, HaveSameSplits}
 use Rattle.counting.specs.Triplets.{triplets}
+use Rattle.counting.specs.theorems.LabelLaws.{all-rising, rising-of, at-four}
 use Rattle.counting.specs.theorems.TreeShape.{shapeOf}
 use Rattle.counting.specs.theorems.CountingTheorem.{ClaimCounts, claim-counts}
 use Rattle.counting.specs.theorems.TreeSplits.{common-from-either, same-splits-as-many, same-splits-in-common}
 use Rattle.counting.specs.theorems.TripletTheorem.{holdsTip0, quartetsWithTip0, triplets-are-quartets}
-use Rattle.counting.specs.LabelsAlone.{SameFigures, LabelsAlone}
+use Rattle.counting.specs.LabelsAlone.{SameFigures, AloneAt, LabelsAlone}
 
 -- ---- topologies
 
@@ -53,18 +55,33 @@ asked-four n a b c d l m = record {
   cd = m 3 2 (omega arith) (omega arith);
 }
 
-module _ (t t' : Table) (g : IsTree t) (g' : IsTree t') (e : tips t ≡ tips t') (s : HaveSameSplits t t') where
-  same-butterflies : (a b c d : ℕ) → Four (tips t) a b c d → butterfly t a b c d ≡ butterfly t' a b c d
-  unfolding butterfly beyond shapeOf
-  same-butterflies = same-fours-iff (shapeOf t g (tips t) refl) (shapeOf t' g' (tips t) (sym e)) .1 s
+-- two tables with the same splits among the labels l
+module _ (l : Labels) (t t' : Table) (g : IsTree t) (g' : IsTree t') (e : tips t ≡ tips t') (r : Rising (tips t) l)
+    (s : HaveSameSplits l t t') where
+  same-butterflies : (a b c d : ℕ) → Four (l .number) a b c d
+      → butterfly t (l .at a) (l .at b) (l .at c) (l .at d) ≡ butterfly t' (l .at a) (l .at b) (l .at c) (l .at d)
+  unfolding butterfly beyond beyondAt shapeOf
+  same-butterflies = same-fours-iff (shapeOf t g l r) (shapeOf t' g' l (rising-of (tips t) (tips t') l e r)) .1 s
 
-  same-topologies : (a b c d : ℕ) → Four (tips t) a b c d → topology t a b c d ≡ topology t' a b c d
-  unfolding topology
+  same-topologies : (a b c d : ℕ) → Four (l .number) a b c d → topologyAt l t a b c d ≡ topologyAt l t' a b c d
+  unfolding topology topologyAt
   same-topologies a b c d f = rw (
     same-butterflies a b c d f,
     same-butterflies a c b d (search Ne·symm),
     same-butterflies a d b c (search Ne·symm),
   )
+
+-- .. among all labels
+module _ (t t' : Table) (g : IsTree t) (g' : IsTree t') (e : tips t ≡ tips t') (s : HaveSameSplits (all (tips t)) t t') where
+  whole-topologies : (a b c d : ℕ) → Four (tips t) a b c d → topology t a b c d ≡ topology t' a b c d
+  unfolding topologyAt
+  whole-topologies = same-topologies (all (tips t)) t t' g g' e (all-rising (tips t)) s
+
+  -- have them among any
+  same-among : (l : Labels) → Rising (tips t) l → HaveSameSplits l t t'
+  unfolding butterfly beyond beyondAt shapeOf
+  same-among l r = same-fours-iff (shapeOf t g l r) (shapeOf t' g' l (rising-of (tips t) (tips t') l e r)) .0 (λ a b c d f.
+      same-butterflies (all (tips t)) t t' g g' e (all-rising (tips t)) s _ _ _ _ (at-four (tips t) l r a b c d f))
 
   -- 10 and 11 are told of n and the labels
   same-number : (xs : List ℕ) → refusal (labelOrder t xs) ≡ refusal (labelOrder t' xs)
@@ -79,45 +96,34 @@ module _ (t t' : Table) (g : IsTree t) (g' : IsTree t') (e : tips t ≡ tips t')
       let told : ℕ → Topology → TopologyAnswer = λ k x. record { refusal = k; topology = x } in
       ap (told (refusal (labelOrder t xs)))
       (same-if-accepted (refusal (labelOrder t xs)) (topology t a b c d) (topology t' a b c d) Star (λ z.
-      let r = label-check t xs .0 z in same-topologies a b c d (asked-four (tips t) a b c d (r .1) (r .2))))
+      let r = label-check t xs .0 z in whole-topologies a b c d (asked-four (tips t) a b c d (r .1) (r .2))))
       ∙ ap (λ (k : ℕ). told k (ifAccepted k (topology t' a b c d) Star)) (same-number xs)
 
 -- ---- figures
 
 -- two pairs of tables with the same splits, the first of each and the second of each
-module _ (t u t' u' : Table) (g : IsTree t) (h : IsTree u) (g' : IsTree t') (h' : IsTree u')
-    (e : tips t ≡ tips u) (et : tips t ≡ tips t') (eu : tips u ≡ tips u')
-    (s : HaveSameSplits t t') (r : HaveSameSplits u u') where
-  same-counts : (k : Case) → quartets t u k ≡ quartets t' u' k
+module _ (l : Labels) (t u t' u' : Table) (g : IsTree t) (h : IsTree u) (g' : IsTree t') (h' : IsTree u')
+    (e : tips t ≡ tips u) (et : tips t ≡ tips t') (eu : tips u ≡ tips u') (rt : Rising (tips t) l)
+    (s : HaveSameSplits l t t') (r : HaveSameSplits l u u') where
+  ru : Rising (tips u) l
+  ru = rising-of (tips t) (tips u) l e rt
+
+  same-counts : (k : Case) → quartets l t u k ≡ quartets l t' u' k
   unfolding quartets
   same-counts k =
-      sets4-ext (tips t) _ _ (λ w x y z wx xy yz l.
+      sets4-ext (l .number) _ _ (λ w x y z wx xy yz m.
       ap₂ (λ (p q : Topology). bit (isCase (caseOf p q) k))
-      (same-topologies t t' g g' et s w x y z (omega arith))
-      (same-topologies u u' h h' eu r w x y z (omega arith)))
-      ∙ ap (λ (n : ℕ). sets4 n (λ w x y z. bit (isCase (caseOf (topology t' w x y z) (topology u' w x y z)) k))) et
+      (same-topologies l t t' g g' et rt s w x y z (omega arith))
+      (same-topologies l u u' h h' eu ru r w x y z (omega arith)))
 
-  same-common : commonSplits t u ≡ commonSplits t' u'
+  same-common : commonSplits l t u ≡ commonSplits l t' u'
   same-common =
-      same-splits-in-common t u u' e r
-      ∙ common-from-either t u' (omega arith)
-      ∙ same-splits-in-common u' t t' (omega arith) s
-      ∙ common-from-either u' t' (omega arith)
+      same-splits-in-common l t u u' r
+      ∙ common-from-either l t u'
+      ∙ same-splits-in-common l u' t t' s
+      ∙ common-from-either l u' t'
 
-  -- a triplet is the topology of its labels with tip 0
-  same-triplets : (k : Case) → triplets t u k ≡ triplets t' u' k
-  unfolding quartetsWithTip0
-  same-triplets k =
-      triplets-are-quartets t u g h e k
-      ∙ sets4-ext (tips t) _ _ (λ w x y z wx xy yz l.
-      ap₂ (λ (p q : Topology). holdsTip0 w x y z * bit (isCase (caseOf p q) k))
-      (same-topologies t t' g g' et s w x y z (omega arith))
-      (same-topologies u u' h h' eu r w x y z (omega arith)))
-      ∙ ap (λ (n : ℕ). sets4 n (λ w x y z.
-      holdsTip0 w x y z * bit (isCase (caseOf (topology t' w x y z) (topology u' w x y z)) k))) et
-      ∙ sym (triplets-are-quartets t' u' g' h' (omega arith) k)
-
-  pub same-figures : SameFigures t u t' u'
+  pub same-figures : SameFigures l t u t' u'
   same-figures = record {
     first = omega (arith, c .first, c' .first, a, b, same-counts C);
     second = omega (arith, c .second, c' .second, a, b, same-counts D);
@@ -125,29 +131,55 @@ module _ (t u t' u' : Table) (g : IsTree t) (h : IsTree u) (g' : IsTree t') (h' 
     different = omega (arith, c .different, c' .different, b);
     counts = same-counts;
     distance = omega (arith, b, same-counts C, same-counts D);
-    first-splits = same-splits-as-many t t' et s;
-    second-splits = same-splits-as-many u u' eu r;
+    first-splits = same-splits-as-many l t t' s;
+    second-splits = same-splits-as-many l u u' r;
     common = same-common;
     robinson-foulds = unfold robinsonFoulds in
-        rw (same-splits-as-many t t' et s, same-splits-as-many u u' eu r, same-common);
-    triplet-counts = same-triplets;
+        rw (same-splits-as-many l t t' s, same-splits-as-many l u u' r, same-common);
   }
     where
-      c : ClaimCounts t u
-      c = claim-counts t u g h e
+      c : ClaimCounts l t u
+      c = claim-counts l t u g h e rt
 
-      c' : ClaimCounts t' u'
-      c' = claim-counts t' u' g' h' (omega arith)
+      c' : ClaimCounts l t' u'
+      c' = claim-counts l t' u' g' h' (omega arith) (rising-of (tips t) (tips t') l et rt)
 
-      a : quartets t u A ≡ quartets t' u' A
+      a : quartets l t u A ≡ quartets l t' u' A
       a = same-counts A
 
-      b : quartets t u B ≡ quartets t' u' B
+      b : quartets l t u B ≡ quartets l t' u' B
       b = same-counts B
 
-pub labels-alone : (t t' : Table) → IsTree t → IsTree t' → tips t ≡ tips t' → HaveSameSplits t t' → LabelsAlone t t'
+-- a triplet is the topology of its labels with tip 0
+module _ (t u t' u' : Table) (g : IsTree t) (h : IsTree u) (g' : IsTree t') (h' : IsTree u')
+    (e : tips t ≡ tips u) (et : tips t ≡ tips t') (eu : tips u ≡ tips u')
+    (s : HaveSameSplits (all (tips t)) t t') (r : HaveSameSplits (all (tips u)) u u') where
+  same-triplets : (k : Case) → triplets t u k ≡ triplets t' u' k
+  unfolding quartetsWithTip0
+  same-triplets k =
+      triplets-are-quartets t u g h e k
+      ∙ sets4-ext (tips t) _ _ (λ w x y z wx xy yz l.
+      ap₂ (λ (p q : Topology). holdsTip0 w x y z * bit (isCase (caseOf p q) k))
+      (whole-topologies t t' g g' et s w x y z (omega arith))
+      (whole-topologies u u' h h' eu r w x y z (omega arith)))
+      ∙ ap (λ (n : ℕ). sets4 n (λ w x y z.
+      holdsTip0 w x y z * bit (isCase (caseOf (topology t' w x y z) (topology u' w x y z)) k))) et
+      ∙ sym (triplets-are-quartets t' u' g' h' (omega arith) k)
+
+-- the same splits among the labels l are enough for what is counted of them, ..
+pub alone-at : (l : Labels) (t t' : Table) → IsTree t → IsTree t' → tips t ≡ tips t' → Rising (tips t) l → HaveSameSplits l t t'
+    → AloneAt l t t'
+alone-at l t t' g g' e r s = record {
+  topologies = same-topologies l t t' g g' e r s;
+  as-first = λ u h q. same-figures l t u t' u g h g' h q e refl r s (same-splits-refl _ _ _);
+  as-second = λ u h q. same-figures l u t u t' h g h g' q refl e (rising-of (tips t) (tips u) l (sym q) r) (same-splits-refl _ _ _) s;
+}
+
+-- .. and among all labels for everything
+pub labels-alone : (t t' : Table) → IsTree t → IsTree t' → tips t ≡ tips t' → HaveSameSplits (all (tips t)) t t' → LabelsAlone t t'
 labels-alone t t' g g' e s = record {
-  topologies = same-answers t t' g g' e s;
-  as-first = λ u h q. same-figures t u t' u g h g' h q e refl s (same-splits-refl _ _ _);
-  as-second = λ u h q. same-figures u t u t' h g h g' q refl e (same-splits-refl _ _ _) s;
+  answers = same-answers t t' g g' e s;
+  figures = λ l r. alone-at l t t' g g' e r (same-among t t' g g' e s l r);
+  triplets-first = λ u h q. same-triplets t u t' u g h g' h q e refl s (same-splits-refl _ _ _);
+  triplets-second = λ u h q. same-triplets u t u t' h g h g' q refl e (same-splits-refl _ _ _) s;
 }

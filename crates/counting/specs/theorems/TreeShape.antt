@@ -12,6 +12,8 @@ use Rattle.tree_check.specs.Table.{Table, tips, nodes, parent, label, nodeOf}
 use Rattle.tree_check.specs.IsTree.{IsTree, Child}
 use Rattle.tree_check.specs.theorems.RootedTables.{rooted}
 use Rattle.walks.specs.theorems.NodeLabels.{node-at}
+use Rattle.counting.specs.Labels.{Labels, Rising}
+use Rattle.counting.specs.theorems.LabelLaws.{at-apart}
 
 module _ (t : Table) (g : IsTree t) where
   -- a tip has a child only if it is node 0, and then the child is node 1
@@ -43,15 +45,16 @@ module _ (t : Table) (g : IsTree t) where
       go (inr a) (inl b) = omega arith
       go (inr a) (inr b) = omega arith
 
-  -- the shape over n labels, n being the table's tips
-  unfoldable pub shapeOf : (n : ℕ) → tips t ≡ n → Shape n
-  shapeOf n e = record {
+  -- the shape over the labels that are counted
+  unfoldable pub shapeOf : (l : Labels) → Rising (tips t) l → Shape (l .number)
+  shapeOf l r = record {
     up = parent t;
     tree = rooted t g;
     edges = nodes t - 1;
-    node = nodeOf t;
-    node-le = λ x l. omega (arith, node-at t g x (omega arith) .0);
-    node-ne = λ x y lx ly d q. d (
-        sym (node-at t g x (omega arith) .1) ∙ ap (label t) q ∙ node-at t g y (omega arith) .1);
-    leaf = λ x l. let r = node-at t g x (omega arith) in tip-leaf (nodeOf t x) (omega (arith, r .1));
+    node = λ x. nodeOf t (l .at x);
+    node-le = λ x m. omega (arith, node-at t g (l .at x) (r .inside x m) .0);
+    node-ne = λ x y lx ly d q. at-apart (tips t) l r x y lx ly d (
+        sym (node-at t g (l .at x) (r .inside x lx) .1) ∙ ap (label t) q ∙ node-at t g (l .at y) (r .inside y ly) .1);
+    leaf = λ x m. let a = node-at t g (l .at x) (r .inside x m) in
+        tip-leaf (nodeOf t (l .at x)) (omega (arith, a .1, r .inside x m));
   }

@@ -22,7 +22,8 @@ use Rattle.tree_check.specs.Table.{Table, tips, nodes, parent, label, nodeOf, b
 use Rattle.tree_check.specs.IsTree.{IsTree, Child}
 use Rattle.tree_check.specs.theorems.RootedTables.{rooted}
 use Rattle.walks.specs.theorems.NodeLabels.{node-only}
-use Rattle.counting.specs.SplitCounts.{splits, commonSplits, robinsonFoulds, sameSplits, HaveSameSplits}
+use Rattle.counting.specs.Labels.{Labels}
+use Rattle.counting.specs.SplitCounts.{beyondAt, splits, commonSplits, robinsonFoulds, sameSplits, HaveSameSplits}
 
 module _ (t : Table) (g : IsTree t) where
   pub child-above : (i j : ℕ) → Child t i j → bit (anc (parent t) i j) ≡ 1
@@ -58,44 +59,34 @@ module _ (t : Table) (g : IsTree t) where
 
 -- ---- the four split counts of two tables
 
-module _ (t u : Table) (e : tips t ≡ tips u) where
+module _ (l : Labels) (t u : Table) where
   -- the common splits are as many counted from either tree
-  pub common-from-either : commonSplits t u ≡ commonSplits u t
+  pub common-from-either : commonSplits l t u ≡ commonSplits l u t
   unfolding commonSplits
-  common-from-either =
-      common-turned (tips t) (nodes t - 1) (beyond t) (nodes u - 1) (beyond u)
-      ∙ ap (λ (n : ℕ). commonOf n (nodes u - 1) (beyond u) (nodes t - 1) (beyond t)) e
-
-  second-splits : splits u ≡ splitsOf (tips t) (nodes u - 1) (beyond u)
-  unfolding splits
-  second-splits = ap (λ (n : ℕ). splitsOf n (nodes u - 1) (beyond u)) (sym e)
+  common-from-either = common-turned (l .number) (nodes t - 1) (beyondAt l t) (nodes u - 1) (beyondAt l u)
 
   -- no more is taken off than is there
-  pub robinson-foulds-fits : 2 * commonSplits t u ≤ splits t + splits u
+  pub robinson-foulds-fits : 2 * commonSplits l t u ≤ splits l t + splits l u
   unfolding commonSplits splits
-  robinson-foulds-fits = rw second-splits (rf.robinson-foulds-fits
-      (tips t) (nodes t - 1) (beyond t) (nodes u - 1) (beyond u))
+  robinson-foulds-fits = rf.robinson-foulds-fits (l .number) (nodes t - 1) (beyondAt l t) (nodes u - 1) (beyondAt l u)
 
   -- the Robinson-Foulds distance is 0 exactly if the splits are the same
-  pub robinson-foulds-zero : (robinsonFoulds t u ≡ 0) ↔ HaveSameSplits t u
+  pub robinson-foulds-zero : (robinsonFoulds l t u ≡ 0) ↔ HaveSameSplits l t u
   unfolding robinsonFoulds robinsonFouldsOf commonSplits splits
-  robinson-foulds-zero = rw second-splits (rf.robinson-foulds-zero
-      (tips t) (nodes t - 1) (beyond t) (nodes u - 1) (beyond u))
+  robinson-foulds-zero = rf.robinson-foulds-zero (l .number) (nodes t - 1) (beyondAt l t) (nodes u - 1) (beyondAt l u)
 
   -- two trees with the same splits have as many
-  pub same-splits-as-many : HaveSameSplits t u → splits t ≡ splits u
+  pub same-splits-as-many : HaveSameSplits l t u → splits l t ≡ splits l u
   unfolding splits
-  same-splits-as-many s = rw second-splits (ss.same-splits-as-many
-      (tips t) (nodes t - 1) (beyond t) (nodes u - 1) (beyond u) s)
+  same-splits-as-many s = ss.same-splits-as-many (l .number) (nodes t - 1) (beyondAt l t) (nodes u - 1) (beyondAt l u) s
+
+  -- the same splits, as a test
+  pub same-splits-test : T (sameSplits l t u) ↔ HaveSameSplits l t u
+  unfolding sameSplits
+  same-splits-test = same-splits-iff (l .number) (nodes t - 1) (beyondAt l t) (nodes u - 1) (beyondAt l u)
 
 -- .. and as many in common with any tree
-pub same-splits-in-common : (t u v : Table) → tips t ≡ tips u → HaveSameSplits u v
-    → commonSplits t u ≡ commonSplits t v
+pub same-splits-in-common : (l : Labels) (t u v : Table) → HaveSameSplits l u v → commonSplits l t u ≡ commonSplits l t v
 unfolding commonSplits
-same-splits-in-common t u v e s = ss.same-splits-in-common
-    (tips t) (nodes t - 1) (beyond t) (nodes u - 1) (beyond u) (nodes v - 1) (beyond v) (rw e s)
-
--- the same splits, as a test
-pub same-splits-test : (t u : Table) → T (sameSplits t u) ↔ HaveSameSplits t u
-unfolding sameSplits
-same-splits-test t u = same-splits-iff (tips t) (nodes t - 1) (beyond t) (nodes u - 1) (beyond u)
+same-splits-in-common l t u v s = ss.same-splits-in-common
+    (l .number) (nodes t - 1) (beyondAt l t) (nodes u - 1) (beyondAt l u) (nodes v - 1) (beyondAt l v) s

@@ -21,16 +21,18 @@ use Rattle.walks.specs.theorems.NodeLabels.{node-only}
 use Rattle.trees.specs.Topology.{butterfly, topology}
 use Rattle.trees.specs.theorems.PartnerLaws.{partner-of-smallest}
 use Rattle.trees.specs.theorems.TopologyLaws.{any-order, as-is, middle, last-two}
+use Rattle.counting.specs.Labels.{all}
 use Rattle.counting.specs.Cases.{Case, A, B, C, D, E, caseOf, caseNumber, isCase}
 use Rattle.counting.specs.Triplets.{together, triplet, triplets}
 use Rattle.counting.specs.theorems.CasesInShapes.{case-named}
+use Rattle.counting.specs.theorems.LabelLaws.{all-of}
 use Rattle.counting.specs.theorems.TreeShape.{shapeOf}
 
 -- ---- one table
 
 module _ (t : Table) (g : IsTree t) (n : ℕ) (e : tips t ≡ n) where
   -- tip 0 is at node 0, whose one child is node 1
-  pub outgroup : Outgroup (shapeOf t g n e)
+  pub outgroup : Outgroup (shapeOf t g (all n) (all-of n (tips t) e))
   unfolding shapeOf
   outgroup =
       let few = g .tips-range in
@@ -45,13 +47,13 @@ module _ (t : Table) (g : IsTree t) where
   -- a and b are together against c exactly if they are the butterfly 0c|ab
   pub together-butterfly : (a b c : ℕ) → a < tips t → together t a b c ≡ butterfly t 0 c a b
   unfolding together butterfly shapeOf
-  together-butterfly a b c la = resolved-butterfly (shapeOf t g (tips t) refl) (outgroup t g (tips t) refl) a b c la
+  together-butterfly a b c la = resolved-butterfly (shapeOf t g (all (tips t)) (all-of (tips t) (tips t) refl)) (outgroup t g (tips t) refl) a b c la
 
   -- at most one of the three pairs is
   pub one-together : (a b c : ℕ) → a < tips t → b < tips t
       → AtMostOne (together t b c a) (together t a c b) (together t a b c)
   unfolding together shapeOf
-  one-together a b c la lb = one-resolved (shapeOf t g (tips t) refl) (outgroup t g (tips t) refl) a b c la lb
+  one-together a b c la lb = one-resolved (shapeOf t g (all (tips t)) (all-of (tips t) (tips t) refl)) (outgroup t g (tips t) refl) a b c la lb
 
   -- so a triplet is the topology of its labels with tip 0
   pub triplet-topology : (a b c : ℕ) → 1 ≤ a → 1 ≤ b → 1 ≤ c → a < tips t → b < tips t
@@ -154,7 +156,7 @@ module _ (t u : Table) (g : IsTree t) (h : IsTree u) (e : tips t ≡ tips u) whe
 
   -- the cases of two tables are those of their shapes
   pub triplets-in-shapes : (k : Case)
-      → triplets t u k ≡ tripletsIn (shapeOf t g (tips t) refl) (shapeOf u h (tips t) (sym e)) (caseNumber k)
+      → triplets t u k ≡ tripletsIn (shapeOf t g (all (tips t)) (all-of (tips t) (tips t) refl)) (shapeOf u h (all (tips t)) (all-of (tips t) (tips u) (sym e))) (caseNumber k)
   unfolding triplets tripletsIn tripletIn isCase triplet together shapeOf
   triplets-in-shapes k = sets3-ext (tips t - 1) _ _ (λ a b c ab bc lc.
       ap (λ (x : ℕ). bit (eqb x (caseNumber k)))
