@@ -6,13 +6,15 @@ use mathlib.Core.List.{List, [], _∷_, _++_}
 use Prim.Native.Nat.{ℕ, zero, suc, _+_, _-_, _/_, _%_}
 use lib.ListN.{length, drop}
 use Rattle.sums.specs.Counts.{count}
-use Rattle.tree_check.specs.Table.{Table, tips, nodes, beyond}
+use Rattle.tree_check.specs.Table.{Table, tips, nodes}
 use Rattle.tree_check.specs.Refusals.{refusal, ifAccepted}
+use Rattle.counting.specs.Labels.{Labels, all}
+use Rattle.counting.specs.SplitCounts.{beyondAt}
 use Rattle.pair_check.specs.PairOrder.{cellsNeeded, pairOrder}
 
--- how many labels lie beyond both edge i of the first tree and edge j of the second
-unfoldable pub edgeCrossing : Table → Table → ℕ → ℕ → ℕ
-edgeCrossing t u i j = count (tips t) (λ x. beyond t i x && beyond u j x)
+-- how many of the labels lie beyond both edge i of the first tree and edge j of the second
+unfoldable pub edgeCrossing : Labels → Table → Table → ℕ → ℕ → ℕ
+edgeCrossing l t u i j = count (l .number) (λ x. beyondAt l t i x && beyondAt l u j x)
 
 -- f 0, f 1, .., f (k − 1)
 unfoldable pub inOrder : ℕ → (ℕ → ℕ) → List ℕ
@@ -20,13 +22,17 @@ inOrder zero f = []
 inOrder (suc k) f = f 0 ∷ inOrder k (λ i. f (suc i))
 
 -- the crossing in the cell c = (i − 1)(m′ − 1) + (j − 1)
-unfoldable pub cellOf : Table → Table → ℕ → ℕ
-cellOf t u c = edgeCrossing t u (suc (c / (nodes u - 1))) (suc (c % (nodes u - 1)))
+unfoldable pub cellOf : Labels → Table → Table → ℕ → ℕ
+cellOf l t u c = edgeCrossing l t u (suc (c / (nodes u - 1))) (suc (c % (nodes u - 1)))
 
 -- the cells once the crossings are written; later cells stay
-unfoldable pub crossed : Table → Table → List ℕ → List ℕ
-crossed t u work = inOrder (cellsNeeded t u) (cellOf t u) ++ drop (cellsNeeded t u) work
+unfoldable pub crossed : Labels → Table → Table → List ℕ → List ℕ
+crossed l t u work = inOrder (cellsNeeded t u) (cellOf l t u) ++ drop (cellsNeeded t u) work
+
+-- .. of all labels
+abbrev pub crossedAll : Table → Table → List ℕ → List ℕ
+crossedAll t u work = crossed (all (tips t)) t u work
 
 -- the cells after a call; a refusal leaves every cell as it was
 unfoldable pub afterCrossings : Table → Table → List ℕ → List ℕ
-afterCrossings t u work = ifAccepted (refusal (pairOrder t u (length work))) (crossed t u work) work
+afterCrossings t u work = ifAccepted (refusal (pairOrder t u (length work))) (crossedAll t u work) work

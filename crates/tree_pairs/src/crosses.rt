@@ -14,7 +14,7 @@ ghost use Rattle.tree_check.specs.lemmas.TableParts.{tableOf};
 ghost use Rattle.tree_check.specs.Refusals.{refusal};
 ghost use Rattle.pair_check.specs.PairOrder.{PairWithCells, pairOrder};
 ghost use Rattle.pair_check.specs.CheckedPair.{checkedWork, Told};
-ghost use Rattle.tree_pairs.specs.Crossings.{crossed, afterCrossings};
+ghost use Rattle.tree_pairs.specs.Crossings.{crossedAll, afterCrossings};
 ghost use Rattle.tree_pairs.specs.lemmas.Filling.{PairArrays};
 
 // A tip's row is marked and added up the second tree, then each row is added to its parent's.
@@ -30,7 +30,7 @@ fn fill_arrays(
         (now «second_labels») (now work) ⌝ }
     ensures { λ _. ⌜
         now (work .exit)
-        ≡ crossed (tableOf n (now («first_parents» .entry)) (now («first_labels» .entry)))
+        ≡ crossedAll (tableOf n (now («first_parents» .entry)) (now («first_labels» .entry)))
         (tableOf n (now («second_parents» .entry)) (now («second_labels» .entry))) (now (work .entry))
         ⌝ }
 {
@@ -45,7 +45,7 @@ fn fill_arrays(
 pub(crate) fn fill(first: &[u16], second: &[u16], work: &mut [Cell])
     requires { ⌜ PairWithCells (now first) (now second) (length (now work)) ⌝ }
     ensures { λ _. ⌜
-        now (work .exit) ≡ crossed (now (first .entry)) (now (second .entry)) (now (work .entry))
+        now (work .exit) ≡ crossedAll (now (first .entry)) (now (second .entry)) (now (work .entry))
         ⌝ }
 {
     let n = as_index(first[0]);

@@ -15,6 +15,8 @@ use Rattle.tree_check.specs.Table.{Table, word, tips, nodes, parent, label, nod
 use Rattle.tree_check.specs.IsTree.{IsTree}
 use Rattle.tree_check.specs.theorems.RootedTables.{rooted}
 use Rattle.walks.specs.theorems.NodeLabels.{node-at}
+use Rattle.counting.specs.Labels.{Labels, Rising}
+use Rattle.counting.specs.SplitCounts.{beyondAt}
 use Rattle.counting.specs.theorems.TreeSplits.{zero-here}
 use Rattle.tree_pairs.specs.Crossings.{edgeCrossing, crossed}
 use Rattle.tree_pairs.specs.theorems.CrossingLaws.{cell-of-edges}
@@ -54,23 +56,23 @@ both-second a b e = omega (arith, bit-and a b, ap (λ (z : ℕ). z * bit b) e)
 no-first : (a b : Bool) → bit a ≡ 0 → bit (a && b) ≡ 0
 no-first a b e = omega (arith, bit-and a b, ap (λ (z : ℕ). z * bit b) e)
 
-module _ (t u : Table) (g : IsTree t) (h : IsTree u) (e : tips t ≡ tips u) where
+module _ (l : Labels) (t u : Table) (g : IsTree t) (h : IsTree u) (e : tips t ≡ tips u) (r : Rising (tips t) l) where
   -- the first column is the sizes of the first tree's edges
-  pub row-size : (i : ℕ) → 1 ≤ i → edgeCrossing t u i 1 ≡ count (tips t) (beyond t i)
-  unfolding edgeCrossing
-  row-size i l = sum-ext (tips t) _ _ term
+  pub row-size : (i : ℕ) → 1 ≤ i → edgeCrossing l t u i 1 ≡ count (l .number) (beyondAt l t i)
+  unfolding edgeCrossing beyondAt
+  row-size i o = sum-ext (l .number) _ _ (λ x m. term (l .at x) (r .inside x m))
     where
       term : (x : ℕ) → x < tips t → bit (beyond t i x && beyond u 1 x) ≡ bit (beyond t i x)
-      term zero m = no-first _ (beyond u 1 0) (zero-here t g i l) ∙ sym (zero-here t g i l)
+      term zero m = no-first _ (beyond u 1 0) (zero-here t g i o) ∙ sym (zero-here t g i o)
       term (suc x) m = both-first (beyond t i (suc x)) _ (all-beyond u h (suc x) (omega arith) (omega arith))
 
   -- the first row is the sizes of the second tree's edges
-  pub column-size : (j : ℕ) → 1 ≤ j → edgeCrossing t u 1 j ≡ count (tips t) (beyond u j)
-  unfolding edgeCrossing
-  column-size j l = sum-ext (tips t) _ _ term
+  pub column-size : (j : ℕ) → 1 ≤ j → edgeCrossing l t u 1 j ≡ count (l .number) (beyondAt l u j)
+  unfolding edgeCrossing beyondAt
+  column-size j o = sum-ext (l .number) _ _ (λ x m. term (l .at x) (r .inside x m))
     where
       term : (x : ℕ) → x < tips t → bit (beyond t 1 x && beyond u j x) ≡ bit (beyond u j x)
-      term zero m = no-first _ (beyond u j 0) (zero-here t g 1 (omega arith)) ∙ sym (zero-here u h j l)
+      term zero m = no-first _ (beyond u j 0) (zero-here t g 1 (omega arith)) ∙ sym (zero-here u h j o)
       term (suc x) m = both-second _ (beyond u j (suc x)) (all-beyond t g (suc x) m (omega arith))
 
   -- ---- in the cells
@@ -78,22 +80,22 @@ module _ (t u : Table) (g : IsTree t) (h : IsTree u) (e : tips t ≡ tips u) whe
   module _ (work : List ℕ) where
     -- the first cell of row i, and of column j
     pub row-cell : (i : ℕ) → i < nodes t - 1
-        → word (crossed t u work) (i * (nodes u - 1)) ≡ count (tips t) (beyond t (suc i))
-    row-cell i l =
+        → word (crossed l t u work) (i * (nodes u - 1)) ≡ count (l .number) (beyondAt l t (suc i))
+    row-cell i o =
         let few = h .tips-range in let many = h .nodes-range in
-        ap (word (crossed t u work)) (first (i * (nodes u - 1)))
-        ∙ cell-of-edges t u work i 0 l (omega arith)
+        ap (word (crossed l t u work)) (first (i * (nodes u - 1)))
+        ∙ cell-of-edges l t u work i 0 o (omega arith)
         ∙ row-size (suc i) (omega arith)
       where
         first : (c : ℕ) → c ≡ c + 0
         first c = omega arith
 
     pub column-cell : (j : ℕ) → j < nodes u - 1
-        → word (crossed t u work) j ≡ count (tips t) (beyond u (suc j))
-    column-cell j l =
+        → word (crossed l t u work) j ≡ count (l .number) (beyondAt l u (suc j))
+    column-cell j o =
         let few = g .tips-range in let many = g .nodes-range in
-        ap (word (crossed t u work)) (first (nodes u - 1))
-        ∙ cell-of-edges t u work 0 j (omega arith) l
+        ap (word (crossed l t u work)) (first (nodes u - 1))
+        ∙ cell-of-edges l t u work 0 j (omega arith) o
         ∙ column-size (suc j) (omega arith)
       where
         first : (w : ℕ) → j ≡ 0 * w + j

@@ -18,6 +18,8 @@ use Rattle.tree_check.specs.Table.{Table, tips, nodes, parent, label, nodeOf, b
 use Rattle.tree_check.specs.IsTree.{IsTree}
 use Rattle.tree_check.specs.theorems.RootedTables.{rooted}
 use Rattle.walks.specs.theorems.NodeLabels.{node-at, sum-over-tips}
+use Rattle.counting.specs.Labels.{all}
+use Rattle.counting.specs.SplitCounts.{beyondAt}
 use Rattle.tree_pairs.specs.Crossings.{edgeCrossing}
 
 -- 1 if node x of the first tree is a tip whose label lies beyond edge j of the second
@@ -27,8 +29,8 @@ tipBeyond t u j x = bit (ltb (label t x) (tips t)) * bit (anc (parent u) j (node
 module _ (t u : Table) (g : IsTree t) where
   pub crossing-total : (v j : ℕ) → 1 ≤ v → (cells : ℕ → ℕ)
       → ((x : ℕ) → 1 ≤ x → x < nodes t → cells x ≡ tipBeyond t u j x)
-      → total (parent t) (nodes t) cells v ≡ edgeCrossing t u v j
-  unfolding total edgeCrossing beyond
+      → total (parent t) (nodes t) cells v ≡ edgeCrossing (all (tips t)) t u v j
+  unfolding total edgeCrossing beyond beyondAt
   crossing-total v j lv cells h =
       sum-ext (nodes t) _ _ term
       ∙ sum-over-tips t g (λ x. bit (anc (parent t) v x) * bit (anc (parent u) j (nodeOf u (label t x))))
@@ -51,6 +53,6 @@ module _ (t u : Table) (g : IsTree t) where
       term (suc x) l = ap (λ (z : ℕ). bit (anc (parent t) v (suc x)) * z) (h (suc x) (omega arith) l) ∙ regroup _ _ _
 
   -- no more than there are tips
-  pub crossing-most : (v j : ℕ) → edgeCrossing t u v j ≤ tipsMost
-  unfolding edgeCrossing
+  pub crossing-most : (v j : ℕ) → edgeCrossing (all (tips t)) t u v j ≤ tipsMost
+  unfolding edgeCrossing beyondAt
   crossing-most v j = omega (arith, count-le (tips t) (λ x. beyond t v x && beyond u j x), g .tips-range)

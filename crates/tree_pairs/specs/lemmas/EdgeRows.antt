@@ -9,9 +9,11 @@ use lib.ListN.{length}
 use Rattle.table_words.specs.Sizes.{nodeRoom, workRoom}
 use Rattle.sums.specs.Counts.{count}
 use Rattle.sums.specs.theorems.Products.{product-le}
-use Rattle.tree_check.specs.Table.{Table, word, tips, nodes, parents, parent, beyond}
+use Rattle.tree_check.specs.Table.{Table, word, tips, nodes, parents, parent}
 use Rattle.tree_check.specs.IsTree.{IsTree}
 use Rattle.tree_check.specs.lemmas.TableParts.{parents-length}
+use Rattle.counting.specs.Labels.{Labels, Rising}
+use Rattle.counting.specs.SplitCounts.{beyondAt}
 use Rattle.tree_pairs.specs.Crossings.{crossed}
 use Rattle.tree_pairs.specs.lemmas.CellSizes.{row-cell, column-cell}
 
@@ -90,21 +92,22 @@ module _ (t : Table) (g : IsTree t) where
 
 -- ---- of two tables: what stands in the cells
 
-module _ (t u : Table) (g : IsTree t) (h : IsTree u) (e : tips t ≡ tips u) (work : List ℕ) where
+module _ (l : Labels) (t u : Table) (g : IsTree t) (h : IsTree u) (e : tips t ≡ tips u) (q : Rising (tips t) l)
+    (work : List ℕ) where
   pub size-above-row : (i : ℕ) → suc i < nodes t - 1
-      → sizeAt (crossed t u work) (nodes u - 1) (aboveIn (parents t) (suc i))
-      ≡ count (tips t) (beyond t (parent t (suc (suc i))))
-  size-above-row i l =
-      let r = row-above t g i l in
-      row-cell t u g h e work (aboveIn (parents t) (suc i)) (r .1)
-      ∙ ap (λ (v : ℕ). count (tips t) (beyond t v)) (r .0)
+      → sizeAt (crossed l t u work) (nodes u - 1) (aboveIn (parents t) (suc i))
+      ≡ count (l .number) (beyondAt l t (parent t (suc (suc i))))
+  size-above-row i o =
+      let r = row-above t g i o in
+      row-cell l t u g h e q work (aboveIn (parents t) (suc i)) (r .1)
+      ∙ ap (λ (v : ℕ). count (l .number) (beyondAt l t v)) (r .0)
 
-  pub size-of-column : (j : ℕ) → j < nodes u - 1 → sizeAt (crossed t u work) 1 j ≡ count (tips t) (beyond u (suc j))
-  size-of-column j l = let o : j * 1 ≡ j = omega arith in rw o (column-cell t u g h e work j l)
+  pub size-of-column : (j : ℕ) → j < nodes u - 1 → sizeAt (crossed l t u work) 1 j ≡ count (l .number) (beyondAt l u (suc j))
+  size-of-column j o = let c : j * 1 ≡ j = omega arith in rw c (column-cell l t u g h e q work j o)
 
   pub size-above-column : (j : ℕ) → suc j < nodes u - 1
-      → sizeAt (crossed t u work) 1 (aboveIn (parents u) (suc j)) ≡ count (tips t) (beyond u (parent u (suc (suc j))))
-  size-above-column j l =
-      let r = row-above u h j l in
+      → sizeAt (crossed l t u work) 1 (aboveIn (parents u) (suc j)) ≡ count (l .number) (beyondAt l u (parent u (suc (suc j))))
+  size-above-column j o =
+      let r = row-above u h j o in
       size-of-column (aboveIn (parents u) (suc j)) (r .1)
-      ∙ ap (λ (v : ℕ). count (tips t) (beyond u v)) (r .0)
+      ∙ ap (λ (v : ℕ). count (l .number) (beyondAt l u v)) (r .0)

@@ -21,6 +21,7 @@ use Rattle.tree_check.specs.lemmas.TableParts.{tableOf, tips-of, nodes-of}
 use Rattle.walks.specs.theorems.NodeLabels.{node-at}
 use Rattle.walks.specs.lemmas.TreeArrays.{TreeArrays, parent-is, label-is, few-tips, few-nodes, rooted-parents}
 use Rattle.tree_pairs.specs.lemmas.Grid.{cellAt}
+use Rattle.counting.specs.Labels.{all}
 use Rattle.tree_pairs.specs.Crossings.{edgeCrossing, crossed, cellOf}
 use Rattle.tree_pairs.specs.theorems.CrossingLaws.{in-order-front}
 use Rattle.tree_pairs.specs.lemmas.CrossingTotals.{tipBeyond, crossing-total, crossing-most}
@@ -134,7 +135,7 @@ module _ (n : ℕ) (ps ls qs ms work : List ℕ) (a : PairArrays n ps ls qs ms w
       -- a column's totals are the crossings
       column-total : (v j : ℕ) → 1 ≤ v → j < length qs - 1
           → total (word ps) (length ps) (λ x. cellAt marked (length qs - 1) x j) v
-          ≡ edgeCrossing (tableOf n ps ls) (tableOf n qs ms) v (suc j)
+          ≡ edgeCrossing (all (tips (tableOf n ps ls))) (tableOf n ps ls) (tableOf n qs ms) v (suc j)
       column-total v j l lj =
           ap₂ (λ (up : ℕ → ℕ) (k : ℕ). total up k (λ x. cellAt marked (length qs - 1) x j) v)
           (sym (parent-is n ps ls (a .first))) (sym (nodes-of n ps ls))
@@ -160,10 +161,10 @@ module _ (n : ℕ) (ps ls qs ms work : List ℕ) (a : PairArrays n ps ls qs ms w
 
       -- all of it
       pub filled : (new : List ℕ) → RowsAdded ps marked new (length qs - 1)
-          → new ≡ crossed (tableOf n ps ls) (tableOf n qs ms) work
+          → new ≡ crossed (all (tips (tableOf n ps ls))) (tableOf n ps ls) (tableOf n qs ms) work
       unfolding crossed
       filled new h = rw (nodes-of n ps ls, nodes-of n qs ms) (
-          in-order-front ((length ps - 1) * (length qs - 1)) (cellOf t u) work new
+          in-order-front ((length ps - 1) * (length qs - 1)) (cellOf (all (tips t)) t u) work new
           (h .long ∙ r .long ∙ c .long) (a .room) front back)
         where
           t : Table
@@ -185,11 +186,11 @@ module _ (n : ℕ) (ps ls qs ms work : List ℕ) (a : PairArrays n ps ls qs ms w
               one-more k = omega arith
 
           cell : (i : ℕ)
-              → cellOf t u i ≡ edgeCrossing t u (suc (i / (length qs - 1))) (suc (i % (length qs - 1)))
-          cell i = unfold cellOf in ap (λ (k : ℕ). edgeCrossing t u (suc (i / (k - 1))) (suc (i % (k - 1))))
+              → cellOf (all (tips t)) t u i ≡ edgeCrossing (all (tips t)) t u (suc (i / (length qs - 1))) (suc (i % (length qs - 1)))
+          cell i = unfold cellOf in ap (λ (k : ℕ). edgeCrossing (all (tips t)) t u (suc (i / (k - 1))) (suc (i % (k - 1))))
               (nodes-of n qs ms)
 
-          front : (i : ℕ) → i < (length ps - 1) * (length qs - 1) → word new i ≡ cellOf t u i
+          front : (i : ℕ) → i < (length ps - 1) * (length qs - 1) → word new i ≡ cellOf (all (tips t)) t u i
           front i l =
               let w = length qs - 1 in
               let s = sizes in

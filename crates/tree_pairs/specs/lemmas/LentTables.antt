@@ -15,7 +15,7 @@ use Rattle.walks.specs.lemmas.TreeArrays.{TreeArrays, tree-arrays}
 use Rattle.pair_check.specs.PairOrder.{PairWithCells, pairOrder}
 use Rattle.pair_check.specs.theorems.PairCheck.{pair-check}
 use Rattle.pair_check.specs.lemmas.PairOutcomes.{edges-some}
-use Rattle.tree_pairs.specs.Crossings.{crossed, afterCrossings}
+use Rattle.tree_pairs.specs.Crossings.{crossedAll, afterCrossings}
 use Rattle.tree_pairs.specs.lemmas.Filling.{PairArrays}
 
 -- the first word is the number of tips, ..
@@ -56,14 +56,14 @@ module _ (t u : Table) (work : List ℕ) (h : PairWithCells t u (length work)) (
       u (tips t) k (h .pair .second .words) (h .pair .same-tips) (lent-nodes u k ek) own-arrays)
 
   pub lent-crossed : (new : List ℕ)
-      → new ≡ crossed (tableOf n (lentParents t m) (lentLabels t m)) (tableOf n (lentParents u k) (lentLabels u k)) work
-      → new ≡ crossed t u work
+      → new ≡ crossedAll (tableOf n (lentParents t m) (lentLabels t m)) (tableOf n (lentParents u k) (lentLabels u k)) work
+      → new ≡ crossedAll t u work
   lent-crossed new e =
-      of-parts (λ x qs ms. new ≡ crossed (tableOf (tips t) (parents t) (labels t)) (tableOf x qs ms) work)
+      of-parts (λ x qs ms. new ≡ crossedAll (tableOf (tips t) (parents t) (labels t)) (tableOf x qs ms) work)
       u (tips t) k (h .pair .second .words) (h .pair .same-tips) (lent-nodes u k ek)
-      (of-parts (λ x ps ls. new ≡ crossed (tableOf x ps ls) (tableOf x (lentParents u k) (lentLabels u k)) work)
+      (of-parts (λ x ps ls. new ≡ crossedAll (tableOf x ps ls) (tableOf x (lentParents u k) (lentLabels u k)) work)
       t n m (h .pair .first .words) (lent-tips t n en) (lent-nodes t m em) e)
-      ∙ ap₂ (λ (x y : Table). crossed x y work)
+      ∙ ap₂ (λ (x y : Table). crossedAll x y work)
       (table-of-parts t (h .pair .first .words)) (table-of-parts u (h .pair .second .words))
 
 -- ---- a pair that was checked, as its answer tells it
@@ -82,13 +82,13 @@ lent-words t u cells p m k em ek =
 
 -- ---- the lent cells afterwards
 
-pub crossings-accepted : (t u : Table) (work new : List ℕ) → PairWithCells t u (length work) → new ≡ crossed t u work
+pub crossings-accepted : (t u : Table) (work new : List ℕ) → PairWithCells t u (length work) → new ≡ crossedAll t u work
     → new ≡ afterCrossings t u work
 unfolding afterCrossings
 crossings-accepted t u work new p h = h ∙ sym (if-accepted _ _ _ (pair-check t u (length work) .1 p))
 
 pub crossings-are : (t u : Table) (work new : List ℕ) → PairWithCells t u (length work) → new ≡ afterCrossings t u work
-    → new ≡ crossed t u work
+    → new ≡ crossedAll t u work
 unfolding afterCrossings
 crossings-are t u work new p h = h ∙ if-accepted _ _ _ (pair-check t u (length work) .1 p)
 
@@ -101,14 +101,14 @@ crossings-refused t u work k e d = sym (if-refused _ _ _ (λ z. d (e ∙ z)))
 module _ (P : List ℕ → ℕ → List ℕ → List ℕ → Type 0) (t u : Table) (work new : List ℕ)
     (p : PairWithCells t u (length work)) (w : new ≡ afterCrossings t u work)
     (n m k : ℕ) (en : n ≡ tips t) (em : m ≡ nodes t) (ek : k ≡ nodes u) where
-  pub to-lent : P (crossed t u work) (tips t) (parents t) (parents u) → P new n (lentParents t m) (lentParents u k)
+  pub to-lent : P (crossedAll t u work) (tips t) (parents t) (parents u) → P new n (lentParents t m) (lentParents u k)
   to-lent h =
       subst (λ (c : List ℕ). P c n (lentParents t m) (lentParents u k)) (sym (crossings-are t u work new p w))
-      (to-parts (λ x ps ls. P (crossed t u work) x ps (lentParents u k)) t n m (p .pair .first .words) en em
-      (to-parts (λ x qs ls. P (crossed t u work) (tips t) (parents t) qs) u (tips u) k (p .pair .second .words) refl ek h))
+      (to-parts (λ x ps ls. P (crossedAll t u work) x ps (lentParents u k)) t n m (p .pair .first .words) en em
+      (to-parts (λ x qs ls. P (crossedAll t u work) (tips t) (parents t) qs) u (tips u) k (p .pair .second .words) refl ek h))
 
-  pub of-lent : P new n (lentParents t m) (lentParents u k) → P (crossed t u work) (tips t) (parents t) (parents u)
+  pub of-lent : P new n (lentParents t m) (lentParents u k) → P (crossedAll t u work) (tips t) (parents t) (parents u)
   of-lent h =
-      of-parts (λ x qs ls. P (crossed t u work) (tips t) (parents t) qs) u (tips u) k (p .pair .second .words) refl ek
-      (of-parts (λ x ps ls. P (crossed t u work) x ps (lentParents u k)) t n m (p .pair .first .words) en em
+      of-parts (λ x qs ls. P (crossedAll t u work) (tips t) (parents t) qs) u (tips u) k (p .pair .second .words) refl ek
+      (of-parts (λ x ps ls. P (crossedAll t u work) x ps (lentParents u k)) t n m (p .pair .first .words) en em
       (subst (λ (c : List ℕ). P c n (lentParents t m) (lentParents u k)) (crossings-are t u work new p w) h))

@@ -9,6 +9,7 @@ use native.Mathlib.Omega.{arith}
 use lib.ListN.{length, drop, length-drop, length-append, List·getD-append}
 use lib.Seq.{ext-getD, getD-drop, getD-append-add}
 use Rattle.tree_check.specs.Table.{Table, word, nodes}
+use Rattle.counting.specs.Labels.{Labels}
 use Rattle.pair_check.specs.PairOrder.{cellsNeeded}
 use Rattle.tree_pairs.specs.Crossings.{edgeCrossing, inOrder, cellOf, crossed}
 
@@ -64,25 +65,26 @@ cell-inside i j m w li lj =
     div-lt-iff-lt-mul {k = w} {x = i * w + j} {y = m} (omega arith) .0 (rw (quotient i j w lj) li)
 
 -- as many cells as before
-pub crossed-length : (t u : Table) (work : List ℕ) → cellsNeeded t u ≤ length work → length (crossed t u work) ≡ length work
+pub crossed-length : (l : Labels) (t u : Table) (work : List ℕ) → cellsNeeded t u ≤ length work
+    → length (crossed l t u work) ≡ length work
 unfolding crossed
-crossed-length t u work l = omega (
+crossed-length l t u work m = omega (
   arith,
-  length-append (inOrder (cellsNeeded t u) (cellOf t u)) (drop (cellsNeeded t u) work),
-  in-order-length (cellsNeeded t u) (cellOf t u),
+  length-append (inOrder (cellsNeeded t u) (cellOf l t u)) (drop (cellsNeeded t u) work),
+  in-order-length (cellsNeeded t u) (cellOf l t u),
   length-drop (cellsNeeded t u) work,
 )
 
 -- ---- what a reader finds in the cells
 
-module _ (t u : Table) (work : List ℕ) where
+module _ (l : Labels) (t u : Table) (work : List ℕ) where
   pub cell-of-edges : (i j : ℕ) → i < nodes t - 1 → j < nodes u - 1
-      → word (crossed t u work) (i * (nodes u - 1) + j) ≡ edgeCrossing t u (suc i) (suc j)
+      → word (crossed l t u work) (i * (nodes u - 1) + j) ≡ edgeCrossing l t u (suc i) (suc j)
   unfolding crossed cellOf
   cell-of-edges i j li lj =
       let w = nodes u - 1 in
       let c = i * w + j in
-      List·getD-append (inOrder (cellsNeeded t u) (cellOf t u)) _ 0 c
-      (omega (arith, in-order-length (cellsNeeded t u) (cellOf t u), cell-inside i j (nodes t - 1) w li lj))
-      ∙ in-order-at (cellsNeeded t u) (cellOf t u) c (cell-inside i j (nodes t - 1) w li lj)
-      ∙ ap₂ (λ (a b : ℕ). edgeCrossing t u (suc a) (suc b)) (quotient i j w lj) (remainder i j w lj)
+      List·getD-append (inOrder (cellsNeeded t u) (cellOf l t u)) _ 0 c
+      (omega (arith, in-order-length (cellsNeeded t u) (cellOf l t u), cell-inside i j (nodes t - 1) w li lj))
+      ∙ in-order-at (cellsNeeded t u) (cellOf l t u) c (cell-inside i j (nodes t - 1) w li lj)
+      ∙ ap₂ (λ (a b : ℕ). edgeCrossing l t u (suc a) (suc b)) (quotient i j w lj) (remainder i j w lj)

@@ -11,6 +11,8 @@ use Rattle.tree_check.specs.Refusals.{refusal}
 use Rattle.tree_check.specs.TreeOrder.{tipsFit, nodesFit, parentFits, labelFits, standing, labelsFit, labelsOnce}
 use Rattle.tree_check.specs.TreeOrder.{isChild, children, misplaced, arraysOrder, treeOrder}
 use Rattle.walks.specs.theorems.WalkExamples.{P, Q, TwoTips}
+use Rattle.counting.specs.Labels.{all}
+use Rattle.counting.specs.SplitCounts.{beyondAt}
 use Rattle.pair_check.specs.PairOrder.{plus, tipsOrder, tablesOrder, workOrder, pairOrder, cellsNeeded}
 use Rattle.tree_pairs.specs.Crossings.{edgeCrossing, inOrder, cellOf}
 
@@ -27,7 +29,7 @@ edges-of-a-pair = refl
 -- P's edges have {1 2 3 4}, {1}, {2 3 4}, {2}, {3 4}, {3}, {4} beyond them, Q's {1 2 3 4}, {1}, {2 3 4}, {2}, {3},
 -- {4}
 pub crossings-of-P-and-Q :
-    inOrder (cellsNeeded P Q) (cellOf P Q)
+    inOrder (cellsNeeded P Q) (cellOf (all 5) P Q)
     ≡ 4 ∷ 1 ∷ 3 ∷ 1 ∷ 1 ∷ 1
     ∷ 1 ∷ 1 ∷ 0 ∷ 0 ∷ 0 ∷ 0
     ∷ 3 ∷ 0 ∷ 3 ∷ 1 ∷ 1 ∷ 1
@@ -36,5 +38,5 @@ pub crossings-of-P-and-Q :
     ∷ 1 ∷ 0 ∷ 1 ∷ 0 ∷ 1 ∷ 0
     ∷ 1 ∷ 0 ∷ 1 ∷ 0 ∷ 0 ∷ 1 ∷ []
 unfolding
-    inOrder cellOf edgeCrossing sum bit ancIn anc tips nodes parents labels parent label nodeBelow nodeOf beyond
+    inOrder cellOf edgeCrossing beyondAt sum bit ancIn anc tips nodes parents labels parent label nodeBelow nodeOf beyond
 crossings-of-P-and-Q = refl
