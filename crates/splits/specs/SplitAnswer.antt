@@ -2,7 +2,8 @@
 -- Assumes nothing.
 use Prim.Native.Nat.{ℕ}
 use Rattle.counting.specs.SplitCounts.{splits, commonSplits, robinsonFoulds}
-use Rattle.tree_check.specs.Table.{Table}
+use Rattle.counting.specs.Labels.{all}
+use Rattle.tree_check.specs.Table.{Table, tips}
 use Rattle.tree_check.specs.Refusals.{refusal, ifAccepted}
 use Rattle.splits.specs.declared.counts.SplitCounts.{SplitCounts}
 use Rattle.pair_check.specs.PairOrder.{pairOrder}
@@ -12,10 +13,10 @@ use Rattle.pair_check.specs.PairOrder.{pairOrder}
 abbrev pub splitsOfPair : Table → Table → SplitCounts
 splitsOfPair t u = record {
   refusal = 0;
-  first = splits t;
-  second = splits u;
-  common = commonSplits t u;
-  distance = robinsonFoulds t u;
+  first = splits (all (tips t)) t;
+  second = splits (all (tips t)) u;
+  common = commonSplits (all (tips t)) t u;
+  distance = robinsonFoulds (all (tips t)) t u;
 }
 
 -- the number of a refused pair, with zeros

@@ -25,8 +25,10 @@ use Rattle.tree_check.specs.IsTree.{IsTree}
 use Rattle.tree_check.specs.lemmas.TableParts.{parents-length}
 use Rattle.counting.specs.theorems.TreeSplits.{zero-here}
 use Rattle.counting.specs.theorems.NewSplits.{sizeBeyond, new-by-size}
-use Rattle.counting.specs.SplitCounts.{splits, commonSplits}
-use Rattle.tree_pairs.specs.Crossings.{edgeCrossing, crossed}
+use Rattle.counting.specs.Labels.{all}
+use Rattle.counting.specs.SplitCounts.{beyondAt, splits, commonSplits}
+use Rattle.counting.specs.theorems.LabelLaws.{all-rising}
+use Rattle.tree_pairs.specs.Crossings.{edgeCrossing, crossedAll}
 use Rattle.tree_pairs.specs.theorems.CrossingLaws.{cell-of-edges}
 use Rattle.tree_pairs.specs.lemmas.CellSizes.{all-beyond, row-cell, column-cell}
 use Rattle.tree_pairs.specs.lemmas.EdgeRows.{aboveIn, sizeAt, size-above-row, size-of-column, size-above-column}
@@ -115,9 +117,9 @@ module _ (t : Table) (g : IsTree t) where
 module _ (t u : Table) (g : IsTree t) (h : IsTree u) (e : tips t ≡ tips u) where
   -- two edges have the same tip sets exactly if all beyond either lie beyond both
   pub sides-by-crossing : (i j : ℕ) → 1 ≤ i → 1 ≤ j → sameSides (tips t) (beyond t) (beyond u) i j
-      ≡ (eqb (edgeCrossing t u i j) (count (tips t) (beyond t i))
-      && eqb (edgeCrossing t u i j) (count (tips t) (beyond u j)))
-  unfolding edgeCrossing
+      ≡ (eqb (edgeCrossing (all (tips t)) t u i j) (count (tips t) (beyond t i))
+      && eqb (edgeCrossing (all (tips t)) t u i j) (count (tips t) (beyond u j)))
+  unfolding edgeCrossing beyondAt
   sides-by-crossing i j li lj = same-test _ _
       (λ s. there (same-sides-iff (tips t) (beyond t) (beyond u) i j .0 s))
       (λ s. same-sides-iff (tips t) (beyond t) (beyond u) i j .1 (back s))
@@ -159,52 +161,51 @@ module _ (t u : Table) (g : IsTree t) (h : IsTree u) (e : tips t ≡ tips u) whe
 
   module _ (work : List ℕ) where
     row-new : (i : ℕ) → suc i < nodes t - 1
-        → newEdge (tips t) (crossed t u work) (nodes u - 1) (parents t) i ≡ isNewSplit (tips t) (beyond t) (suc i)
-    unfolding newEdge newSize
+        → newEdge (tips t) (crossedAll t u work) (nodes u - 1) (parents t) i ≡ isNewSplit (tips t) (beyond t) (suc i)
+    unfolding newEdge newSize beyondAt
     row-new i l =
-        ap (λ (k : ℕ). newSize (tips t) (sizeAt (crossed t u work) (nodes u - 1) k)
-        (sizeAt (crossed t u work) (nodes u - 1) (aboveIn (parents t) k))) (add-one i)
-        ∙ ap₂ (newSize (tips t)) (row-cell t u g h e work (suc i) l) (size-above-row t u g h e work i l)
+        ap (λ (k : ℕ). newSize (tips t) (sizeAt (crossedAll t u work) (nodes u - 1) k)
+        (sizeAt (crossedAll t u work) (nodes u - 1) (aboveIn (parents t) k))) (add-one i)
+        ∙ ap₂ (newSize (tips t)) (row-cell (all (tips t)) t u g h e (all-rising (tips t)) work (suc i) l) (size-above-row (all (tips t)) t u g h e (all-rising (tips t)) work i l)
         ∙ new-sizes t g (suc i) l
 
     column-new : (j : ℕ) → suc j < nodes u - 1
-        → newEdge (tips t) (crossed t u work) 1 (parents u) j ≡ isNewSplit (tips t) (beyond u) (suc j)
-    unfolding newEdge newSize
+        → newEdge (tips t) (crossedAll t u work) 1 (parents u) j ≡ isNewSplit (tips t) (beyond u) (suc j)
+    unfolding newEdge newSize beyondAt
     column-new j l =
-        ap (λ (k : ℕ). newSize (tips t) (sizeAt (crossed t u work) 1 k)
-        (sizeAt (crossed t u work) 1 (aboveIn (parents u) k))) (add-one j)
-        ∙ ap₂ (newSize (tips t)) (size-of-column t u g h e work (suc j) l) (size-above-column t u g h e work j l)
+        ap (λ (k : ℕ). newSize (tips t) (sizeAt (crossedAll t u work) 1 k)
+        (sizeAt (crossedAll t u work) 1 (aboveIn (parents u) k))) (add-one j)
+        ∙ ap₂ (newSize (tips t)) (size-of-column (all (tips t)) t u g h e (all-rising (tips t)) work (suc j) l) (size-above-column (all (tips t)) t u g h e (all-rising (tips t)) work j l)
         ∙ rw e (new-sizes u h (suc j) l)
 
-    shared-row : (i : ℕ) → i < nodes t - 1 → sharedRow (nodes u - 1) (crossed t u work) (i * (nodes u - 1))
+    shared-row : (i : ℕ) → i < nodes t - 1 → sharedRow (nodes u - 1) (crossedAll t u work) (i * (nodes u - 1))
         ≡ occurs (tips t) (beyond t) (nodes u - 1) (beyond u) (suc i)
-    unfolding sharedRow occurs
+    unfolding sharedRow occurs beyondAt
     shared-row i l = some-ext (nodes u - 1) _ _ (λ j m.
-        rw (cell-of-edges t u work i j l m, row-cell t u g h e work i l, column-cell t u g h e work j m)
+        rw (cell-of-edges (all (tips t)) t u work i j l m, row-cell (all (tips t)) t u g h e (all-rising (tips t)) work i l, column-cell (all (tips t)) t u g h e (all-rising (tips t)) work j m)
         (sym (sides-by-crossing (suc i) (suc j) (omega arith) (omega arith))))
 
     -- the splits of the first tree
-    pub row-splits : edgeSplits (tips t) (crossed t u work) (nodes u - 1) (parents t) ≡ splits t
-    unfolding edgeSplits splits splitsOf
+    pub row-splits : edgeSplits (tips t) (crossedAll t u work) (nodes u - 1) (parents t) ≡ splits (all (tips t)) t
+    unfolding edgeSplits splits splitsOf beyondAt
     row-splits =
-        from-second t g (newEdge (tips t) (crossed t u work) (nodes u - 1) (parents t)) (isNewSplit (tips t) (beyond t))
+        from-second t g (newEdge (tips t) (crossedAll t u work) (nodes u - 1) (parents t)) (isNewSplit (tips t) (beyond t))
         row-new (edge-1 t g)
 
     -- the splits of the second tree
-    pub column-splits : edgeSplits (tips t) (crossed t u work) 1 (parents u) ≡ splits u
-    unfolding edgeSplits splits splitsOf
+    pub column-splits : edgeSplits (tips t) (crossedAll t u work) 1 (parents u) ≡ splits (all (tips t)) u
+    unfolding edgeSplits splits splitsOf beyondAt
     column-splits =
-        from-second u h (newEdge (tips t) (crossed t u work) 1 (parents u)) (isNewSplit (tips t) (beyond u))
+        from-second u h (newEdge (tips t) (crossedAll t u work) 1 (parents u)) (isNewSplit (tips t) (beyond u))
         column-new (rw e (edge-1 u h))
-        ∙ ap (λ (n : ℕ). count (nodes u - 1) (isNewSplit n (beyond u))) e
 
     -- the common splits
-    pub common-rows : commonRows (tips t) (crossed t u work) (nodes u - 1) (parents t) ≡ commonSplits t u
-    unfolding commonRows commonSplits commonOf
+    pub common-rows : commonRows (tips t) (crossedAll t u work) (nodes u - 1) (parents t) ≡ commonSplits (all (tips t)) t u
+    unfolding commonRows commonSplits commonOf beyondAt
     common-rows =
-        from-second t g (λ i. newEdge (tips t) (crossed t u work) (nodes u - 1) (parents t) i
-        && sharedRow (nodes u - 1) (crossed t u work) ((i + 1) * (nodes u - 1)))
+        from-second t g (λ i. newEdge (tips t) (crossedAll t u work) (nodes u - 1) (parents t) i
+        && sharedRow (nodes u - 1) (crossedAll t u work) ((i + 1) * (nodes u - 1)))
         (λ i. isNewSplit (tips t) (beyond t) i && occurs (tips t) (beyond t) (nodes u - 1) (beyond u) (suc i))
         (λ i l. ap₂ (λ (a b : Bool). a && b) (row-new i l)
-        (ap (λ (k : ℕ). sharedRow (nodes u - 1) (crossed t u work) (k * (nodes u - 1))) (add-one i) ∙ shared-row (suc i) l))
+        (ap (λ (k : ℕ). sharedRow (nodes u - 1) (crossedAll t u work) (k * (nodes u - 1))) (add-one i) ∙ shared-row (suc i) l))
         (λ y. edge-1 t g (and-iff (isNewSplit (tips t) (beyond t) 0) _ .0 y .0))

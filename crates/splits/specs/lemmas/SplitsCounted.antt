@@ -8,6 +8,7 @@ use native.Mathlib.Omega.{arith}
 use lib.ListN.{length}
 use Rattle.sums.specs.theorems.CountLaws.{count-le}
 use Rattle.counting.specs.SplitCounts.{splits, commonSplits, robinsonFoulds}
+use Rattle.counting.specs.Labels.{all}
 use Rattle.counting.specs.theorems.TreeSplits.{robinson-foulds-fits}
 use Rattle.tree_check.specs.Table.{Table, tips, nodes, parents}
 use Rattle.tree_check.specs.lemmas.TableParts.{parents-length}
@@ -17,7 +18,7 @@ use Rattle.tree_check.specs.IsTree.{IsTree}
 use Rattle.splits.specs.declared.counts.SplitCounts.{SplitCounts}
 use Rattle.pair_check.specs.PairOrder.{PairWithCells, pairOrder}
 use Rattle.pair_check.specs.theorems.PairCheck.{pair-check}
-use Rattle.tree_pairs.specs.Crossings.{crossed, afterCrossings}
+use Rattle.tree_pairs.specs.Crossings.{crossedAll, afterCrossings}
 use Rattle.tree_pairs.specs.theorems.CrossingLaws.{cell-inside, crossed-length}
 use Rattle.tree_pairs.specs.lemmas.EdgeRows.{EdgeRoom, earlier-parents}
 use Rattle.tree_pairs.specs.lemmas.LentTables.{lentParents, to-lent, of-lent}
@@ -85,13 +86,13 @@ module _ (t u : Table) (work : List ℕ) (p : PairWithCells t u (length work)) w
   long' : length (parents u) ≡ nodes u
   long' = parents-length u (h .words)
 
-  first-is : edgeSplits (tips t) (crossed t u work) (length (parents u) - 1) (parents t) ≡ splits t
+  first-is : edgeSplits (tips t) (crossedAll t u work) (length (parents u) - 1) (parents t) ≡ splits (all (tips t)) t
   first-is = rw long' (row-splits t u g h e work)
 
-  second-is : edgeSplits (tips t) (crossed t u work) 1 (parents u) ≡ splits u
+  second-is : edgeSplits (tips t) (crossedAll t u work) 1 (parents u) ≡ splits (all (tips t)) u
   second-is = column-splits t u g h e work
 
-  common-is : commonRows (tips t) (crossed t u work) (length (parents u) - 1) (parents t) ≡ commonSplits t u
+  common-is : commonRows (tips t) (crossedAll t u work) (length (parents u) - 1) (parents t) ≡ commonSplits (all (tips t)) t u
   common-is = rw long' (common-rows t u g h e work)
 
   in-row : (i : ℕ) → i < nodes t - 1 → i * (nodes u - 1) < length work
@@ -106,7 +107,7 @@ module _ (t u : Table) (work : List ℕ) (p : PairWithCells t u (length work)) w
       let many = g .nodes-range in
       omega (arith, cell-inside 0 j (nodes t - 1) (nodes u - 1) (omega arith) l, p .room)
 
-  split-cells : SplitsCountable (crossed t u work) (tips t) (parents t) (parents u)
+  split-cells : SplitsCountable (crossedAll t u work) (tips t) (parents t) (parents u)
   split-cells =
       let few = h .tips-range in
       let many = h .nodes-range in
@@ -116,28 +117,28 @@ module _ (t u : Table) (work : List ℕ) (p : PairWithCells t u (length work)) w
         first-room = record {
           parents = earlier-parents t g;
           narrow = omega (arith, long');
-          inside = λ i l. rw (long', crossed-length t u work (p .room)) (in-row i (omega (arith, long)));
+          inside = λ i l. rw (long', crossed-length (all (tips t)) t u work (p .room)) (in-row i (omega (arith, long)));
         };
         second-room = record {
           parents = earlier-parents u h;
           narrow = omega arith;
-          inside = λ j l. rw (crossed-length t u work (p .room)) (in-column j (omega (arith, long')));
+          inside = λ j l. rw (crossed-length (all (tips t)) t u work (p .room)) (in-column j (omega (arith, long')));
         };
         rows = record {
           some = omega (arith, long');
-          rows = rw (long, long', crossed-length t u work (p .room)) (p .room);
+          rows = rw (long, long', crossed-length (all (tips t)) t u work (p .room)) (p .room);
         };
         few = omega (
           arith,
-          edge-splits-most (tips t) (crossed t u work) (length (parents u) - 1) (parents t),
-          edge-splits-most (tips t) (crossed t u work) 1 (parents u),
+          edge-splits-most (tips t) (crossedAll t u work) (length (parents u) - 1) (parents t),
+          edge-splits-most (tips t) (crossedAll t u work) 1 (parents u),
           long,
           long',
         );
-        fits = rw (first-is, second-is, common-is) (robinson-foulds-fits t u e);
+        fits = rw (first-is, second-is, common-is) (robinson-foulds-fits (all (tips t)) t u);
       }
 
-  split-accepted : counted (crossed t u work) (tips t) (parents t) (parents u) ≡ splitAnswer t u (length work)
+  split-accepted : counted (crossedAll t u work) (tips t) (parents t) (parents u) ≡ splitAnswer t u (length work)
   unfolding counted splitAnswer robinsonFoulds
   split-accepted = rw (first-is, second-is, common-is)
       (sym (if-accepted _ (splitsOfPair t u) _ (pair-check t u (length work) .1 p)))
