@@ -15,7 +15,9 @@ use Rattle.node_pairs.specs.theorems.CellsAlike.{apart-ext, pairS2-ext, pairS3-
 use Rattle.tree_check.specs.Table.{Table, tips, nodes, parents}
 use Rattle.tree_check.specs.lemmas.TableParts.{parents-length}
 use Rattle.tree_check.specs.IsTree.{IsTree}
+use Rattle.counting.specs.Labels.{Labels, Rising}
 use Rattle.counting.specs.ClaimSums.{size, crossing, S, S2, S3}
+use Rattle.counting.specs.theorems.LabelLaws.{rising-of}
 use Rattle.counting.specs.theorems.Degrees.{sizes-most}
 use Rattle.counting.specs.theorems.NodePairSums.{nodeTerm, pairTermS2, pairTermS3}
 use Rattle.counting.specs.theorems.NodePairSums.{S-over-nodes, S2-over-node-pairs, S3-over-node-pairs, cells-most}
@@ -62,43 +64,46 @@ sizes-few d s l = apart-few d _ l
 
 -- ---- these are the claim sums
 
-module _ (t u : Table) (work : List ℕ) (p : PairWithCells t u (length work)) where
+module _ (ks : Labels) (t u : Table) (work : List ℕ) (p : PairWithCells t u (length work)) (r : Rising (tips t) ks) where
   g : IsTree t
   g = p .pair .first
 
   h : IsTree u
   h = p .pair .second
 
+  ru : Rising (tips u) ks
+  ru = rising-of (tips t) (tips u) ks (p .pair .same-tips) r
+
   -- the first tree's nodes
   first-node : (v : ℕ) → v < nodes t
-      → nodeSum (crossed t u work) (nodes u - 1) (tips t) (parents t) v ≡ nodeTerm t (treeCodes t g) v
+      → nodeSum (crossed ks t u work) (nodes u - 1) (ks .number) (parents t) v ≡ nodeTerm ks t (treeCodes t g) v
   unfolding nodeSum sizesApart
   first-node zero l =
       let few = root-degree t g in sizes-few _ _ (omega arith) ∙ sym (apart-few _ _ (omega arith))
-  first-node (suc v) l = sizes-apart-ext _ _ (λ i. size t (codeInto (parents t) (suc v) i))
-      (first-size t u work p _ _ (node-codes t g (suc v) (omega arith) l))
+  first-node (suc v) l = sizes-apart-ext _ _ (λ i. size ks t (codeInto (parents t) (suc v) i))
+      (first-size ks t u work p r _ _ (node-codes t g (suc v) (omega arith) l))
 
   -- the second tree's
   second-node : (v : ℕ) → v < nodes u
-      → nodeSum (crossed t u work) 1 (tips t) (parents u) v ≡ nodeTerm u (treeCodes u h) v
+      → nodeSum (crossed ks t u work) 1 (ks .number) (parents u) v ≡ nodeTerm ks u (treeCodes u h) v
   unfolding nodeSum sizesApart
   second-node zero l =
       let few = root-degree u h in sizes-few _ _ (omega arith) ∙ sym (apart-few _ _ (omega arith))
-  second-node (suc v) l = sizes-apart-ext _ _ (λ i. size u (codeInto (parents u) (suc v) i))
-      (second-size t u work p _ _ (node-codes u h (suc v) (omega arith) l))
+  second-node (suc v) l = sizes-apart-ext _ _ (λ i. size ks u (codeInto (parents u) (suc v) i))
+      (second-size ks t u work p r _ _ (node-codes u h (suc v) (omega arith) l))
 
-  pub first-sum : sum (length (parents t)) (nodeSum (crossed t u work) (nodes u - 1) (tips t) (parents t)) ≡ 2 * S t
+  pub first-sum : sum (length (parents t)) (nodeSum (crossed ks t u work) (nodes u - 1) (ks .number) (parents t)) ≡ 2 * S ks t
   first-sum =
-      ap (λ (m : ℕ). sum m (nodeSum (crossed t u work) (nodes u - 1) (tips t) (parents t)))
+      ap (λ (m : ℕ). sum m (nodeSum (crossed ks t u work) (nodes u - 1) (ks .number) (parents t)))
       (parents-length t (g .words))
       ∙ sum-ext (nodes t) _ _ first-node
-      ∙ sym (S-over-nodes t (treeCodes t g) g)
+      ∙ sym (S-over-nodes ks t (treeCodes t g) g)
 
-  pub second-sum : sum (length (parents u)) (nodeSum (crossed t u work) 1 (tips t) (parents u)) ≡ 2 * S u
+  pub second-sum : sum (length (parents u)) (nodeSum (crossed ks t u work) 1 (ks .number) (parents u)) ≡ 2 * S ks u
   second-sum =
-      ap (λ (m : ℕ). sum m (nodeSum (crossed t u work) 1 (tips t) (parents u))) (parents-length u (h .words))
+      ap (λ (m : ℕ). sum m (nodeSum (crossed ks t u work) 1 (ks .number) (parents u))) (parents-length u (h .words))
       ∙ sum-ext (nodes u) _ _ second-node
-      ∙ sym (S-over-nodes u (treeCodes u h) h)
+      ∙ sym (S-over-nodes ks u (treeCodes u h) h)
 
   -- ---- pairs of nodes
 
@@ -109,15 +114,15 @@ module _ (t u : Table) (work : List ℕ) (p : PairWithCells t u (length work)) w
 
   pair-cells : (v v' : ℕ) → 1 ≤ v → v < nodes t → 1 ≤ v' → v' < nodes u
       → (i j : ℕ) → i < degreeAt (parents t) v → j < degreeAt (parents u) v'
-      → codeCell (crossed t u work) (nodes u - 1) (tips t) (edgeInto (parents t) v) (edgeInto (parents u) v') i j
-      ≡ crossing t u (codeInto (parents t) v i) (codeInto (parents u) v' j)
+      → codeCell (crossed ks t u work) (nodes u - 1) (ks .number) (edgeInto (parents t) v) (edgeInto (parents u) v') i j
+      ≡ crossing ks t u (codeInto (parents t) v i) (codeInto (parents u) v' j)
   pair-cells v v' l m l' m' =
-      code-cell t u work p _ _ (codeInto (parents t) v) (codeInto (parents u) v')
+      code-cell ks t u work p r _ _ (codeInto (parents t) v) (codeInto (parents u) v')
       (node-codes t g v l m) (node-codes u h v' l' m')
 
   same-pair : (v v' : ℕ) → v < nodes t → v' < nodes u
-      → pairSumS2 (crossed t u work) (nodes u - 1) (tips t) (parents t) (parents u) v v'
-      ≡ pairTermS2 t u (treeCodes t g) (treeCodes u h) v v'
+      → pairSumS2 (crossed ks t u work) (nodes u - 1) (ks .number) (parents t) (parents u) v v'
+      ≡ pairTermS2 ks t u (treeCodes t g) (treeCodes u h) v v'
   unfolding pairSumS2
   same-pair zero v' l m =
       let f = few-codes 0 v' (inl refl) in pairS2-few _ _ _ f ∙ sym (pairS2-few _ _ _ f)
@@ -127,8 +132,8 @@ module _ (t u : Table) (work : List ℕ) (p : PairWithCells t u (length work)) w
       pairS2-ext _ _ _ _ (pair-cells (suc v) (suc v') (omega arith) l (omega arith) m)
 
   different-pair : (v v' : ℕ) → v < nodes t → v' < nodes u
-      → pairSumS3 (crossed t u work) (nodes u - 1) (tips t) (parents t) (parents u) v v'
-      ≡ pairTermS3 t u (treeCodes t g) (treeCodes u h) v v'
+      → pairSumS3 (crossed ks t u work) (nodes u - 1) (ks .number) (parents t) (parents u) v v'
+      ≡ pairTermS3 ks t u (treeCodes t g) (treeCodes u h) v v'
   unfolding pairSumS3
   different-pair zero v' l m =
       let f = few-codes 0 v' (inl refl) in pairS3-few _ _ _ f ∙ sym (pairS3-few _ _ _ f)
@@ -144,30 +149,30 @@ module _ (t u : Table) (work : List ℕ) (p : PairWithCells t u (length work)) w
       ∙ sum-ext (nodes t) _ _ (λ v l. sum-ext (nodes u) _ _ (λ v' m. e v v' l m))
 
   pub same-sum : sum (length (parents t)) (λ v. sum (length (parents u))
-      (pairSumS2 (crossed t u work) (nodes u - 1) (tips t) (parents t) (parents u) v)) ≡ 2 * S2 t u
-  same-sum = all-pairs _ _ same-pair ∙ sym (S2-over-node-pairs t u (treeCodes t g) (treeCodes u h) g h)
+      (pairSumS2 (crossed ks t u work) (nodes u - 1) (ks .number) (parents t) (parents u) v)) ≡ 2 * S2 ks t u
+  same-sum = all-pairs _ _ same-pair ∙ sym (S2-over-node-pairs ks t u (treeCodes t g) (treeCodes u h) g h)
 
   pub different-sum : sum (length (parents t)) (λ v. sum (length (parents u))
-      (pairSumS3 (crossed t u work) (nodes u - 1) (tips t) (parents t) (parents u) v)) ≡ S3 t u
-  different-sum = all-pairs _ _ different-pair ∙ sym (S3-over-node-pairs t u (treeCodes t g) (treeCodes u h) g h)
+      (pairSumS3 (crossed ks t u work) (nodes u - 1) (ks .number) (parents t) (parents u) v)) ≡ S3 ks t u
+  different-sum = all-pairs _ _ different-pair ∙ sym (S3-over-node-pairs ks t u (treeCodes t g) (treeCodes u h) g h)
 
   -- ---- bounds
 
   pub first-whole : (v : ℕ) → 1 ≤ v → v < nodes t
-      → sum (degreeAt (parents t) v) (codeSize (crossed t u work) (nodes u - 1) (tips t) (edgeInto (parents t) v))
-      ≤ tips t
-  first-whole v l m = rw (sum-ext _ _ _ (first-size t u work p _ (codeInto (parents t) v) (node-codes t g v l m)))
-      (sizes-most t g v _ _ m (tree-lists t g v))
+      → sum (degreeAt (parents t) v) (codeSize (crossed ks t u work) (nodes u - 1) (ks .number) (edgeInto (parents t) v))
+      ≤ ks .number
+  first-whole v l m = rw (sum-ext _ _ _ (first-size ks t u work p r _ (codeInto (parents t) v) (node-codes t g v l m)))
+      (sizes-most t g ks r v _ _ m (tree-lists t g v))
 
   pub second-whole : (v : ℕ) → 1 ≤ v → v < nodes u
-      → sum (degreeAt (parents u) v) (codeSize (crossed t u work) 1 (tips t) (edgeInto (parents u) v)) ≤ tips u
-  second-whole v l m = rw (sum-ext _ _ _ (second-size t u work p _ (codeInto (parents u) v) (node-codes u h v l m)))
-      (sizes-most u h v _ _ m (tree-lists u h v))
+      → sum (degreeAt (parents u) v) (codeSize (crossed ks t u work) 1 (ks .number) (edgeInto (parents u) v)) ≤ ks .number
+  second-whole v l m = rw (sum-ext _ _ _ (second-size ks t u work p r _ (codeInto (parents u) v) (node-codes u h v l m)))
+      (sizes-most u h ks ru v _ _ m (tree-lists u h v))
 
   pub cells-whole : (v v' : ℕ) → 1 ≤ v → v < nodes t → 1 ≤ v' → v' < nodes u
       → sum (degreeAt (parents t) v) (λ i. sum (degreeAt (parents u) v')
-      (codeCell (crossed t u work) (nodes u - 1) (tips t) (edgeInto (parents t) v) (edgeInto (parents u) v') i))
-      ≤ tips t
+      (codeCell (crossed ks t u work) (nodes u - 1) (ks .number) (edgeInto (parents t) v) (edgeInto (parents u) v') i))
+      ≤ ks .number
   cells-whole v v' l m l' m' = rw (
       sum-ext _ _ _ (λ i li. sum-ext _ _ _ (λ j lj. pair-cells v v' l m l' m' i j li lj)))
-      (cells-most t u (treeCodes t g) (treeCodes u h) g h (p .pair .same-tips) v v' m m')
+      (cells-most ks t u (treeCodes t g) (treeCodes u h) g h (p .pair .same-tips) r v v' m m')

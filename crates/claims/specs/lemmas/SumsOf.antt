@@ -13,11 +13,13 @@ use Rattle.tree_check.specs.lemmas.TableParts.{parents-length}
 use Rattle.tree_check.specs.Refusals.{refusal}
 use Rattle.tree_check.specs.theorems.RefusalLaws.{if-accepted, if-refused}
 use Rattle.tree_check.specs.IsTree.{IsTree}
+use Rattle.counting.specs.Labels.{all}
+use Rattle.counting.specs.theorems.LabelLaws.{all-rising}
 use Rattle.counting.specs.ClaimSums.{S, S2, S3}
 use Rattle.counting.specs.theorems.QuartetTheorem.{quartet-theorem}
 use Rattle.pair_check.specs.PairOrder.{PairWithCells, pairOrder}
 use Rattle.pair_check.specs.theorems.PairCheck.{pair-check}
-use Rattle.tree_pairs.specs.Crossings.{crossed}
+use Rattle.tree_pairs.specs.Crossings.{crossedAll}
 use Rattle.claims.specs.ClaimAnswer.{sumsOfPair, refusedSums, claimAnswer}
 use Rattle.claims.specs.declared.totals.ClaimSums.{ClaimSums}
 use Rattle.claims.specs.lemmas.CodeCells.{Crossed, codeCell, row-start}
@@ -159,43 +161,43 @@ module _ (t u : Table) (work : List ℕ) (p : PairWithCells t u (length work)) w
   inner-second : (v : ℕ) → 3 ≤ degreeAt (parents u) v → 1 ≤ v
   inner-second v m = inner _ v m (λ e. rw e (root-degree u h))
 
-  pub summable : Summable (crossed t u work) (tips t) (parents t) (parents u)
+  pub summable : Summable (crossedAll t u work) (tips t) (parents t) (parents u)
   summable =
       let few = g .tips-range in
       let many = g .nodes-range in
       let more = h .nodes-range in
       let same = p .pair .same-tips in
-      let q = quartet-theorem t u g h same in record {
+      let q = quartet-theorem (all (tips t)) t u g h same (all-rising (tips t)) in record {
         first = tree-parents t g;
         second = tree-parents u h;
         some = (omega (arith, long), omega (arith, long'));
-        crossed = rw (long, long') (crossed-cells t u work p);
+        crossed = rw (long, long') (crossed-cells (all (tips t)) t u work p (all-rising (tips t)));
         first-few = λ v l. let d = degree-few t g v (omega (arith, long)) in omega arith;
         second-few = λ v l. let d = degree-few u h v (omega (arith, long')) in omega arith;
         first-whole = λ v l m.
-            let w = rw (← long') at (first-whole t u work p v (inner-first v m) (omega (arith, long))) in omega arith;
+            let w = rw (← long') at (first-whole (all (tips t)) t u work p (all-rising (tips t)) v (inner-first v m) (omega (arith, long))) in omega arith;
         second-whole = λ v l m.
-            let w = second-whole t u work p v (inner-second v m) (omega (arith, long')) in omega arith;
-        cells-whole = λ v v' l l' m m'. let w = rw (← long') at (cells-whole t u work p v v'
+            let w = second-whole (all (tips t)) t u work p (all-rising (tips t)) v (inner-second v m) (omega (arith, long')) in omega arith;
+        cells-whole = λ v v' l l' m m'. let w = rw (← long') at (cells-whole (all (tips t)) t u work p (all-rising (tips t)) v v'
             (inner-first v m) (omega (arith, long)) (inner-second v' m') (omega (arith, long'))) in omega arith;
-        first-most = rw (long', first-sum t u work p) (omega (arith, q .S-most));
-        second-most = rw (second-sum t u work p) (omega (arith, q .S'-most));
-        same-most = rw (long', same-sum t u work p) (omega (arith, q .S2-most));
-        different-most = rw (long', different-sum t u work p) (omega (arith, q .S3-most));
+        first-most = rw (long', first-sum (all (tips t)) t u work p (all-rising (tips t))) (omega (arith, q .S-most));
+        second-most = rw (second-sum (all (tips t)) t u work p (all-rising (tips t))) (omega (arith, q .S'-most));
+        same-most = rw (long', same-sum (all (tips t)) t u work p (all-rising (tips t))) (omega (arith, q .S2-most));
+        different-most = rw (long', different-sum (all (tips t)) t u work p (all-rising (tips t))) (omega (arith, q .S3-most));
       }
 
   halved : (a b : ℕ) → a ≡ 2 * b → a / 2 ≡ b
   halved a b e = omega arith
 
   -- the sums are the published ones
-  pub claims-accepted : summed (crossed t u work) (tips t) (parents t) (parents u) ≡ claimAnswer t u (length work)
+  pub claims-accepted : summed (crossedAll t u work) (tips t) (parents t) (parents u) ≡ claimAnswer t u (length work)
   unfolding summed claimAnswer
   claims-accepted = rw (
     long',
-    halved _ _ (first-sum t u work p),
-    halved _ _ (rw long' at (second-sum t u work p)),
-    halved _ _ (same-sum t u work p),
-    different-sum t u work p,
+    halved _ _ (first-sum (all (tips t)) t u work p (all-rising (tips t))),
+    halved _ _ (rw long' at (second-sum (all (tips t)) t u work p (all-rising (tips t)))),
+    halved _ _ (same-sum (all (tips t)) t u work p (all-rising (tips t))),
+    different-sum (all (tips t)) t u work p (all-rising (tips t)),
   )
       (sym (if-accepted _ (sumsOfPair t u) _ (pair-check t u (length work) .1 p)))
 

@@ -29,13 +29,16 @@ use Rattle.tree_check.specs.Refusals.{refusal}
 use Rattle.tree_check.specs.theorems.RefusalLaws.{if-accepted, if-refused}
 use Rattle.tree_check.specs.lemmas.TableParts.{parents-length}
 use Rattle.tree_check.specs.theorems.RootedTables.{rooted}
+use Rattle.counting.specs.Labels.{all}
+use Rattle.counting.specs.SplitCounts.{beyondAt}
+use Rattle.counting.specs.theorems.LabelLaws.{all-rising, all-of}
 use Rattle.counting.specs.Cases.{A, B, C, D, E, caseNumber}
 use Rattle.counting.specs.Triplets.{triplets}
 use Rattle.counting.specs.theorems.TreeShape.{shapeOf}
 use Rattle.counting.specs.theorems.TripletTheorem.{outgroup, triplets-in-shapes, triplets-total, all-triplets}
 use Rattle.pair_check.specs.PairOrder.{PairWithCells, pairOrder}
 use Rattle.pair_check.specs.theorems.PairCheck.{pair-check}
-use Rattle.tree_pairs.specs.Crossings.{edgeCrossing, crossed}
+use Rattle.tree_pairs.specs.Crossings.{edgeCrossing, crossedAll}
 use Rattle.tree_pairs.specs.theorems.CrossingLaws.{cell-of-edges, cell-inside, crossed-length}
 use Rattle.tree_pairs.specs.lemmas.CellSizes.{row-cell, column-cell}
 use Rattle.triplets.specs.declared.tables.TripletTable.{TripletTable}
@@ -84,13 +87,13 @@ module _ (t u : Table) (work : List ℕ) (p : PairWithCells t u (length work)) w
   e = p .pair .same-tips
 
   abbrev first : Shape (tips t)
-  first = shapeOf t g (tips t) refl
+  first = shapeOf t g (all (tips t)) (all-of (tips t) (tips t) refl)
 
   abbrev second : Shape (tips t)
-  second = shapeOf u h (tips t) (sym e)
+  second = shapeOf u h (all (tips t)) (all-of (tips t) (tips u) (sym e))
 
   abbrev cells : List ℕ
-  cells = crossed t u work
+  cells = crossedAll t u work
 
   long : length (parents t) ≡ nodes t
   long = parents-length t (g .words)
@@ -107,13 +110,13 @@ module _ (t u : Table) (work : List ℕ) (p : PairWithCells t u (length work)) w
       (omega arith, omega arith, omega arith, omega arith)
 
   -- the crossing of two edges
-  both-is : (i j : ℕ) → edgeCrossing t u i j ≡ beyondBoth first second i j
-  unfolding edgeCrossing beyond shapeOf
+  both-is : (i j : ℕ) → edgeCrossing (all (tips t)) t u i j ≡ beyondBoth first second i j
+  unfolding edgeCrossing beyond beyondAt shapeOf
   both-is i j = sum-cong (tips t) (λ x. bit-and (anc (parent t) i (nodeOf t x)) (anc (parent u) j (nodeOf u x)))
 
   cell-is : (i l : ℕ) → i < nodes t - 1 → l < nodes u - 1
       → cellAt cells (parents u) i l ≡ beyondBoth first second (suc i) (suc l)
-  cell-is i l li ll = rw long' (cell-of-edges t u work i l li ll ∙ both-is (suc i) (suc l))
+  cell-is i l li ll = rw long' (cell-of-edges (all (tips t)) t u work i l li ll ∙ both-is (suc i) (suc l))
 
   -- ---- the parents' rows and columns
 
@@ -158,7 +161,7 @@ module _ (t u : Table) (work : List ℕ) (p : PairWithCells t u (length work)) w
 
   both-few : (i j : ℕ) → beyondBoth first second i j ≤ 256
   both-few i j =
-      rw (← both-is i j) (unfold edgeCrossing in
+      rw (← both-is i j) (unfold edgeCrossing beyondAt in
       omega (arith, count-le (tips t) (λ x. beyond t i x && beyond u j x), g .tips-range .1))
 
   nested : (i l : ℕ) → suc i < nodes t - 1 → suc l < nodes u - 1
@@ -175,25 +178,27 @@ module _ (t u : Table) (work : List ℕ) (p : PairWithCells t u (length work)) w
       })
 
   -- a cell is at most the size of either edge
-  in-first : (i j : ℕ) → edgeCrossing t u i j ≤ count (tips t) (beyond t i)
-  unfolding edgeCrossing
+  in-first : (i j : ℕ) → edgeCrossing (all (tips t)) t u i j ≤ count (tips t) (beyond t i)
+  unfolding edgeCrossing beyondAt
   in-first i j = count-mono (tips t) _ _ (λ x l y. and-iff (beyond t i x) (beyond u j x) .0 y .0)
 
-  in-second : (i j : ℕ) → edgeCrossing t u i j ≤ count (tips t) (beyond u j)
-  unfolding edgeCrossing
+  in-second : (i j : ℕ) → edgeCrossing (all (tips t)) t u i j ≤ count (tips t) (beyond u j)
+  unfolding edgeCrossing beyondAt
   in-second i j = count-mono (tips t) _ _ (λ x l y. and-iff (beyond t i x) (beyond u j x) .0 y .1)
 
   row-size-is : (i : ℕ) → i < nodes t - 1 → word cells (i * (length (parents u) - 1)) ≡ count (tips t) (beyond t (suc i))
-  row-size-is i l = rw long' (row-cell t u g h e work i l)
+  unfolding beyondAt
+  row-size-is i l = rw long' (row-cell (all (tips t)) t u g h e (all-rising (tips t)) work i l)
 
   column-size-is : (l : ℕ) → l < nodes u - 1 → word cells l ≡ count (tips t) (beyond u (suc l))
-  column-size-is l m = column-cell t u g h e work l m
+  unfolding beyondAt
+  column-size-is l m = column-cell (all (tips t)) t u g h e (all-rising (tips t)) work l m
 
-  pub crossed-cells : CrossedCells (crossed t u work) (parents t) (parents u)
+  pub crossed-cells : CrossedCells (crossedAll t u work) (parents t) (parents u)
   crossed-cells = record {
     first = earlier-parents t g;
     second = earlier-parents u h;
-    inside = rw (long, long', crossed-length t u work (p .room)) (p .room);
+    inside = rw (long, long', crossed-length (all (tips t)) t u work (p .room)) (p .room);
     row-most = λ i l li ll.
         omega (
           arith,
@@ -234,14 +239,15 @@ module _ (t u : Table) (work : List ℕ) (p : PairWithCells t u (length work)) w
 
   first-up : (i : ℕ) → suc i < nodes t - 1
       → sizeAt cells (length (parents u) - 1) (aboveIn (parents t) (suc i)) ≡ count (tips t) (beyond t (parent t (suc (suc i))))
-  first-up i l = rw long' (size-above-row t u g h e work i l)
+  unfolding beyondAt
+  first-up i l = rw long' (size-above-row (all (tips t)) t u g h e (all-rising (tips t)) work i l)
 
-  pub first-sizes : SizeCells (crossed t u work) (length (parents u) - 1) (parents t)
+  pub first-sizes : SizeCells (crossedAll t u work) (length (parents u) - 1) (parents t)
   first-sizes = record {
     room = record {
       parents = earlier-parents t g;
       narrow = omega (arith, long', few);
-      inside = λ i l. rw (long', crossed-length t u work (p .room)) (inside i (omega (arith, long)));
+      inside = λ i l. rw (long', crossed-length (all (tips t)) t u work (p .room)) (inside i (omega (arith, long)));
     };
     low = low;
     most = λ i l. omega (arith, row-size-is i (omega (arith, long)), size-few t (suc i));
@@ -260,15 +266,15 @@ module _ (t u : Table) (work : List ℕ) (p : PairWithCells t u (length work)) w
         size-up t g (suc (suc i)) (omega arith),
       )
 
-  pub second-sizes : SizeCells (crossed t u work) 1 (parents u)
+  pub second-sizes : SizeCells (crossedAll t u work) 1 (parents u)
   second-sizes = record {
     room = record {
       parents = earlier-parents u h;
       narrow = omega arith;
-      inside = λ i l. rw (crossed-length t u work (p .room)) (inside i (omega (arith, long')));
+      inside = λ i l. rw (crossed-length (all (tips t)) t u work (p .room)) (inside i (omega (arith, long')));
     };
     low = low;
-    most = λ i l. omega (arith, size-of-column t u g h e work i (omega (arith, long')), size-few u (suc i));
+    most = λ i l. omega (arith, size-of-column (all (tips t)) t u g h e (all-rising (tips t)) work i (omega (arith, long')), size-few u (suc i));
   }
     where
       inside : (i : ℕ) → i < nodes u - 1 → i * 1 < length work
@@ -278,8 +284,8 @@ module _ (t u : Table) (work : List ℕ) (p : PairWithCells t u (length work)) w
       low zero a b = absurd (omega arith)
       low (suc i) a b = omega (
         arith,
-        size-of-column t u g h e work (suc i) (omega (arith, long')),
-        size-above-column t u g h e work i (omega (arith, long')),
+        size-of-column (all (tips t)) t u g h e (all-rising (tips t)) work (suc i) (omega (arith, long')),
+        size-above-column (all (tips t)) t u g h e (all-rising (tips t)) work i (omega (arith, long')),
         size-up u h (suc (suc i)) (omega arith),
       )
 
@@ -292,7 +298,7 @@ module _ (t u : Table) (work : List ℕ) (p : PairWithCells t u (length work)) w
   one-more k f = sum-cong k (λ i. ap f (add-one i))
 
   first-sum : edgeSum cells (length (parents u) - 1) (parents t) ≡ 2 * (triplets t u A + triplets t u B + triplets t u C)
-  unfolding edgeSum caseNumber shapeOf beyond
+  unfolding edgeSum caseNumber shapeOf beyond beyondAt
   first-sum =
       let s = triplets-in-shapes t u g h e in
       one-more (length (parents t) - 2)
@@ -304,14 +310,14 @@ module _ (t u : Table) (work : List ℕ) (p : PairWithCells t u (length work)) w
       ∙ sym (rw (s A, s B, s C) refl)
 
   second-sum : edgeSum cells 1 (parents u) ≡ 2 * (triplets t u A + triplets t u B + triplets t u D)
-  unfolding edgeSum caseNumber shapeOf beyond
+  unfolding edgeSum caseNumber shapeOf beyond beyondAt
   second-sum =
       let s = triplets-in-shapes t u g h e in
       one-more (length (parents u) - 2)
       (λ i. edgeTerm (sizeAt cells 1 i) (sizeAt cells 1 (aboveIn (parents u) i)))
       ∙ ap (λ (k : ℕ). sum k (λ i. edgeTerm (sizeAt cells 1 (suc i)) (sizeAt cells 1 (aboveIn (parents u) (suc i)))))
       (omega (arith, long'))
-      ∙ sum-ext (nodes u - 1 - 1) _ _ (λ i l. ap₂ edgeTerm (size-of-column t u g h e work (suc i) (omega arith)) (size-above-column t u g h e work i (omega arith)))
+      ∙ sum-ext (nodes u - 1 - 1) _ _ (λ i l. ap₂ edgeTerm (size-of-column (all (tips t)) t u g h e (all-rising (tips t)) work (suc i) (omega arith)) (size-above-column (all (tips t)) t u g h e (all-rising (tips t)) work i (omega arith)))
       ∙ counts .second
       ∙ sym (rw (s A, s B, s D) refl)
 
@@ -350,7 +356,7 @@ module _ (t u : Table) (work : List ℕ) (p : PairWithCells t u (length work)) w
   total : triplets t u A + triplets t u B + triplets t u C + triplets t u D + triplets t u E ≡ threes (tips t - 1)
   total = triplets-total t u g h e
 
-  pub countable : Countable (crossed t u work) (tips t) (parents t) (parents u)
+  pub countable : Countable (crossedAll t u work) (tips t) (parents t) (parents u)
   countable = record {
     cells = crossed-cells;
     first-sizes = first-sizes;
@@ -365,7 +371,7 @@ module _ (t u : Table) (work : List ℕ) (p : PairWithCells t u (length work)) w
     };
   }
 
-  pub triplets-accepted : counted (crossed t u work) (tips t) (parents t) (parents u) ≡ tripletAnswer t u (length work)
+  pub triplets-accepted : counted (crossedAll t u work) (tips t) (parents t) (parents u) ≡ tripletAnswer t u (length work)
   unfolding counted tripletAnswer
   triplets-accepted =
       formed-is (tips t) _ _ _ _ _ _ _ _ _ first-sum second-sum alike-sum apart-sum total
