@@ -267,6 +267,7 @@ module _ (t u : Table) (work : List ℕ) (p : PairWithCells t u (length work)) w
       )
 
   pub second-sizes : SizeCells (crossedAll t u work) 1 (parents u)
+  unfolding beyondAt
   second-sizes = record {
     room = record {
       parents = earlier-parents u h;
