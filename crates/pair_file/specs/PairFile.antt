@@ -7,6 +7,7 @@ use lib.Dec.{eqb, ltb}
 use lib.ListN.{length, take, drop}
 use Rattle.tree_check.specs.Table.{Table, tips, nodes}
 use Rattle.tree_check.specs.Refusals.{Rule, refusal, ifAccepted}
+use Rattle.counting.specs.Labels.{all}
 use Rattle.counting.specs.ClaimSums.{S, S2, S3}
 use Rattle.counting.specs.Cases.{A, B, C, D, E, quartets}
 use Rattle.counting.specs.SplitCounts.{splits, commonSplits, robinsonFoulds}
@@ -66,20 +67,20 @@ abbrev pub figuresOfPair : Table → Table → Figures
 figuresOfPair t u = record {
   refusal = 0;
   tips = tips t;
-  claims = record { first = S t; second = S u; same = S2 t u; different = S3 t u };
+  claims = record { first = S (all (tips t)) t; second = S (all (tips t)) u; same = S2 (all (tips t)) t u; different = S3 (all (tips t)) t u };
   quartets = record {
-    a = quartets t u A;
-    b = quartets t u B;
-    c = quartets t u C;
-    d = quartets t u D;
-    e = quartets t u E;
+    a = quartets (all (tips t)) t u A;
+    b = quartets (all (tips t)) t u B;
+    c = quartets (all (tips t)) t u C;
+    d = quartets (all (tips t)) t u D;
+    e = quartets (all (tips t)) t u E;
   };
-  distance = quartets t u B + quartets t u C + quartets t u D;
+  distance = quartets (all (tips t)) t u B + quartets (all (tips t)) t u C + quartets (all (tips t)) t u D;
   splits = record {
-    first = splits t;
-    second = splits u;
-    common = commonSplits t u;
-    distance = robinsonFoulds t u;
+    first = splits (all (tips t)) t;
+    second = splits (all (tips t)) u;
+    common = commonSplits (all (tips t)) t u;
+    distance = robinsonFoulds (all (tips t)) t u;
   };
   triplets = record {
     a = triplets t u A;

@@ -6,6 +6,7 @@ use Prim.Native.Nat.{ℕ, _+_, _*_, _-_, _/_, _%_, _≤_}
 use Rattle.sums.specs.Fours.{fours}
 use Rattle.tree_check.specs.Table.{Table, tips}
 use Rattle.tree_check.specs.Refusals.{refusal, ifAccepted}
+use Rattle.counting.specs.Labels.{all}
 use Rattle.counting.specs.ClaimSums.{S, S2, S3}
 use Rattle.counting.specs.Cases.{A, B, C, D, E, quartets}
 use Rattle.counting.specs.QuartetTable.{formulaA, formulaB, formulaC, formulaD, formulaE}
@@ -19,12 +20,12 @@ use Rattle.quartets.specs.declared.tables.QuartetTable.{QuartetTable}
 abbrev pub casesOfPair : Table → Table → QuartetTable
 casesOfPair t u = record {
   refusal = 0;
-  a = quartets t u A;
-  b = quartets t u B;
-  c = quartets t u C;
-  d = quartets t u D;
-  e = quartets t u E;
-  distance = quartets t u B + quartets t u C + quartets t u D;
+  a = quartets (all (tips t)) t u A;
+  b = quartets (all (tips t)) t u B;
+  c = quartets (all (tips t)) t u C;
+  d = quartets (all (tips t)) t u D;
+  e = quartets (all (tips t)) t u E;
+  distance = quartets (all (tips t)) t u B + quartets (all (tips t)) t u C + quartets (all (tips t)) t u D;
 }
 
 -- the number of a refused pair, with zeros
@@ -44,29 +45,29 @@ pub record DemandThree (t u : Table) (cells : ℕ) (r : QuartetTable) : Type 0 w
   pub refused : r .refusal ≢ 0 → (r .a ≡ 0) × (r .b ≡ 0) × (r .c ≡ 0) × (r .d ≡ 0) × (r .e ≡ 0) × (r .distance ≡ 0)
   -- the table is formed from the four claim sums and n, and from nothing else, by the five formulas
   pub formulas : PairWithCells t u cells
-      → (r .a ≡ formulaA (S2 t u))
-      × (r .b ≡ formulaB (S3 t u))
-      × (r .c ≡ formulaC (S t) (S2 t u) (S3 t u))
-      × (r .d ≡ formulaD (S u) (S2 t u) (S3 t u))
-      × (r .e ≡ formulaE (tips t) (S t) (S u) (S2 t u) (S3 t u))
+      → (r .a ≡ formulaA (S2 (all (tips t)) t u))
+      × (r .b ≡ formulaB (S3 (all (tips t)) t u))
+      × (r .c ≡ formulaC (S (all (tips t)) t) (S2 (all (tips t)) t u) (S3 (all (tips t)) t u))
+      × (r .d ≡ formulaD (S (all (tips t)) u) (S2 (all (tips t)) t u) (S3 (all (tips t)) t u))
+      × (r .e ≡ formulaE (tips t) (S (all (tips t)) t) (S (all (tips t)) u) (S2 (all (tips t)) t u) (S3 (all (tips t)) t u))
   -- each of A to E is the number of sets of four whose two topologies put them in that case
   pub counts : PairWithCells t u cells
-      → (r .a ≡ quartets t u A)
-      × (r .b ≡ quartets t u B)
-      × (r .c ≡ quartets t u C)
-      × (r .d ≡ quartets t u D)
-      × (r .e ≡ quartets t u E)
+      → (r .a ≡ quartets (all (tips t)) t u A)
+      × (r .b ≡ quartets (all (tips t)) t u B)
+      × (r .c ≡ quartets (all (tips t)) t u C)
+      × (r .d ≡ quartets (all (tips t)) t u D)
+      × (r .e ≡ quartets (all (tips t)) t u E)
   -- no division leaves a remainder: the halves, the quarter, and all sets of four by 24
   pub exact : PairWithCells t u cells
-      → (S t % 2 ≡ 0) × (S u % 2 ≡ 0) × (S2 t u % 2 ≡ 0) × (S3 t u % 4 ≡ 0)
+      → (S (all (tips t)) t % 2 ≡ 0) × (S (all (tips t)) u % 2 ≡ 0) × (S2 (all (tips t)) t u % 2 ≡ 0) × (S3 (all (tips t)) t u % 4 ≡ 0)
       × (tips t * (tips t - 1) * (tips t - 2) * (tips t - 3) % 24 ≡ 0)
   -- nothing wraps: the sums and the counts are at most these, and no subtraction is cut off at 0
   pub fits : PairWithCells t u cells
-      → (S t ≤ 349585280) × (S u ≤ 349585280) × (S2 t u ≤ 349585280) × (S3 t u ≤ 699170560)
+      → (S (all (tips t)) t ≤ 349585280) × (S (all (tips t)) u ≤ 349585280) × (S2 (all (tips t)) t u ≤ 349585280) × (S3 (all (tips t)) t u ≤ 699170560)
       × (r .a ≤ 174792640) × (r .b ≤ 174792640) × (r .c ≤ 174792640) × (r .d ≤ 174792640) × (r .e ≤ 174792640)
-      × (r .a + r .b ≤ S t / 2) × (r .a + r .b ≤ S u / 2) × (r .a + r .b + r .c + r .d ≤ fours (tips t))
+      × (r .a + r .b ≤ S (all (tips t)) t / 2) × (r .a + r .b ≤ S (all (tips t)) u / 2) × (r .a + r .b + r .c + r .d ≤ fours (tips t))
   -- the five add up to all sets of four
   pub total : PairWithCells t u cells → r .a + r .b + r .c + r .d + r .e ≡ fours (tips t)
   -- the distance B + C + D is 0 exactly if the two trees have the same splits
   pub distance : PairWithCells t u cells → r .distance ≡ r .b + r .c + r .d
-  pub zero-distance : PairWithCells t u cells → (r .distance ≡ 0) ↔ HaveSameSplits t u
+  pub zero-distance : PairWithCells t u cells → (r .distance ≡ 0) ↔ HaveSameSplits (all (tips t)) t u

@@ -8,11 +8,12 @@ use lib.IntN.{pos}
 use lib.ListN.{length}
 use mathlib.Core.Bool.{false}
 use lib.Ieee.{Float, fin}
-use Rattle.tree_check.specs.Table.{Table}
+use Rattle.tree_check.specs.Table.{Table, tips}
 use Rattle.tree_check.specs.Refusals.{Rule, refusal, ifAccepted}
+use Rattle.counting.specs.Labels.{all}
 use Rattle.counting.specs.Cases.{B, C, D, quartets}
 use Rattle.pair_check.specs.PairOrder.{pairOrder}
-use Rattle.tree_pairs.specs.Crossings.{crossed}
+use Rattle.tree_pairs.specs.Crossings.{crossedAll}
 use Rattle.weights.specs.declared.weight.Weight.{Weight}
 use Rattle.weights.specs.declared.distances.WeightedDistance.{WeightedDistance}
 use Rattle.weights.specs.Weights.{over256, pOf, numeratorOf}
@@ -29,7 +30,7 @@ weightedOrder t u cells w = pairOrder t u cells ++ fractionOrder (pOf w)
 abbrev pub weightedOfPair : Table → Table → Weight → WeightedDistance
 weightedOfPair t u w = record {
   refusal = 0;
-  distance = over256 (256 * quartets t u B + numeratorOf (pOf w) * (quartets t u C + quartets t u D));
+  distance = over256 (256 * quartets (all (tips t)) t u B + numeratorOf (pOf w) * (quartets (all (tips t)) t u C + quartets (all (tips t)) t u D));
 }
 
 -- the number of a refused call, with zero
@@ -42,4 +43,4 @@ weightedAnswer t u cells w =
 
 -- the cells after the call; a refusal, 30 as any other, leaves every cell as it was
 unfoldable pub afterWeighted : Table → Table → Weight → List ℕ → List ℕ
-afterWeighted t u w work = ifAccepted (refusal (weightedOrder t u (length work) w)) (crossed t u work) work
+afterWeighted t u w work = ifAccepted (refusal (weightedOrder t u (length work) w)) (crossedAll t u work) work

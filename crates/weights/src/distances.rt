@@ -14,7 +14,7 @@ ghost use lib.ListN.{length};
 ghost use Rattle.tree_check.specs.Refusals.{refusal};
 ghost use Rattle.counting.specs.Cases.{B, C, D, quartets as Cases·quartets};
 ghost use Rattle.pair_check.specs.PairOrder.{PairWithCells};
-ghost use Rattle.tree_pairs.specs.Crossings.{crossed};
+ghost use Rattle.tree_pairs.specs.Crossings.{crossedAll};
 ghost use Rattle.weights.specs.Weights.{over256, numeratorOf};
 ghost use Rattle.weights.specs.WeightedAnswer.{fractionOrder, weightedAnswer, afterWeighted};
 
@@ -39,10 +39,10 @@ fn weigh_table(first: &[u16], second: &[u16], work: &mut [Cell], p: f64) -> f64
     requires { ⌜ PairWithCells (now first) (now second) (length (now work)) × (numeratorOf p ≤ 256) ⌝ }
     ensures { λ r. ⌜
         (r
-        ≡ over256 (256 * Cases·quartets (now (first .entry)) (now (second .entry)) B
-        + numeratorOf p * (Cases·quartets (now (first .entry)) (now (second .entry)) C
-        + Cases·quartets (now (first .entry)) (now (second .entry)) D)))
-        × (now (work .exit) ≡ crossed (now (first .entry)) (now (second .entry)) (now (work .entry)))
+        ≡ over256 (256 * Cases·quartets (all (tips (now (first .entry)))) (now (first .entry)) (now (second .entry)) B
+        + numeratorOf p * (Cases·quartets (all (tips (now (first .entry)))) (now (first .entry)) (now (second .entry)) C
+        + Cases·quartets (all (tips (now (first .entry)))) (now (first .entry)) (now (second .entry)) D)))
+        × (now (work .exit) ≡ crossedAll (now (first .entry)) (now (second .entry)) (now (work .entry)))
         ⌝ }
 {
     let table = quartet_table(first, second, work);

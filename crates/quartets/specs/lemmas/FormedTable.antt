@@ -9,6 +9,7 @@ use Rattle.sums.specs.Fours.{fours}
 use Rattle.tree_check.specs.Table.{Table, tips}
 use Rattle.tree_check.specs.Refusals.{refusal}
 use Rattle.tree_check.specs.theorems.RefusalLaws.{if-accepted}
+use Rattle.counting.specs.Labels.{all}
 use Rattle.counting.specs.ClaimSums.{S, S2, S3}
 use Rattle.counting.specs.Cases.{A, B, C, D, E, quartets}
 use Rattle.counting.specs.QuartetTable.{formulaA, formulaB, formulaC, formulaD, formulaE, formulaDistance}
@@ -65,17 +66,17 @@ table-formed n s s' s2 s3 all e = rw e refl
 -- the claim sums of a pair
 module _ (t u : Table) (cells : ℕ) (p : PairWithCells t u cells) (r : ClaimSums) (e : r ≡ claimAnswer t u cells)
     (n : ℕ) (en : n ≡ tips t) where
-  h : QuartetTheorem t u
+  h : QuartetTheorem (all (tips t)) t u
   h = theorem t u cells p
 
-  sums-are : (r .first ≡ S t) × (r .second ≡ S u) × (r .same ≡ S2 t u) × (r .different ≡ S3 t u)
+  sums-are : (r .first ≡ S (all (tips t)) t) × (r .second ≡ S (all (tips t)) u) × (r .same ≡ S2 (all (tips t)) t u) × (r .different ≡ S3 (all (tips t)) t u)
   unfolding claimAnswer
   sums-are = rw (e, if-accepted _ (sumsOfPair t u) _ (pair-check t u cells .1 p)) (refl, refl, refl, refl)
 
   pub sums-fit : TableFits n (r .first) (r .second) (r .same) (r .different)
   sums-fit = let k = sums-are in rw (en, k .0, k .1, k .2, k .3) own
     where
-      own : TableFits (tips t) (S t) (S u) (S2 t u) (S3 t u)
+      own : TableFits (tips t) (S (all (tips t)) t) (S (all (tips t)) u) (S2 (all (tips t)) t u) (S3 (all (tips t)) t u)
       own = unfold formulaA formulaB formulaC in record {
         tips-few = p .pair .first .tips-range .1;
         S-most = h .S-most;
@@ -90,7 +91,7 @@ module _ (t u : Table) (cells : ℕ) (p : PairWithCells t u cells) (r : ClaimSum
   unfolding formed
   table-counts = let k = sums-are in rw (en, k .0, k .1, k .2, k .3) counted
     where
-      counted : formed (tips t) (S t) (S u) (S2 t u) (S3 t u) ≡ quartetAnswer t u cells
+      counted : formed (tips t) (S (all (tips t)) t) (S (all (tips t)) u) (S2 (all (tips t)) t u) (S3 (all (tips t)) t u) ≡ quartetAnswer t u cells
       counted =
           rw (h .A-counts, h .B-counts, h .C-counts, h .D-counts, h .E-counts, h .distance-counts)
           (sym (accepted t u cells p))

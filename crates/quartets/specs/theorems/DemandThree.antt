@@ -4,9 +4,11 @@ use mathlib.Core.Path.{_≡_, refl, sym, _∙_}
 use mathlib.Core.Logic.{_≢_}
 use Prim.Native.Nat.{ℕ, zero, suc, _+_, _*_, _-_, _%_}
 use native.Mathlib.Omega.{arith}
-use Rattle.tree_check.specs.Table.{Table}
+use Rattle.tree_check.specs.Table.{Table, tips}
 use Rattle.tree_check.specs.Refusals.{refusal, ifAccepted}
 use Rattle.tree_check.specs.theorems.RefusalLaws.{if-accepted, if-refused}
+use Rattle.counting.specs.Labels.{all}
+use Rattle.counting.specs.theorems.LabelLaws.{all-rising}
 use Rattle.counting.specs.Cases.{A, B, C, D, E, quartets}
 use Rattle.counting.specs.theorems.QuartetTheorem.{QuartetTheorem, quartet-theorem}
 use Rattle.pair_check.specs.PairOrder.{PairWithCells, pairOrder}
@@ -23,8 +25,8 @@ module _ (t u : Table) (cells : ℕ) where
   unfolding quartetAnswer
   refused d = if-refused _ _ _ d
 
-  pub theorem : PairWithCells t u cells → QuartetTheorem t u
-  theorem p = quartet-theorem t u (p .pair .first) (p .pair .second) (p .pair .same-tips)
+  pub theorem : PairWithCells t u cells → QuartetTheorem (all (tips t)) t u
+  theorem p = quartet-theorem (all (tips t)) t u (p .pair .first) (p .pair .second) (p .pair .same-tips) (all-rising (tips t))
 
   own-number : (k : ℕ) → ifAccepted k (casesOfPair t u) (refusedTable k) .refusal ≡ k
   unfolding ifAccepted

@@ -11,10 +11,12 @@ use Rattle.sums.specs.Fours.{fours}
 use Rattle.tree_check.specs.Table.{Table, tips}
 use Rattle.tree_check.specs.Refusals.{refusal}
 use Rattle.tree_check.specs.theorems.RefusalLaws.{if-accepted, if-refused, refusal-none, refusal-here, refusal-next}
+use Rattle.counting.specs.Labels.{all}
+use Rattle.counting.specs.theorems.LabelLaws.{all-rising}
 use Rattle.counting.specs.Cases.{B, C, D, quartets}
 use Rattle.counting.specs.theorems.QuartetTheorem.{quartet-theorem}
 use Rattle.pair_check.specs.PairOrder.{pairOrder, PairWithCells}
-use Rattle.tree_pairs.specs.Crossings.{crossed}
+use Rattle.tree_pairs.specs.Crossings.{crossedAll}
 use Rattle.weights.specs.declared.weight.Weight.{Weight}
 use Rattle.weights.specs.Weights.{over256, pOf, numeratorOf}
 use Rattle.weights.specs.WeightedAnswer.{fractionOrder, weightedOrder, weightedOfPair, refusedWeight, weightedAnswer, afterWeighted}
@@ -33,7 +35,7 @@ a-fraction p d = sym (refusal-next 30 _ _ (ne-eqb (numeratorOf p) 257 d) ∙ ref
 -- ---- the counts
 
 pub fours-few : (t u : Table) (cells : ℕ) → PairWithCells t u cells → fours (tips t) ≤ 174792640
-fours-few t u cells p = quartet-theorem t u (p .pair .first) (p .pair .second) (p .pair .same-tips) .all-most
+fours-few t u cells p = quartet-theorem (all (tips t)) t u (p .pair .first) (p .pair .second) (p .pair .same-tips) (all-rising (tips t)) .all-most
 
 pub weighed-counts : (k b c d b' c' d' : ℕ) → b ≡ b' → c ≡ c' → d ≡ d'
     → over256 (256 * b + k * (c + d)) ≡ over256 (256 * b' + k * (c' + d'))
@@ -64,7 +66,7 @@ module _ (t u : Table) (work : List ℕ) (w : Weight) where
     fraction-fits z = rw ep (fraction-check w .0 (ap (λ (x : Float). refusal (fractionOrder x)) (sym ep) ∙ sym ek ∙ z))
 
     pub weighed : k ≡ 0 → (r : Float) (new : List ℕ)
-        → r ≡ over256 (256 * quartets t u B + numeratorOf p * (quartets t u C + quartets t u D)) → new ≡ crossed t u work
+        → r ≡ over256 (256 * quartets (all (tips t)) t u B + numeratorOf p * (quartets (all (tips t)) t u C + quartets (all (tips t)) t u D)) → new ≡ crossedAll t u work
         → (record { refusal = k; distance = r } ≡ weightedAnswer t u (length work) w) × (new ≡ afterWeighted t u w work)
     unfolding weightedAnswer afterWeighted
     weighed z r new er en = (

@@ -16,9 +16,11 @@ use lib.Ieee.Order.{round-mono}
 use lib.Ieee.Scale.{round-same}
 use borrow.Author.Tests.{eq-eqb, ne-eqb}
 use Rattle.sums.specs.theorems.TestLaws.{not-lt-iff}
-use Rattle.tree_check.specs.Table.{Table}
+use Rattle.tree_check.specs.Table.{Table, tips}
 use Rattle.tree_check.specs.Refusals.{refusal}
 use Rattle.tree_check.specs.theorems.RefusalLaws.{Kept, refusal-none, refusal-here, refusal-next, refusal-first, refusal-kept, kept-append}
+use Rattle.counting.specs.Labels.{all}
+use Rattle.counting.specs.theorems.LabelLaws.{all-rising}
 use Rattle.counting.specs.Cases.{B, C, D, quartets}
 use Rattle.counting.specs.theorems.QuartetTheorem.{quartet-theorem}
 use Rattle.pair_check.specs.PairOrder.{tablesOrder, workOrder, pairOrder, PairWithCells}
@@ -84,17 +86,17 @@ full-is-256 = numerator-iff (pOf Full) 256 (omega arith) .1 (record {
 -- ---- the answer is exact, and never minus zero
 
 module _ (t u : Table) (cells : ℕ) (p : PairWithCells t u cells) (w : Weight) (l : numeratorOf (pOf w) ≤ 256) where
-  few : (quartets t u B ≤ 174792640) × (quartets t u C + quartets t u D ≤ 174792640)
+  few : (quartets (all (tips t)) t u B ≤ 174792640) × (quartets (all (tips t)) t u C + quartets (all (tips t)) t u D ≤ 174792640)
   few =
-      let q = quartet-theorem t u (p .pair .first) (p .pair .second) (p .pair .same-tips) in
+      let q = quartet-theorem (all (tips t)) t u (p .pair .first) (p .pair .second) (p .pair .same-tips) (all-rising (tips t)) in
       (q .count-most B, omega (arith, q .total, q .all-most, q .C-counts, q .D-counts))
 
   -- 256 times the answer is 256 · B + k · (C + D), and its sign is plus
   pub weighted-exact : HasValue (weightedOfPair t u w .distance) false
-      (256 * quartets t u B + numeratorOf (pOf w) * (quartets t u C + quartets t u D)) 256
-  weighted-exact = over-256-exact _ (lt-of-lt-of-le (low _ (mul-le-mul-right (quartets t u C + quartets t u D) l)) (lit≤ tt))
+      (256 * quartets (all (tips t)) t u B + numeratorOf (pOf w) * (quartets (all (tips t)) t u C + quartets (all (tips t)) t u D)) 256
+  weighted-exact = over-256-exact _ (lt-of-lt-of-le (low _ (mul-le-mul-right (quartets (all (tips t)) t u C + quartets (all (tips t)) t u D) l)) (lit≤ tt))
     where
-      low : (x : ℕ) → x ≤ 256 * (quartets t u C + quartets t u D) → 256 * quartets t u B + x < 89493831681
+      low : (x : ℕ) → x ≤ 256 * (quartets (all (tips t)) t u C + quartets (all (tips t)) t u D) → 256 * quartets (all (tips t)) t u B + x < 89493831681
       low x h = omega (arith, few)
 
 -- ---- nothing gives B, full the distance, and the weighted distance grows with k
@@ -103,22 +105,22 @@ nothing : (b c k : ℕ) → k ≡ 0 → over256 (256 * b + k * c) ≡ ofInt bina
 unfolding ofInt
 nothing b c k e = round-same binary64 false (256 * b + k * c) 256 b 1 (lit< tt) (lit< tt) (rw e (omega arith))
 
-pub none-gives-B : (t u : Table) → weightedOfPair t u None .distance ≡ ofInt binary64 (pos (quartets t u B))
-none-gives-B t u = nothing (quartets t u B) (quartets t u C + quartets t u D) (numeratorOf (pOf None)) none-is-0
+pub none-gives-B : (t u : Table) → weightedOfPair t u None .distance ≡ ofInt binary64 (pos (quartets (all (tips t)) t u B))
+none-gives-B t u = nothing (quartets (all (tips t)) t u B) (quartets (all (tips t)) t u C + quartets (all (tips t)) t u D) (numeratorOf (pOf None)) none-is-0
 
 all : (b c k : ℕ) → k ≡ 256 → over256 (256 * b + k * c) ≡ ofInt binary64 (pos (b + c))
 unfolding ofInt
 all b c k e = round-same binary64 false (256 * b + k * c) 256 (b + c) 1 (lit< tt) (lit< tt) (rw e (omega arith))
 
 pub full-gives-distance : (t u : Table)
-    → weightedOfPair t u Full .distance ≡ ofInt binary64 (pos (quartets t u B + (quartets t u C + quartets t u D)))
-full-gives-distance t u = all (quartets t u B) (quartets t u C + quartets t u D) (numeratorOf (pOf Full)) full-is-256
+    → weightedOfPair t u Full .distance ≡ ofInt binary64 (pos (quartets (all (tips t)) t u B + (quartets (all (tips t)) t u C + quartets (all (tips t)) t u D)))
+full-gives-distance t u = all (quartets (all (tips t)) t u B) (quartets (all (tips t)) t u C + quartets (all (tips t)) t u D) (numeratorOf (pOf Full)) full-is-256
 
 pub grows-with-k : (t u : Table) (w w' : Weight) → numeratorOf (pOf w) ≤ numeratorOf (pOf w')
     → T (le (weightedOfPair t u w .distance) (weightedOfPair t u w' .distance))
 grows-with-k t u w w' l =
     round-mono binary64 _ 256 _ 256 (lit< tt) (lit< tt)
-    (mul-le-mul-right 256 (more _ _ (mul-le-mul-right (quartets t u C + quartets t u D) l)))
+    (mul-le-mul-right 256 (more _ _ (mul-le-mul-right (quartets (all (tips t)) t u C + quartets (all (tips t)) t u D) l)))
   where
-    more : (x y : ℕ) → x ≤ y → 256 * quartets t u B + x ≤ 256 * quartets t u B + y
+    more : (x y : ℕ) → x ≤ y → 256 * quartets (all (tips t)) t u B + x ≤ 256 * quartets (all (tips t)) t u B + y
     more x y h = omega arith
