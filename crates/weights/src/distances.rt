@@ -12,6 +12,8 @@ ghost use mathlib.Core.Path.{_≡_};
 ghost use Prim.Native.Nat.{_+_, _*_, _≤_};
 ghost use lib.ListN.{length};
 ghost use Rattle.tree_check.specs.Refusals.{refusal};
+ghost use Rattle.tree_check.specs.Table.{tips};
+ghost use Rattle.counting.specs.Labels.{all};
 ghost use Rattle.counting.specs.Cases.{B, C, D, quartets as Cases·quartets};
 ghost use Rattle.pair_check.specs.PairOrder.{PairWithCells};
 ghost use Rattle.tree_pairs.specs.Crossings.{crossedAll};

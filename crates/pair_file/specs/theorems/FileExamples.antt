@@ -20,8 +20,8 @@ use Rattle.tree_check.specs.TreeOrder.{tipsFit, nodesFit, parentFits, labelFits
 use Rattle.tree_check.specs.TreeOrder.{isChild, children, misplaced, arraysOrder, treeOrder}
 use Rattle.trees.specs.Topology.{butterfly, partner, named, topology}
 use Rattle.counting.specs.ClaimSums.{codes, behindEdge, size, crossing, S, S2, S3}
-use Rattle.counting.specs.Cases.{caseOf, caseNumber, isCase, quartets}
-use Rattle.counting.specs.SplitCounts.{splits, commonSplits, robinsonFoulds}
+use Rattle.counting.specs.Cases.{caseOf, caseNumber, isCase, topologyAt, quartets}
+use Rattle.counting.specs.SplitCounts.{beyondAt, splits, commonSplits, robinsonFoulds}
 use Rattle.counting.specs.Triplets.{together, triplet, triplets}
 use Rattle.pair_check.specs.PairOrder.{plus, tipsOrder, tablesOrder, workOrder, pairOrder}
 use Rattle.pair_file.specs.PairFile.{fileWords, firstLength, firstTable, secondTable, wordsOrder, fileOrder}
@@ -49,8 +49,8 @@ unfolding
     comparison figuresOf fileOrder wordsOrder fileWords firstTable secondTable firstLength refusal ifAccepted
     pairOrder tablesOrder tipsOrder workOrder plus treeOrder arraysOrder tipsFit nodesFit parentFits labelFits standing labelsFit labelsOnce
     isChild children misplaced
-    S S2 S3 codes behindEdge size crossing sumClaims sumClaimsOf sumIf meet choose2 quartets isCase caseNumber
-    caseOf splits commonSplits robinsonFoulds splitsOf commonOf isNewSplit isSplit sameSides occurs
+    S S2 S3 codes behindEdge size crossing sumClaims sumClaimsOf sumIf meet choose2 quartets topologyAt isCase caseNumber
+    caseOf beyondAt splits commonSplits robinsonFoulds splitsOf commonOf isNewSplit isSplit sameSides occurs
     triplets triplet together resolved lowest lastBelow
     topology named partner butterfly parts parted sets2 sets3 sets4 sum bit some every
     ancIn anc edge rising head behind tips nodes parents labels parent label nodeBelow nodeOf beyond

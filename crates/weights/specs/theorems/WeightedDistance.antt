@@ -108,13 +108,13 @@ nothing b c k e = round-same binary64 false (256 * b + k * c) 256 b 1 (lit< tt) 
 pub none-gives-B : (t u : Table) → weightedOfPair t u None .distance ≡ ofInt binary64 (pos (quartets (all (tips t)) t u B))
 none-gives-B t u = nothing (quartets (all (tips t)) t u B) (quartets (all (tips t)) t u C + quartets (all (tips t)) t u D) (numeratorOf (pOf None)) none-is-0
 
-all : (b c k : ℕ) → k ≡ 256 → over256 (256 * b + k * c) ≡ ofInt binary64 (pos (b + c))
+everything : (b c k : ℕ) → k ≡ 256 → over256 (256 * b + k * c) ≡ ofInt binary64 (pos (b + c))
 unfolding ofInt
-all b c k e = round-same binary64 false (256 * b + k * c) 256 (b + c) 1 (lit< tt) (lit< tt) (rw e (omega arith))
+everything b c k e = round-same binary64 false (256 * b + k * c) 256 (b + c) 1 (lit< tt) (lit< tt) (rw e (omega arith))
 
 pub full-gives-distance : (t u : Table)
     → weightedOfPair t u Full .distance ≡ ofInt binary64 (pos (quartets (all (tips t)) t u B + (quartets (all (tips t)) t u C + quartets (all (tips t)) t u D)))
-full-gives-distance t u = all (quartets (all (tips t)) t u B) (quartets (all (tips t)) t u C + quartets (all (tips t)) t u D) (numeratorOf (pOf Full)) full-is-256
+full-gives-distance t u = everything (quartets (all (tips t)) t u B) (quartets (all (tips t)) t u C + quartets (all (tips t)) t u D) (numeratorOf (pOf Full)) full-is-256
 
 pub grows-with-k : (t u : Table) (w w' : Weight) → numeratorOf (pOf w) ≤ numeratorOf (pOf w')
     → T (le (weightedOfPair t u w .distance) (weightedOfPair t u w' .distance))
