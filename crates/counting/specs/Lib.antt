@@ -1,4 +1,5 @@
 pub mod Labels
+pub mod Kept
 pub mod ClaimSums
 pub mod Cases
 pub mod QuartetTable

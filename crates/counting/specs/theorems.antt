@@ -4,6 +4,7 @@ pub mod Degrees
 pub mod EdgeClaims
 pub mod EdgesAsSplits
 pub mod FiveFormulas
+pub mod KeptLaws
 pub mod LabelLaws
 pub mod NewSplits
 pub mod NodePairSums

@@ -1,0 +1,25 @@
+-- The labels that marks keep, by rank (docs/SPECIFICATION.md, 'Kept labels').
+-- Assumes nothing.
+use mathlib.Core.Bool.{Bool, true, false}
+use mathlib.Core.List.{List}
+use Prim.Native.Nat.{ℕ, zero, suc}
+use lib.Dec.{eqb}
+use Rattle.sums.specs.Counts.{count}
+use Rattle.tree_check.specs.Table.{word}
+use Rattle.counting.specs.Labels.{Labels}
+
+-- the label x is kept: its mark is 1
+unfoldable pub isKept : List ℕ → ℕ → Bool
+isKept marks x = eqb (word marks x) 1
+
+-- the kept label of rank i, of the labels below n
+unfoldable pub keptAt : (ℕ → Bool) → ℕ → ℕ → ℕ
+keptAt q zero i = 0
+keptAt q (suc n) i = elim (q n) [
+  | true ↦ elim (eqb (count n q) i) [ true ↦ n | false ↦ keptAt q n i ]
+  | false ↦ keptAt q n i
+]
+
+-- those of n labels that marks keep
+abbrev pub kept : List ℕ → ℕ → Labels
+kept marks n = record { number = count n (isKept marks); at = keptAt (isKept marks) n }

@@ -1,0 +1,138 @@
+-- Kept labels: each rank below their number is that of one kept label, in rising order; a sum over ranks is a sum over kept
+-- labels; and where all are kept, a label is its own rank.
+-- Assumes nothing.
+use mathlib.Core.Path.{_≡_, refl, sym, _∙_, ap}
+use mathlib.Core.Bool.{Bool, true, false}
+use mathlib.Core.Logic.{_⊎_, inl, inr, _≢_}
+use mathlib.Core.List.{List}
+use Prim.Native.Nat.{ℕ, zero, suc, _+_, _*_, _≤_, _<_}
+use native.Mathlib.Decide.{decLe, decLt, ℕ-discrete}
+use native.Mathlib.Omega.{arith}
+use borrow.Author.Tests.{eq-eqb, ne-eqb}
+use Rattle.sums.specs.Sum.{sum}
+use Rattle.sums.specs.theorems.SumLaws.{sum-suc, sum-ext, sum-part, sum-const}
+use Rattle.sums.specs.Bits.{bit}
+use Rattle.sums.specs.Counts.{count}
+use Rattle.counting.specs.Labels.{Labels, Rising}
+use Rattle.counting.specs.Kept.{isKept, keptAt, kept}
+
+known : (b : Bool) → ((b ≡ true) × (bit b ≡ 1)) ⊎ ((b ≡ false) × (bit b ≡ 0))
+unfolding bit
+known true = inl (refl, refl)
+known false = inr (refl, refl)
+
+module _ (q : ℕ → Bool) where
+  one-more : (n : ℕ) → count (suc n) q ≡ count n q + bit (q n)
+  one-more n = sum-suc n (λ x. bit (q x))
+
+  grows : (n m : ℕ) → m ≤ n → count m q ≤ count n q
+  grows n m l = sum-part m n (λ x. bit (q x)) l
+
+  at-struck : (n i : ℕ) → q n ≡ false → keptAt q (suc n) i ≡ keptAt q n i
+  unfolding keptAt
+  at-struck n i e = rw (e, keptAt)
+
+  at-last : (n i : ℕ) → q n ≡ true → count n q ≡ i → keptAt q (suc n) i ≡ n
+  unfolding keptAt
+  at-last n i e c = rw (e, eq-eqb (count n q) i c, keptAt)
+
+  at-before : (n i : ℕ) → q n ≡ true → count n q ≢ i → keptAt q (suc n) i ≡ keptAt q n i
+  unfolding keptAt
+  at-before n i e c = rw (e, ne-eqb (count n q) i c, keptAt)
+
+  -- x is kept, and i kept labels come before it
+  pub record Ranked (n i x : ℕ) : Type 0 where
+    pub label : x < n
+    pub is-kept : bit (q x) ≡ 1
+    pub rank : count x q ≡ i
+
+  more-labels : (n i x : ℕ) → Ranked n i x → Ranked (suc n) i x
+  more-labels n i x r = record { label = omega (arith, r .label); is-kept = r .is-kept; rank = r .rank }
+
+  pub ranked : (n i : ℕ) → i < count n q → Ranked n i (keptAt q n i)
+  ranked zero i l = absurd (unfold sum in omega arith)
+  ranked (suc n) i l = elim (known (q n)) [
+    | inl k ↦ elim (ℕ-discrete (count n q) i) [
+      | yes e ↦ rw (at-last n i (k .0) e) (record { label = omega arith; is-kept = k .1; rank = e })
+      | no d ↦ rw (at-before n i (k .0) d) (more-labels n i _ (ranked n i (omega (arith, one-more n, k .1))))
+    ]
+    | inr k ↦ rw (at-struck n i (k .0)) (more-labels n i _ (ranked n i (omega (arith, one-more n, k .1))))
+  ]
+
+  -- one more label changes no earlier rank
+  at-more : (n i : ℕ) → i < count n q → keptAt q (suc n) i ≡ keptAt q n i
+  at-more n i l = elim (known (q n)) [
+    | inl k ↦ at-before n i (k .0) (λ e. omega arith)
+    | inr k ↦ at-struck n i (k .0)
+  ]
+
+  -- a sum over ranks is one over the kept labels
+  pub sum-kept : (n : ℕ) (f : ℕ → ℕ) → sum (count n q) (λ i. f (keptAt q n i)) ≡ sum n (λ x. bit (q x) * f x)
+  sum-kept zero f = unfold sum in refl
+  sum-kept (suc n) f = elim (known (q n)) [
+    | inl k ↦ (
+        let c : count (suc n) q ≡ suc (count n q) = omega (arith, one-more n, k .1) in
+        ap (λ (m : ℕ). sum m (λ i. f (keptAt q (suc n) i))) c
+        ∙ omega (
+          arith,
+          sum-suc (count n q) (λ i. f (keptAt q (suc n) i)),
+          same,
+          sum-kept n f,
+          ap f (at-last n (count n q) (k .0) refl),
+          sum-suc n (λ x. bit (q x) * f x),
+          ap (λ (z : ℕ). z * f n) (k .1),
+        ))
+    | inr k ↦ (
+        let c : count (suc n) q ≡ count n q = omega (arith, one-more n, k .1) in
+        ap (λ (m : ℕ). sum m (λ i. f (keptAt q (suc n) i))) c
+        ∙ omega (
+          arith,
+          same,
+          sum-kept n f,
+          sum-suc n (λ x. bit (q x) * f x),
+          ap (λ (z : ℕ). z * f n) (k .1),
+        ))
+  ]
+    where
+      same : sum (count n q) (λ i. f (keptAt q (suc n) i)) ≡ sum (count n q) (λ i. f (keptAt q n i))
+      same = sum-ext (count n q) _ _ (λ i l. ap f (at-more n i l))
+
+-- ---- of marks
+
+module _ (marks : List ℕ) (n : ℕ) where
+  pub kept-rising : Rising n (kept marks n)
+  kept-rising = record {
+    inside = λ x l. ranked (isKept marks) n x l .label;
+    rises = λ x y l m. rises x y l m;
+  }
+    where
+      rises : (x y : ℕ) → x < y → y < count n (isKept marks)
+          → keptAt (isKept marks) n x < keptAt (isKept marks) n y
+      rises x y l m =
+          let a = ranked (isKept marks) n x (omega arith) in
+          let b = ranked (isKept marks) n y m in
+          elim (decLt (keptAt (isKept marks) n x) (keptAt (isKept marks) n y)) [
+            | yes o ↦ o
+            | no o ↦ absurd (omega (
+              arith,
+              a .rank,
+              b .rank,
+              grows (isKept marks) (keptAt (isKept marks) n x) (keptAt (isKept marks) n y) (omega arith),
+            ))
+          ]
+
+  module _ (every : (x : ℕ) → x < n → bit (isKept marks x) ≡ 1) where
+    all-before : (x : ℕ) → x ≤ n → count x (isKept marks) ≡ x
+    all-before x l = sum-ext x _ (λ y. 1) (λ y m. every y (omega arith)) ∙ ones x
+      where
+        ones : (k : ℕ) → sum k (λ y. 1) ≡ k
+        ones k = omega (arith, sum-const k 1)
+
+    -- where all marks are 1, there are n labels, each its own rank
+    pub all-kept-number : kept marks n .number ≡ n
+    all-kept-number = all-before n (omega arith)
+
+    pub all-kept-at : (x : ℕ) → x < n → kept marks n .at x ≡ x
+    all-kept-at x l =
+        let r = ranked (isKept marks) n x (omega (arith, all-kept-number)) in
+        sym (all-before (keptAt (isKept marks) n x) (omega (arith, r .label))) ∙ r .rank
