@@ -1,3 +1,4 @@
+pub mod AllKept
 pub mod CasesInShapes
 pub mod CountingTheorem
 pub mod Degrees

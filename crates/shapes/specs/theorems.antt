@@ -19,6 +19,7 @@ pub mod SameFours
 pub mod SameSplits
 pub mod Shape
 pub mod SplitLaws
+pub mod SplitsExt
 pub mod Topologies
 pub mod Totals
 pub mod Triples
