@@ -1,3 +1,4 @@
+pub mod SidesByCrossing
 pub mod SplitCells
 pub mod SplitLoops
 pub mod SplitsCounted
