@@ -61,7 +61,7 @@ module _ (n : ℕ) (b c : Sides) (i j : ℕ) where
       let r = and-iff (eqb both 0) (eqb (one + two) n) .0 s in
       let none = count-none n (λ x. b i x && c j x) .0 (eq-iff both 0 .0 (r .0)) in
       let off : (x : ℕ) → x < n → T (b i x) → T (not (c j x)) =
-          λ x l y. not-T (c j x) (λ z. none x l (and-iff (b i x) (c j x) .1 (y, z))) in
+      λ x l y. not-T (c j x) (λ z. none x l (and-iff (b i x) (c j x) .1 (y, z))) in
       turned (λ x l. same-test (b i x) (not (c j x)) (off x l)
       (count-same n (b i) (λ z. not (c j z)) off (omega (arith, count-both (c j), eq-iff (one + two) n .0 (r .1))) x l))
 
@@ -72,7 +72,7 @@ module _ (n : ℕ) (b c : Sides) (i j : ℕ) where
       inl (and-iff (eqb both one) (eqb both two) .1 (eq-iff both one .1 p, eq-iff both two .1 (p ∙ q)))
   to-either (turned s) =
       let none = count-none n (λ x. b i x && c j x) .1 (λ x l y. let z = parts x y in
-          T-not (c j x) (subst T (s x l) (z .0)) (z .1)) in
+      T-not (c j x) (subst T (s x l) (z .0)) (z .1)) in
       let q : one ≡ count n (λ x. not (c j x)) = sum-ext n _ _ (λ x l. ap bit (s x l)) in
       inr (and-iff (eqb both 0) (eqb (one + two) n) .1 (eq-iff both 0 .1 none, eq-iff (one + two) n .1 (omega (arith, q, count-both (c j)))))
 
