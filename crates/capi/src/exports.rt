@@ -38,7 +38,7 @@ ghost use Rattle.trees.specs.Topology.{topologyAnswer};
 ghost use Rattle.trees.specs.Witness.{isEdge, numberOf};
 ghost use Rattle.pair_check.specs.PairOrder.{pairOrder};
 ghost use Rattle.evidence.specs.EvidenceAnswer.{whichOf, evidenceAnswer};
-ghost use Rattle.tree_pairs.specs.Crossings.{afterCrossings};
+ghost use Rattle.tree_pairs.specs.Crossings.{afterCrossings, afterAll};
 ghost use Rattle.splits.specs.SplitAnswer.{splitAnswer};
 ghost use Rattle.claims.specs.ClaimAnswer.{claimAnswer};
 ghost use Rattle.quartets.specs.QuartetAnswer.{DemandThree, quartetAnswer};
@@ -115,13 +115,20 @@ pub extern "C" fn leskwyn_topology(table: &[u16], a: u16, b: u16, c: u16, d: u16
 
 // The pair's number, and the crossings in the lent cells.
 #[no_mangle]
-pub extern "C" fn leskwyn_crossings(first: &[u16], second: &[u16], work: &mut [Cell]) -> u16
+pub extern "C" fn leskwyn_crossings(
+    first: &[u16],
+    second: &[u16],
+    marks: &[u8],
+    work: &mut [Cell],
+) -> u16
     ensures { λ r. ⌜
-        (r ≡ refusal (pairOrder (now (first .entry)) (now (second .entry)) (length (now (work .entry)))))
-        × (now (work .exit) ≡ afterCrossings (now (first .entry)) (now (second .entry)) (now (work .entry)))
+        (r
+        ≡ refusal (pairOrder (now (first .entry)) (now (second .entry)) (now (marks .entry)) (length (now (work .entry)))))
+        × (now (work .exit)
+        ≡ afterCrossings (now (first .entry)) (now (second .entry)) (now (marks .entry)) (now (work .entry)))
         ⌝ }
 {
-    crossings(first, second, work)
+    crossings(first, second, marks, work)
 }
 
 // The claim sums, and the crossings in the lent cells.
@@ -129,14 +136,16 @@ pub extern "C" fn leskwyn_crossings(first: &[u16], second: &[u16], work: &mut [C
 pub extern "C" fn leskwyn_claim_sums(
     first: &[u16],
     second: &[u16],
+    marks: &[u8],
     work: &mut [Cell],
 ) -> ClaimSumsAnswer
     ensures { λ r. ⌜
-        (r ≡ plainClaims (claimAnswer (now (first .entry)) (now (second .entry)) (length (now (work .entry)))))
-        × (now (work .exit) ≡ afterCrossings (now (first .entry)) (now (second .entry)) (now (work .entry)))
+        (r ≡ plainClaims (claimAnswer (now (first .entry)) (now (second .entry)) (now (marks .entry)) (length (now (work .entry)))))
+        × (now (work .exit)
+        ≡ afterCrossings (now (first .entry)) (now (second .entry)) (now (marks .entry)) (now (work .entry)))
         ⌝ }
 {
-    let sums = claim_sums(first, second, work);
+    let sums = claim_sums(first, second, marks, work);
     ClaimSumsAnswer {
         refusal: sums.refusal,
         first: sums.first,
@@ -151,15 +160,17 @@ pub extern "C" fn leskwyn_claim_sums(
 pub extern "C" fn leskwyn_quartet_table(
     first: &[u16],
     second: &[u16],
+    marks: &[u8],
     work: &mut [Cell],
 ) -> QuartetTableAnswer
     ensures { λ r. ⌜
-        (r ≡ plainTable (quartetAnswer (now (first .entry)) (now (second .entry)) (length (now (work .entry)))))
-        × DemandThree (now (first .entry)) (now (second .entry)) (length (now (work .entry))) (libraryTable r)
-        × (now (work .exit) ≡ afterCrossings (now (first .entry)) (now (second .entry)) (now (work .entry)))
+        (r ≡ plainTable (quartetAnswer (now (first .entry)) (now (second .entry)) (now (marks .entry)) (length (now (work .entry)))))
+        × DemandThree (now (first .entry)) (now (second .entry)) (now (marks .entry)) (length (now (work .entry))) (libraryTable r)
+        × (now (work .exit)
+        ≡ afterCrossings (now (first .entry)) (now (second .entry)) (now (marks .entry)) (now (work .entry)))
         ⌝ }
 {
-    let table = quartet_table(first, second, work);
+    let table = quartet_table(first, second, marks, work);
     QuartetTableAnswer {
         refusal: table.refusal,
         a: table.a,
@@ -176,14 +187,16 @@ pub extern "C" fn leskwyn_quartet_table(
 pub extern "C" fn leskwyn_split_counts(
     first: &[u16],
     second: &[u16],
+    marks: &[u8],
     work: &mut [Cell],
 ) -> SplitCountsAnswer
     ensures { λ r. ⌜
-        (r ≡ plainSplits (splitAnswer (now (first .entry)) (now (second .entry)) (length (now (work .entry)))))
-        × (now (work .exit) ≡ afterCrossings (now (first .entry)) (now (second .entry)) (now (work .entry)))
+        (r ≡ plainSplits (splitAnswer (now (first .entry)) (now (second .entry)) (now (marks .entry)) (length (now (work .entry)))))
+        × (now (work .exit)
+        ≡ afterCrossings (now (first .entry)) (now (second .entry)) (now (marks .entry)) (now (work .entry)))
         ⌝ }
 {
-    let counts = split_counts(first, second, work);
+    let counts = split_counts(first, second, marks, work);
     SplitCountsAnswer {
         refusal: counts.refusal,
         first: as_count(counts.first),
@@ -193,7 +206,7 @@ pub extern "C" fn leskwyn_split_counts(
     }
 }
 
-// The triplet table, and the crossings in the lent cells.
+// The triplet table of all labels, and their crossings in the lent cells.
 #[no_mangle]
 pub extern "C" fn leskwyn_triplet_table(
     first: &[u16],
@@ -202,7 +215,7 @@ pub extern "C" fn leskwyn_triplet_table(
 ) -> TripletTableAnswer
     ensures { λ r. ⌜
         (r ≡ plainTriplets (tripletAnswer (now (first .entry)) (now (second .entry)) (length (now (work .entry)))))
-        × (now (work .exit) ≡ afterCrossings (now (first .entry)) (now (second .entry)) (now (work .entry)))
+        × (now (work .exit) ≡ afterAll (now (first .entry)) (now (second .entry)) (now (work .entry)))
         ⌝ }
 {
     let table = triplet_table(first, second, work);
@@ -238,19 +251,21 @@ fn weight_of(kind: u16, fraction: f64) -> Weight
 pub extern "C" fn leskwyn_weighted_distance(
     first: &[u16],
     second: &[u16],
+    marks: &[u8],
     work: &mut [Cell],
     kind: u16,
     fraction: f64,
 ) -> WeightedDistanceAnswer
     ensures { λ r. ⌜
         (r
-        ≡ plainWeighted (weightedAnswer (now (first .entry)) (now (second .entry)) (length (now (work .entry)))
-        (weightOf kind fraction)))
+        ≡ plainWeighted (weightedAnswer (now (first .entry)) (now (second .entry)) (now (marks .entry))
+        (length (now (work .entry))) (weightOf kind fraction)))
         × (now (work .exit)
-        ≡ afterWeighted (now (first .entry)) (now (second .entry)) (weightOf kind fraction) (now (work .entry)))
+        ≡ afterWeighted (now (first .entry)) (now (second .entry)) (now (marks .entry)) (weightOf kind fraction)
+        (now (work .entry)))
         ⌝ }
 {
-    let answer = weighted_distance(first, second, work, weight_of(kind, fraction));
+    let answer = weighted_distance(first, second, marks, work, weight_of(kind, fraction));
     WeightedDistanceAnswer {
         refusal: answer.refusal,
         distance: answer.distance,

@@ -31,7 +31,7 @@ pub(crate) fn second_only(work: &[Cell], base: usize, c: usize) -> Cell
     work[c] - work[base + c]
 }
 
-// Beyond neither, of n tips.
+// Beyond neither, of n labels.
 pub(crate) fn neither(work: &[Cell], base: usize, c: usize, n: u16) -> Cell
     requires { ⌜ CellRoom (now work) base c × (n ≤ tipsMost) ⌝ }
     requires { ⌜ word (now work) base + word (now work) c ≤ n + word (now work) (base + c) ⌝ }

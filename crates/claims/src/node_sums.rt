@@ -1,4 +1,4 @@
-// What the nodes of a tree add to twice S.
+// What the nodes of a tree add to twice S. `n` labels are counted.
 use super::lines::line_squares;
 use super::lines::line_sum;
 use super::sizes::fill_sizes;
@@ -16,7 +16,7 @@ ghost use Rattle.claims.specs.lemmas.SumsByNode.{sizesApart, nodeSum};
 ghost use Rattle.claims.specs.lemmas.SizeTerms.{SizesFew, sizeTerm};
 ghost use Rattle.claims.specs.lemmas.TreeSizes.{NodeSizes, TreeSizes};
 
-// How many pairs there are of s tips.
+// How many pairs there are of s labels.
 fn pairs_of(s: u64) -> u64
     requires { ⌜ s ≤ tipsMost ⌝ }
     ensures { λ r. ⌜ (r ≡ choose2 s) × (r ≤ 32768) ⌝ }
@@ -27,7 +27,7 @@ fn pairs_of(s: u64) -> u64
     s * (s - 1) / 2
 }
 
-// What a code with s tips behind it gives, `pairs` being their pairs, where the others have `rest` tips behind them.
+// What a code with s labels behind it gives, `pairs` being their pairs, where the others have `rest` behind them.
 fn size_term(s: u64, pairs: u64, rest: u64) -> u64
     requires { ⌜ (s ≤ tipsMost) × (rest ≤ tipsMost) × (pairs ≡ choose2 s) ⌝ }
     ensures { λ r. ⌜ (r ≡ sizeTerm s rest) × (r ≤ 4294967296) ⌝ }

@@ -1,4 +1,4 @@
-// What all pairs of nodes add to twice S2 and to S3.
+// What all pairs of nodes add to twice S2 and to S3. `n` labels are counted.
 use super::node_pair::node_pair;
 use super::terms::PairTerms;
 use code_lists::inner_nodes;
@@ -6,12 +6,12 @@ use table_words::Cell;
 use table_words::STARTS;
 use table_words::TIPS;
 ghost use mathlib.Core.Path.{_≡_};
-ghost use Prim.Native.Nat.{_*_, _-_, _≤_};
+ghost use Prim.Native.Nat.{_-_, _≤_};
 ghost use lib.ListN.{length};
 ghost use Rattle.sums.specs.Sum.{sum};
 ghost use Rattle.claims.specs.lemmas.Block.{Scratch};
 ghost use Rattle.code_lists.specs.lemmas.InnerNodes.{InnerNodes};
-ghost use Rattle.claims.specs.lemmas.PairLoops.{RowRoom, NodePairs, rowS2, rowS3, nodeS2, nodeS3};
+ghost use Rattle.claims.specs.lemmas.PairLoops.{RowRoom, NodePairs, PairsRoom, rowS2, rowS3, nodeS2, nodeS3};
 
 // The cells of the largest block: TIPS rows of TIPS cells.
 const BLOCK: usize = 65536;
@@ -94,9 +94,9 @@ fn all_pairs(
     second_edges: &[usize],
     block: &mut [Cell],
 ) -> PairTerms
-    requires { ⌜ NodePairs (now work) (length (now «second_parents») - 1) n
+    requires { ⌜ PairsRoom (now work) (length (now «second_parents») - 1) n
         (now «first_parents») (now «first_starts») (now «first_edges»)
-        (now «second_parents») (now «second_starts») (now «second_edges») × (n * n ≤ length (now block)) ⌝ }
+        (now «second_parents») (now «second_starts») (now «second_edges») (length (now block)) ⌝ }
     ensures { λ r. ⌜
         (r .s2 ≡ sum (length (now («first_parents» .entry)))
         (nodeS2 (now (work .entry)) (length (now («second_parents» .entry)) - 1) n
@@ -144,10 +144,12 @@ fn all_pairs(
     PairTerms { s2, s3 }
 }
 
-// The same. The block of two nodes has no more than n rows of n cells: where the tips are few, a short one is enough.
+// The same, of `kept` labels. The block of two nodes has no more than `tips` rows of `tips` cells: where the tips are
+// few, a short one is enough.
 pub(crate) fn pair_sums(
     work: &[Cell],
-    n: u16,
+    kept: u16,
+    tips: u16,
     first_parents: &[u16],
     first_starts: &[usize],
     first_edges: &[usize],
@@ -155,23 +157,23 @@ pub(crate) fn pair_sums(
     second_starts: &[usize],
     second_edges: &[usize],
 ) -> PairTerms
-    requires { ⌜ NodePairs (now work) (length (now «second_parents») - 1) n
+    requires { ⌜ NodePairs (now work) (length (now «second_parents») - 1) kept tips
         (now «first_parents») (now «first_starts») (now «first_edges»)
         (now «second_parents») (now «second_starts») (now «second_edges») ⌝ }
     ensures { λ r. ⌜
         (r .s2 ≡ sum (length (now («first_parents» .entry)))
-        (nodeS2 (now (work .entry)) (length (now («second_parents» .entry)) - 1) n
+        (nodeS2 (now (work .entry)) (length (now («second_parents» .entry)) - 1) kept
         (now («first_parents» .entry)) (now («second_parents» .entry))))
         × (r .s3 ≡ sum (length (now («first_parents» .entry)))
-        (nodeS3 (now (work .entry)) (length (now («second_parents» .entry)) - 1) n
+        (nodeS3 (now (work .entry)) (length (now («second_parents» .entry)) - 1) kept
         (now («first_parents» .entry)) (now («second_parents» .entry))))
         ⌝ }
 {
-    if n <= FEW {
+    if tips <= FEW {
         let mut block: [Cell; SMALL] = [0; SMALL];
         return all_pairs(
             work,
-            n,
+            kept,
             first_parents,
             first_starts,
             first_edges,
@@ -184,7 +186,7 @@ pub(crate) fn pair_sums(
     let mut block: [Cell; BLOCK] = [0; BLOCK];
     all_pairs(
         work,
-        n,
+        kept,
         first_parents,
         first_starts,
         first_edges,

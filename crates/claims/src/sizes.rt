@@ -1,4 +1,4 @@
-// The sizes of the sets of tips behind the codes into a node.
+// The sizes of the sets of tips behind the codes into a node. `n` labels are counted.
 use table_words::Cell;
 ghost use lib.ListN.{length};
 ghost use Rattle.tree_check.specs.Table.{word};

@@ -24,10 +24,16 @@ pub struct ClaimSums {
     pub different: u64,
 }
 
-// The sums of two trees given by their parents, whose crossings are in the cells.
-fn sums_of(first_parents: &[u16], second_parents: &[u16], work: &[Cell], n: u16) -> ClaimSums
-    requires { ⌜ Summable (now work) n (now «first_parents») (now «second_parents») ⌝ }
-    ensures { λ r. ⌜ r ≡ summed (now (work .entry)) n (now («first_parents» .entry)) (now («second_parents» .entry)) ⌝ }
+// The sums over `kept` labels of two trees given by their parents, whose crossings are in the cells.
+fn sums_of(
+    first_parents: &[u16],
+    second_parents: &[u16],
+    work: &[Cell],
+    kept: u16,
+    tips: u16,
+) -> ClaimSums
+    requires { ⌜ Summable (now work) kept tips (now «first_parents») (now «second_parents») ⌝ }
+    ensures { λ r. ⌜ r ≡ summed (now (work .entry)) kept (now («first_parents» .entry)) (now («second_parents» .entry)) ⌝ }
 {
     let mut first_starts = [0usize; STARTS];
     let mut first_edges = [0usize; CODES];
@@ -39,7 +45,7 @@ fn sums_of(first_parents: &[u16], second_parents: &[u16], work: &[Cell], n: u16)
     let first = tree_sum(
         work,
         second_parents.len() - 1,
-        n,
+        kept,
         first_parents,
         &first_starts,
         &first_edges,
@@ -48,7 +54,7 @@ fn sums_of(first_parents: &[u16], second_parents: &[u16], work: &[Cell], n: u16)
     let second = tree_sum(
         work,
         1,
-        n,
+        kept,
         second_parents,
         &second_starts,
         &second_edges,
@@ -56,7 +62,8 @@ fn sums_of(first_parents: &[u16], second_parents: &[u16], work: &[Cell], n: u16)
     );
     let pairs = pair_sums(
         work,
-        n,
+        kept,
+        tips,
         first_parents,
         &first_starts,
         &first_edges,
@@ -73,16 +80,18 @@ fn sums_of(first_parents: &[u16], second_parents: &[u16], work: &[Cell], n: u16)
     }
 }
 
-// The claim sums, with the crossings in the cells afterwards.
-pub fn claim_sums(first: &[u16], second: &[u16], work: &mut [Cell]) -> ClaimSums
+// The claim sums over the kept labels, with the crossings in the cells afterwards.
+pub fn claim_sums(first: &[u16], second: &[u16], marks: &[u8], work: &mut [Cell]) -> ClaimSums
     ensures { λ r. ⌜
-        (r ≡ claimAnswer (now (first .entry)) (now (second .entry)) (length (now (work .entry))))
-        × (now (work .exit) ≡ afterCrossings (now (first .entry)) (now (second .entry)) (now (work .entry)))
+        (r ≡ claimAnswer (now (first .entry)) (now (second .entry)) (now (marks .entry)) (length (now (work .entry))))
+        × (now (work .exit)
+        ≡ afterCrossings (now (first .entry)) (now (second .entry)) (now (marks .entry)) (now (work .entry)))
         ⌝ }
 {
-    let answer = cross_pair(first, second, work);
+    let answer = cross_pair(first, second, marks, work);
     let CheckedPair::Pair {
         tips,
+        counted,
         rows,
         columns,
     } = answer
@@ -97,5 +106,5 @@ pub fn claim_sums(first: &[u16], second: &[u16], work: &mut [Cell]) -> ClaimSums
     };
     let m = rows + 1;
     let k = columns + 1;
-    sums_of(&first[2..2 + m], &second[2..2 + k], work, tips)
+    sums_of(&first[2..2 + m], &second[2..2 + k], work, counted, tips)
 }

@@ -5,12 +5,8 @@ use mathlib.Core.List.{List}
 use Prim.Native.Nat.{ℕ, zero, suc}
 use lib.Dec.{eqb}
 use Rattle.sums.specs.Counts.{count}
-use Rattle.tree_check.specs.Table.{word}
+use Rattle.marks.specs.Marks.{isKept, keptOf}
 use Rattle.counting.specs.Labels.{Labels}
-
--- the label x is kept: its mark is 1
-unfoldable pub isKept : List ℕ → ℕ → Bool
-isKept marks x = eqb (word marks x) 1
 
 -- the kept label of rank i, of the labels below n
 unfoldable pub keptAt : (ℕ → Bool) → ℕ → ℕ → ℕ
@@ -22,4 +18,4 @@ keptAt q (suc n) i = elim (q n) [
 
 -- those of n labels that marks keep
 abbrev pub kept : List ℕ → ℕ → Labels
-kept marks n = record { number = count n (isKept marks); at = keptAt (isKept marks) n }
+kept marks n = record { number = keptOf marks n; at = keptAt (isKept marks) n }

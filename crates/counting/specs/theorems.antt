@@ -14,6 +14,7 @@ pub mod PassingThrough
 pub mod QuartetTheorem
 pub mod ReferencePairs
 pub mod Renumbered
+pub mod StrikingIsPruning
 pub mod TipLabels
 pub mod TreeShape
 pub mod TreeSplits

@@ -74,6 +74,7 @@ pub fn evidence(first: &[u16], second: &[u16], a: u16, b: u16, c: u16, d: u16) -
     let answer = check_pair(first, second);
     let CheckedPair::Pair {
         tips: _,
+        counted: _,
         rows: _,
         columns: _,
     } = answer

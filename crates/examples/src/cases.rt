@@ -30,6 +30,7 @@ use super::pair_cases;
 use super::print;
 use super::quartet_cases;
 use super::tree_cases;
+use table_words::TIPS;
 use table_words::as_index;
 
 // The cells that two tables of 256 tips and 1024 nodes need.
@@ -71,16 +72,25 @@ fn ask_cells(kind: u16, first: &[u16], table: &[u16], work: &mut [u16]) {
     }
 }
 
-// The kinds of two tables, and the others.
+// The kinds of two tables, with marks for the labels of the second, and the others.
+fn ask_kept(kind: u16, first: &[u16], second: &[u16], marks: &[u8], work: &mut [u16]) {
+    match kind {
+        10 => pair_cases::crossings_case(first, second, marks, work),
+        11 => pair_cases::splits_case(first, second, marks, work),
+        12 => pair_cases::crossings_case(second, second, marks, work),
+        13 => quartet_cases::quartets_case(first, second, marks, work),
+        14 => quartet_cases::quartets_case(second, second, marks, work),
+        _ => ask_cells(kind, first, second, work),
+    }
+}
+
+// Every label kept: a mark of 1 for each tip of the second table, if it is one.
 fn ask_pair(kind: u16, first: &[u16], second: &[u16], work: &mut [u16]) {
     cells::fill(kind, work);
-    match kind {
-        10 => pair_cases::crossings_case(first, second, work),
-        11 => pair_cases::splits_case(first, second, work),
-        12 => pair_cases::crossings_case(second, second, work),
-        13 => quartet_cases::quartets_case(first, second, work),
-        14 => quartet_cases::quartets_case(second, second, work),
-        _ => ask_cells(kind, first, second, work),
+    let marks = [1u8; TIPS];
+    let n = as_index(fours::tips_of(second));
+    if n <= TIPS {
+        ask_kept(kind, first, second, &marks[..n], work);
     }
 }
 

@@ -1,14 +1,14 @@
 // Cases of two tables whose every cell is printed, from 9000, 9001, .. in the cells.
 use super::print;
 
-pub(crate) fn crossings_case(first: &[u16], second: &[u16], work: &mut [u16]) {
+pub(crate) fn crossings_case(first: &[u16], second: &[u16], marks: &[u8], work: &mut [u16]) {
     print::name(b"crossings");
-    print::number(tree_pairs::crossings(first, second, work));
+    print::number(tree_pairs::crossings(first, second, marks, work));
     print::numbers(work);
 }
 
-pub(crate) fn splits_case(first: &[u16], second: &[u16], work: &mut [u16]) {
-    let counts = splits::split_counts(first, second, work);
+pub(crate) fn splits_case(first: &[u16], second: &[u16], marks: &[u8], work: &mut [u16]) {
+    let counts = splits::split_counts(first, second, marks, work);
     print::name(b"splits");
     print::number(counts.refusal);
     print::number(counts.first);

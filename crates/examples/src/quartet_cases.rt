@@ -3,8 +3,8 @@ use super::cells;
 use super::print;
 use super::verdict;
 
-fn print_claims(first: &[u16], second: &[u16], work: &mut [u16]) {
-    let sums = quartets::claim_sums(first, second, work);
+fn print_claims(first: &[u16], second: &[u16], marks: &[u8], work: &mut [u16]) {
+    let sums = quartets::claim_sums(first, second, marks, work);
     print::name(b"claims");
     print::number(sums.refusal);
     print::large(sums.first);
@@ -14,9 +14,9 @@ fn print_claims(first: &[u16], second: &[u16], work: &mut [u16]) {
     print::large(cells::sum_of(work));
 }
 
-fn print_table(first: &[u16], second: &[u16], work: &mut [u16]) {
+fn print_table(first: &[u16], second: &[u16], marks: &[u8], work: &mut [u16]) {
     cells::fill(13, work);
-    let table = quartets::quartet_table(first, second, work);
+    let table = quartets::quartet_table(first, second, marks, work);
     print::name(b" quartets");
     print::number(table.refusal);
     print::large(table.a);
@@ -43,8 +43,8 @@ fn print_triplets(first: &[u16], second: &[u16], work: &mut [u16]) {
     print::large(cells::sum_of(work));
 }
 
-pub(crate) fn quartets_case(first: &[u16], second: &[u16], work: &mut [u16]) {
-    print_claims(first, second, work);
-    print_table(first, second, work);
+pub(crate) fn quartets_case(first: &[u16], second: &[u16], marks: &[u8], work: &mut [u16]) {
+    print_claims(first, second, marks, work);
+    print_table(first, second, marks, work);
     print_triplets(first, second, work);
 }

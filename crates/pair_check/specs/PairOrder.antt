@@ -9,6 +9,7 @@ use Rattle.tree_check.specs.Table.{Table, tips, nodes}
 use Rattle.tree_check.specs.Refusals.{Rule}
 use Rattle.tree_check.specs.IsTree.{IsTree}
 use Rattle.tree_check.specs.TreeOrder.{treeOrder}
+use Rattle.marks.specs.Marks.{marksOrder, AreMarks}
 
 -- the same rules, their numbers plus k
 unfoldable pub plus : ℕ → List Rule → List Rule
@@ -31,9 +32,13 @@ cellsNeeded t u = (nodes t - 1) * (nodes u - 1)
 unfoldable pub workOrder : Table → Table → ℕ → List Rule
 workOrder t u cells = (9, ltb cells (cellsNeeded t u)) ∷ []
 
--- the order of a pair call with so many work cells
-unfoldable pub pairOrder : Table → Table → ℕ → List Rule
-pairOrder t u cells = tablesOrder t u ++ workOrder t u cells
+-- the order of a pair call without marks, with so many work cells
+unfoldable pub cellsOrder : Table → Table → ℕ → List Rule
+cellsOrder t u cells = tablesOrder t u ++ workOrder t u cells
+
+-- the order of a pair call with marks: 32 after 8 and before 9
+unfoldable pub pairOrder : Table → Table → List ℕ → ℕ → List Rule
+pairOrder t u marks cells = tablesOrder t u ++ (marksOrder marks (tips t) ++ workOrder t u cells)
 
 -- two tree tables on the same tips
 pub record IsPair (t u : Table) : Type 0 where
@@ -45,3 +50,8 @@ pub record IsPair (t u : Table) : Type 0 where
 pub record PairWithCells (t u : Table) (cells : ℕ) : Type 0 where
   pub pair : IsPair t u
   pub room : cellsNeeded t u ≤ cells
+
+-- .. and a mark of 0 or 1 for each label
+pub record MarkedPair (t u : Table) (marks : List ℕ) (cells : ℕ) : Type 0 where
+  pub with-cells : PairWithCells t u cells
+  pub marked : AreMarks marks (tips t)

@@ -12,7 +12,7 @@ use Rattle.counting.specs.ClaimSums.{S, S2, S3}
 use Rattle.counting.specs.Cases.{A, B, C, D, E, quartets}
 use Rattle.counting.specs.SplitCounts.{splits, commonSplits, robinsonFoulds}
 use Rattle.counting.specs.Triplets.{triplets}
-use Rattle.pair_check.specs.PairOrder.{pairOrder}
+use Rattle.pair_check.specs.PairOrder.{cellsOrder}
 use Rattle.listings.specs.declared.figures.Figures.{Figures}
 use Rattle.listings.specs.Listing.{ofRefusal}
 
@@ -49,9 +49,9 @@ firstTable words = take (firstLength words) words
 unfoldable pub secondTable : List ℕ → Table
 secondTable words = drop (firstLength words) words
 
--- the pair's order on the two tables of a file, with 15625 cells
+-- the order of a pair without marks on the two tables of a file, with 15625 cells
 unfoldable pub wordsOrder : List ℕ → List Rule
-wordsOrder words = pairOrder (firstTable words) (secondTable words) cellsLent
+wordsOrder words = cellsOrder (firstTable words) (secondTable words) cellsLent
 
 unfoldable pub fileOrder : List ℕ → List Rule
 fileOrder bytes =
@@ -62,25 +62,25 @@ fileOrder bytes =
     -- then the pair's order
     ∷ wordsOrder (fileWords bytes)
 
--- the figures of two tables
+-- the figures of two tables, over all labels
 abbrev pub figuresOfPair : Table → Table → Figures
-figuresOfPair t u = record {
+figuresOfPair t u = let l = all (tips t) in record {
   refusal = 0;
   tips = tips t;
-  claims = record { first = S (all (tips t)) t; second = S (all (tips t)) u; same = S2 (all (tips t)) t u; different = S3 (all (tips t)) t u };
+  claims = record { first = S l t; second = S l u; same = S2 l t u; different = S3 l t u };
   quartets = record {
-    a = quartets (all (tips t)) t u A;
-    b = quartets (all (tips t)) t u B;
-    c = quartets (all (tips t)) t u C;
-    d = quartets (all (tips t)) t u D;
-    e = quartets (all (tips t)) t u E;
+    a = quartets l t u A;
+    b = quartets l t u B;
+    c = quartets l t u C;
+    d = quartets l t u D;
+    e = quartets l t u E;
   };
-  distance = quartets (all (tips t)) t u B + quartets (all (tips t)) t u C + quartets (all (tips t)) t u D;
+  distance = quartets l t u B + quartets l t u C + quartets l t u D;
   splits = record {
-    first = splits (all (tips t)) t;
-    second = splits (all (tips t)) u;
-    common = commonSplits (all (tips t)) t u;
-    distance = robinsonFoulds (all (tips t)) t u;
+    first = splits l t;
+    second = splits l u;
+    common = commonSplits l t u;
+    distance = robinsonFoulds l t u;
   };
   triplets = record {
     a = triplets t u A;

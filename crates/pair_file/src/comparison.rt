@@ -7,7 +7,7 @@ use listings::Quartets;
 use listings::Splits;
 use listings::Triplets;
 use pair_check::CheckedPair;
-use pair_check::check_work;
+use pair_check::check_cells;
 use pair_check::pair_refusal;
 use quartets::ClaimSums;
 use quartets::QuartetTable;
@@ -18,6 +18,8 @@ use quartets::quartet_table;
 use quartets::split_counts;
 use quartets::triplet_table;
 use table_words::Cell;
+use table_words::TIPS;
+use table_words::as_index;
 ghost use mathlib.Core.Path.{_≡_};
 ghost use Rattle.splits.specs.SplitAnswer.{splitAnswer};
 ghost use Rattle.triplets.specs.TripletAnswer.{tripletAnswer};
@@ -25,7 +27,7 @@ ghost use Rattle.claims.specs.ClaimAnswer.{claimAnswer};
 ghost use Rattle.quartets.specs.QuartetAnswer.{quartetAnswer};
 ghost use Rattle.listings.specs.Listing.{ofRefusal};
 ghost use Rattle.pair_file.specs.PairFile.{cellsLent, comparison};
-ghost use Rattle.pair_file.specs.lemmas.PairFigures.{pairFigures, wordFigures};
+ghost use Rattle.pair_file.specs.lemmas.PairFigures.{pairFigures, wordFigures, calledWith};
 
 // The most bytes of a file, and the most words.
 const BYTES: usize = 1016;
@@ -36,27 +38,27 @@ const WORDS: usize = 508;
 const CELLS: usize = 15625;
 
 // The claim sums, with work of their own.
-fn claims_of(first: &[u16], second: &[u16]) -> ClaimSums
-    ensures { λ r. ⌜ r ≡ claimAnswer (now (first .entry)) (now (second .entry)) cellsLent ⌝ }
+fn claims_of(first: &[u16], second: &[u16], marks: &[u8]) -> ClaimSums
+    ensures { λ r. ⌜ r ≡ claimAnswer (now (first .entry)) (now (second .entry)) (now (marks .entry)) cellsLent ⌝ }
 {
     let mut work: [Cell; CELLS] = [0; CELLS];
-    claim_sums(first, second, &mut work)
+    claim_sums(first, second, marks, &mut work)
 }
 
 // The quartet table, with work of its own.
-fn quartets_of(first: &[u16], second: &[u16]) -> QuartetTable
-    ensures { λ r. ⌜ r ≡ quartetAnswer (now (first .entry)) (now (second .entry)) cellsLent ⌝ }
+fn quartets_of(first: &[u16], second: &[u16], marks: &[u8]) -> QuartetTable
+    ensures { λ r. ⌜ r ≡ quartetAnswer (now (first .entry)) (now (second .entry)) (now (marks .entry)) cellsLent ⌝ }
 {
     let mut work: [Cell; CELLS] = [0; CELLS];
-    quartet_table(first, second, &mut work)
+    quartet_table(first, second, marks, &mut work)
 }
 
 // The split counts, with work of their own.
-fn splits_of(first: &[u16], second: &[u16]) -> SplitCounts
-    ensures { λ r. ⌜ r ≡ splitAnswer (now (first .entry)) (now (second .entry)) cellsLent ⌝ }
+fn splits_of(first: &[u16], second: &[u16], marks: &[u8]) -> SplitCounts
+    ensures { λ r. ⌜ r ≡ splitAnswer (now (first .entry)) (now (second .entry)) (now (marks .entry)) cellsLent ⌝ }
 {
     let mut work: [Cell; CELLS] = [0; CELLS];
-    split_counts(first, second, &mut work)
+    split_counts(first, second, marks, &mut work)
 }
 
 // The triplet table, with work of its own.
@@ -104,22 +106,13 @@ fn refused(number: u16) -> Figures
     }
 }
 
-// The figures of two tables, by the pair's order.
-fn compare_tables(first: &[u16], second: &[u16]) -> Figures
-    ensures { λ r. ⌜ r ≡ pairFigures (now (first .entry)) (now (second .entry)) ⌝ }
+// The figures of a pair on so many tips: what the four calls with these marks tell.
+fn figures_of(first: &[u16], second: &[u16], marks: &[u8], tips: u16) -> Figures
+    ensures { λ r. ⌜ r ≡ calledWith (now (first .entry)) (now (second .entry)) (now (marks .entry)) tips ⌝ }
 {
-    let answer = check_work(first, second, CELLS);
-    let CheckedPair::Pair {
-        tips,
-        rows: _,
-        columns: _,
-    } = answer
-    else {
-        return refused(pair_refusal(answer));
-    };
-    let sums = claims_of(first, second);
-    let cases = quartets_of(first, second);
-    let counts = splits_of(first, second);
+    let sums = claims_of(first, second, marks);
+    let cases = quartets_of(first, second, marks);
+    let counts = splits_of(first, second, marks);
     let threes = triplets_of(first, second);
     Figures {
         refusal: 0,
@@ -152,6 +145,25 @@ fn compare_tables(first: &[u16], second: &[u16]) -> Figures
             e: threes.e,
         },
     }
+}
+
+// The figures of two tables, by the order of a pair without marks: every label is kept.
+fn compare_tables(first: &[u16], second: &[u16]) -> Figures
+    ensures { λ r. ⌜ r ≡ pairFigures (now (first .entry)) (now (second .entry)) ⌝ }
+{
+    let answer = check_cells(first, second, CELLS);
+    let CheckedPair::Pair {
+        tips,
+        counted: _,
+        rows: _,
+        columns: _,
+    } = answer
+    else {
+        return refused(pair_refusal(answer));
+    };
+    let marks = [1u8; TIPS];
+    let n = as_index(tips);
+    figures_of(first, second, &marks[..n], tips)
 }
 
 // The figures of a file's words: the first table by its own length, then the rest.

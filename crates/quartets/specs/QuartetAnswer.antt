@@ -2,72 +2,78 @@
 -- Assumes nothing.
 use mathlib.Core.Path.{_≡_}
 use mathlib.Core.Logic.{_≢_, _↔_}
+use mathlib.Core.List.{List}
 use Prim.Native.Nat.{ℕ, _+_, _*_, _-_, _/_, _%_, _≤_}
 use Rattle.sums.specs.Fours.{fours}
 use Rattle.tree_check.specs.Table.{Table, tips}
 use Rattle.tree_check.specs.Refusals.{refusal, ifAccepted}
-use Rattle.counting.specs.Labels.{all}
+use Rattle.marks.specs.Marks.{keptOf}
+use Rattle.counting.specs.Labels.{Labels}
+use Rattle.counting.specs.Kept.{kept}
 use Rattle.counting.specs.ClaimSums.{S, S2, S3}
 use Rattle.counting.specs.Cases.{A, B, C, D, E, quartets}
 use Rattle.counting.specs.QuartetTable.{formulaA, formulaB, formulaC, formulaD, formulaE}
 use Rattle.counting.specs.SplitCounts.{HaveSameSplits}
-use Rattle.pair_check.specs.PairOrder.{PairWithCells, pairOrder}
+use Rattle.pair_check.specs.PairOrder.{MarkedPair, pairOrder}
 use Rattle.quartets.specs.declared.tables.QuartetTable.{QuartetTable}
 
 -- ---- the definition that the promise cites
 
--- how many sets of four tips the two trees put in each case, and the distance B + C + D
-abbrev pub casesOfPair : Table → Table → QuartetTable
-casesOfPair t u = record {
+-- how many sets of four of these labels the two trees put in each case, and the distance B + C + D
+abbrev pub casesOver : Labels → Table → Table → QuartetTable
+casesOver l t u = record {
   refusal = 0;
-  a = quartets (all (tips t)) t u A;
-  b = quartets (all (tips t)) t u B;
-  c = quartets (all (tips t)) t u C;
-  d = quartets (all (tips t)) t u D;
-  e = quartets (all (tips t)) t u E;
-  distance = quartets (all (tips t)) t u B + quartets (all (tips t)) t u C + quartets (all (tips t)) t u D;
+  a = quartets l t u A;
+  b = quartets l t u B;
+  c = quartets l t u C;
+  d = quartets l t u D;
+  e = quartets l t u E;
+  distance = quartets l t u B + quartets l t u C + quartets l t u D;
 }
 
 -- the number of a refused pair, with zeros
 abbrev pub refusedTable : ℕ → QuartetTable
 refusedTable number = record { refusal = number; a = 0; b = 0; c = 0; d = 0; e = 0; distance = 0 }
 
-unfoldable pub quartetAnswer : Table → Table → ℕ → QuartetTable
-quartetAnswer t u cells =
-    let number = refusal (pairOrder t u cells) in ifAccepted number (casesOfPair t u) (refusedTable number)
+-- the cases of the kept labels
+unfoldable pub quartetAnswer : Table → Table → List ℕ → ℕ → QuartetTable
+quartetAnswer t u marks cells =
+    let number = refusal (pairOrder t u marks cells) in
+    ifAccepted number (casesOver (kept marks (tips t)) t u) (refusedTable number)
 
 -- ---- demand 3
 
--- what demand 3 says of a quartet table r of two tables, for any tables and any number of cells
-pub record DemandThree (t u : Table) (cells : ℕ) (r : QuartetTable) : Type 0 where
+-- what demand 3 says of a quartet table r of two tables, for any tables, any marks and any number of cells; the labels are the
+-- kept ones throughout
+pub record DemandThree (t u : Table) (marks : List ℕ) (cells : ℕ) (r : QuartetTable) : Type 0 where
   -- one refusal number in a fixed order, and then zero counts
-  pub number : r .refusal ≡ refusal (pairOrder t u cells)
+  pub number : r .refusal ≡ refusal (pairOrder t u marks cells)
   pub refused : r .refusal ≢ 0 → (r .a ≡ 0) × (r .b ≡ 0) × (r .c ≡ 0) × (r .d ≡ 0) × (r .e ≡ 0) × (r .distance ≡ 0)
-  -- the table is formed from the four claim sums and n, and from nothing else, by the five formulas
-  pub formulas : PairWithCells t u cells
-      → (r .a ≡ formulaA (S2 (all (tips t)) t u))
-      × (r .b ≡ formulaB (S3 (all (tips t)) t u))
-      × (r .c ≡ formulaC (S (all (tips t)) t) (S2 (all (tips t)) t u) (S3 (all (tips t)) t u))
-      × (r .d ≡ formulaD (S (all (tips t)) u) (S2 (all (tips t)) t u) (S3 (all (tips t)) t u))
-      × (r .e ≡ formulaE (tips t) (S (all (tips t)) t) (S (all (tips t)) u) (S2 (all (tips t)) t u) (S3 (all (tips t)) t u))
-  -- each of A to E is the number of sets of four whose two topologies put them in that case
-  pub counts : PairWithCells t u cells
-      → (r .a ≡ quartets (all (tips t)) t u A)
-      × (r .b ≡ quartets (all (tips t)) t u B)
-      × (r .c ≡ quartets (all (tips t)) t u C)
-      × (r .d ≡ quartets (all (tips t)) t u D)
-      × (r .e ≡ quartets (all (tips t)) t u E)
+  -- the table is formed from the four claim sums and the number of kept labels, and from nothing else, by the five formulas
+  pub formulas : MarkedPair t u marks cells → (let l = kept marks (tips t) in
+      (r .a ≡ formulaA (S2 l t u))
+      × (r .b ≡ formulaB (S3 l t u))
+      × (r .c ≡ formulaC (S l t) (S2 l t u) (S3 l t u))
+      × (r .d ≡ formulaD (S l u) (S2 l t u) (S3 l t u))
+      × (r .e ≡ formulaE (l .number) (S l t) (S l u) (S2 l t u) (S3 l t u)))
+  -- each of A to E is the number of sets of four kept labels whose two topologies put them in that case
+  pub counts : MarkedPair t u marks cells → (let l = kept marks (tips t) in
+      (r .a ≡ quartets l t u A)
+      × (r .b ≡ quartets l t u B)
+      × (r .c ≡ quartets l t u C)
+      × (r .d ≡ quartets l t u D)
+      × (r .e ≡ quartets l t u E))
   -- no division leaves a remainder: the halves, the quarter, and all sets of four by 24
-  pub exact : PairWithCells t u cells
-      → (S (all (tips t)) t % 2 ≡ 0) × (S (all (tips t)) u % 2 ≡ 0) × (S2 (all (tips t)) t u % 2 ≡ 0) × (S3 (all (tips t)) t u % 4 ≡ 0)
-      × (tips t * (tips t - 1) * (tips t - 2) * (tips t - 3) % 24 ≡ 0)
+  pub exact : MarkedPair t u marks cells → (let l = kept marks (tips t) in
+      (S l t % 2 ≡ 0) × (S l u % 2 ≡ 0) × (S2 l t u % 2 ≡ 0) × (S3 l t u % 4 ≡ 0)
+      × (l .number * (l .number - 1) * (l .number - 2) * (l .number - 3) % 24 ≡ 0))
   -- nothing wraps: the sums and the counts are at most these, and no subtraction is cut off at 0
-  pub fits : PairWithCells t u cells
-      → (S (all (tips t)) t ≤ 349585280) × (S (all (tips t)) u ≤ 349585280) × (S2 (all (tips t)) t u ≤ 349585280) × (S3 (all (tips t)) t u ≤ 699170560)
+  pub fits : MarkedPair t u marks cells → (let l = kept marks (tips t) in
+      (S l t ≤ 349585280) × (S l u ≤ 349585280) × (S2 l t u ≤ 349585280) × (S3 l t u ≤ 699170560)
       × (r .a ≤ 174792640) × (r .b ≤ 174792640) × (r .c ≤ 174792640) × (r .d ≤ 174792640) × (r .e ≤ 174792640)
-      × (r .a + r .b ≤ S (all (tips t)) t / 2) × (r .a + r .b ≤ S (all (tips t)) u / 2) × (r .a + r .b + r .c + r .d ≤ fours (tips t))
-  -- the five add up to all sets of four
-  pub total : PairWithCells t u cells → r .a + r .b + r .c + r .d + r .e ≡ fours (tips t)
-  -- the distance B + C + D is 0 exactly if the two trees have the same splits
-  pub distance : PairWithCells t u cells → r .distance ≡ r .b + r .c + r .d
-  pub zero-distance : PairWithCells t u cells → (r .distance ≡ 0) ↔ HaveSameSplits (all (tips t)) t u
+      × (r .a + r .b ≤ S l t / 2) × (r .a + r .b ≤ S l u / 2) × (r .a + r .b + r .c + r .d ≤ fours (l .number)))
+  -- the five add up to all sets of four kept labels
+  pub total : MarkedPair t u marks cells → r .a + r .b + r .c + r .d + r .e ≡ fours (keptOf marks (tips t))
+  -- the distance B + C + D is 0 exactly if the two trees have the same splits among kept labels
+  pub distance : MarkedPair t u marks cells → r .distance ≡ r .b + r .c + r .d
+  pub zero-distance : MarkedPair t u marks cells → (r .distance ≡ 0) ↔ HaveSameSplits (kept marks (tips t)) t u

@@ -8,6 +8,7 @@ pub use evidence::Case;
 pub use evidence::EvidenceAnswer;
 pub use evidence::evidence;
 pub use pair_check::CheckedPair;
+pub use pair_check::check_cells;
 pub use pair_check::check_pair;
 pub use pair_check::check_work;
 pub use pair_check::pair_refusal;

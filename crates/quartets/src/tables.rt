@@ -50,7 +50,7 @@ fn sets_of_four(k: u32) -> u32
     k * (k - 1) * (k - 2) * (k - 3) / 24
 }
 
-// The five formulas, from the four claim sums and n alone.
+// The five formulas, from the four claim sums and the number n of counted labels alone.
 fn form_table(first: u64, second: u64, same: u64, different: u64, n: u16) -> QuartetTable
     requires { ⌜ TableFits n first second same different ⌝ }
     ensures { λ r. ⌜ r ≡ formed n first second same different ⌝ }
@@ -73,17 +73,19 @@ fn form_table(first: u64, second: u64, same: u64, different: u64, n: u16) -> Qua
     }
 }
 
-// The quartet table, with the crossings in the cells afterwards.
-pub fn quartet_table(first: &[u16], second: &[u16], work: &mut [Cell]) -> QuartetTable
+// The quartet table of the kept labels, with the crossings in the cells afterwards.
+pub fn quartet_table(first: &[u16], second: &[u16], marks: &[u8], work: &mut [Cell]) -> QuartetTable
     ensures { λ r. ⌜
-        (r ≡ quartetAnswer (now (first .entry)) (now (second .entry)) (length (now (work .entry))))
-        × DemandThree (now (first .entry)) (now (second .entry)) (length (now (work .entry))) r
-        × (now (work .exit) ≡ afterCrossings (now (first .entry)) (now (second .entry)) (now (work .entry)))
+        (r ≡ quartetAnswer (now (first .entry)) (now (second .entry)) (now (marks .entry)) (length (now (work .entry))))
+        × DemandThree (now (first .entry)) (now (second .entry)) (now (marks .entry)) (length (now (work .entry))) r
+        × (now (work .exit)
+        ≡ afterCrossings (now (first .entry)) (now (second .entry)) (now (marks .entry)) (now (work .entry)))
         ⌝ }
 {
-    let answer = check_work(first, second, work.len());
+    let answer = check_work(first, second, marks, work.len());
     let CheckedPair::Pair {
-        tips,
+        tips: _,
+        counted,
         rows: _,
         columns: _,
     } = answer
@@ -98,6 +100,6 @@ pub fn quartet_table(first: &[u16], second: &[u16], work: &mut [Cell]) -> Quarte
             distance: 0,
         };
     };
-    let sums = claim_sums(first, second, work);
-    form_table(sums.first, sums.second, sums.same, sums.different, tips)
+    let sums = claim_sums(first, second, marks, work);
+    form_table(sums.first, sums.second, sums.same, sums.different, counted)
 }

@@ -1,3 +1,5 @@
+pub mod NewRows
+pub mod SharedRows
 pub mod SidesByCrossing
 pub mod SplitCells
 pub mod SplitLoops

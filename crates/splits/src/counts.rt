@@ -21,15 +21,20 @@ pub struct SplitCounts {
     pub distance: u16,
 }
 
-// The splits of two trees given by their parents, whose crossings are in the cells.
-fn count_splits(first_parents: &[u16], second_parents: &[u16], work: &[Cell], n: u64) -> SplitCounts
-    requires { ⌜ SplitsCountable (now work) n (now «first_parents») (now «second_parents») ⌝ }
-    ensures { λ r. ⌜ r ≡ counted (now (work .entry)) n (now («first_parents» .entry)) (now («second_parents» .entry)) ⌝ }
+// The splits of two trees given by their parents, whose crossings of the `kept` labels are in the cells.
+fn count_splits(
+    first_parents: &[u16],
+    second_parents: &[u16],
+    work: &[Cell],
+    kept: u64,
+) -> SplitCounts
+    requires { ⌜ SplitsCountable (now work) kept (now «first_parents») (now «second_parents») ⌝ }
+    ensures { λ r. ⌜ r ≡ counted (now (work .entry)) kept (now («first_parents» .entry)) (now («second_parents» .entry)) ⌝ }
 {
     let width = second_parents.len() - 1;
-    let first = edge_splits(work, width, first_parents, n);
-    let second = edge_splits(work, 1, second_parents, n);
-    let common = common_rows(work, width, first_parents, n);
+    let first = edge_splits(work, width, first_parents, kept);
+    let second = edge_splits(work, 1, second_parents, kept);
+    let common = common_rows(work, width, first_parents, kept);
     SplitCounts {
         refusal: 0,
         first,
@@ -39,16 +44,18 @@ fn count_splits(first_parents: &[u16], second_parents: &[u16], work: &[Cell], n:
     }
 }
 
-// The split counts, with the crossings in the cells afterwards. Tip edges are no splits.
-pub fn split_counts(first: &[u16], second: &[u16], work: &mut [Cell]) -> SplitCounts
+// The split counts among the kept labels, with the crossings in the cells afterwards. Tip edges are no splits.
+pub fn split_counts(first: &[u16], second: &[u16], marks: &[u8], work: &mut [Cell]) -> SplitCounts
     ensures { λ r. ⌜
-        (r ≡ splitAnswer (now (first .entry)) (now (second .entry)) (length (now (work .entry))))
-        × (now (work .exit) ≡ afterCrossings (now (first .entry)) (now (second .entry)) (now (work .entry)))
+        (r ≡ splitAnswer (now (first .entry)) (now (second .entry)) (now (marks .entry)) (length (now (work .entry))))
+        × (now (work .exit)
+        ≡ afterCrossings (now (first .entry)) (now (second .entry)) (now (marks .entry)) (now (work .entry)))
         ⌝ }
 {
-    let answer = cross_pair(first, second, work);
+    let answer = cross_pair(first, second, marks, work);
     let CheckedPair::Pair {
-        tips,
+        tips: _,
+        counted,
         rows,
         columns,
     } = answer
@@ -63,5 +70,5 @@ pub fn split_counts(first: &[u16], second: &[u16], work: &mut [Cell]) -> SplitCo
     };
     let m = rows + 1;
     let k = columns + 1;
-    count_splits(&first[2..2 + m], &second[2..2 + k], work, as_count(tips))
+    count_splits(&first[2..2 + m], &second[2..2 + k], work, as_count(counted))
 }

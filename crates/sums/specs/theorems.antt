@@ -1,5 +1,6 @@
 pub mod BitLaws
 pub mod CountLaws
+pub mod CountSteps
 pub mod Exclusion
 pub mod FoursLaws
 pub mod Grids

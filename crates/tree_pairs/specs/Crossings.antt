@@ -9,8 +9,9 @@ use Rattle.sums.specs.Counts.{count}
 use Rattle.tree_check.specs.Table.{Table, tips, nodes}
 use Rattle.tree_check.specs.Refusals.{refusal, ifAccepted}
 use Rattle.counting.specs.Labels.{Labels, all}
+use Rattle.counting.specs.Kept.{kept}
 use Rattle.counting.specs.SplitCounts.{beyondAt}
-use Rattle.pair_check.specs.PairOrder.{cellsNeeded, pairOrder}
+use Rattle.pair_check.specs.PairOrder.{cellsNeeded, cellsOrder, pairOrder}
 
 -- how many of the labels lie beyond both edge i of the first tree and edge j of the second
 unfoldable pub edgeCrossing : Labels → Table → Table → ℕ → ℕ → ℕ
@@ -33,6 +34,14 @@ crossed l t u work = inOrder (cellsNeeded t u) (cellOf l t u) ++ drop (cellsNeed
 abbrev pub crossedAll : Table → Table → List ℕ → List ℕ
 crossedAll t u work = crossed (all (tips t)) t u work
 
--- the cells after a call; a refusal leaves every cell as it was
-unfoldable pub afterCrossings : Table → Table → List ℕ → List ℕ
-afterCrossings t u work = ifAccepted (refusal (pairOrder t u (length work))) (crossedAll t u work) work
+-- .. of the labels that are kept
+abbrev pub crossedKept : Table → Table → List ℕ → List ℕ → List ℕ
+crossedKept t u marks work = crossed (kept marks (tips t)) t u work
+
+-- the cells after a call with marks; a refusal leaves every cell as it was
+unfoldable pub afterCrossings : Table → Table → List ℕ → List ℕ → List ℕ
+afterCrossings t u marks work = ifAccepted (refusal (pairOrder t u marks (length work))) (crossedKept t u marks work) work
+
+-- .. and after one without, which counts all labels
+unfoldable pub afterAll : Table → Table → List ℕ → List ℕ
+afterAll t u work = ifAccepted (refusal (cellsOrder t u (length work))) (crossedAll t u work) work

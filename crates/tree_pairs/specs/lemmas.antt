@@ -1,3 +1,4 @@
+pub mod AllLabels
 pub mod CellSizes
 pub mod Cleared
 pub mod CrossingTotals

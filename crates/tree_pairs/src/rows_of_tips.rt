@@ -1,15 +1,17 @@
 // The rows of the first tree's tips: cells cleared, the node of each label found, and each tip's row marked
 // from its node up the second tree.
+use marks::is_kept;
 use table_words::Cell;
 use table_words::NODES;
 use table_words::as_index;
+ghost use mathlib.Core.Path.{_≡_};
 ghost use Prim.Native.Nat.{_≤_};
 ghost use lib.ListN.{length};
 ghost use Rattle.table_words.specs.Sizes.{nodeRoom};
 ghost use Rattle.tree_pairs.specs.lemmas.Cleared.{Cleared};
 ghost use Rattle.tree_pairs.specs.lemmas.NodeCells.{NodesOf};
 ghost use Rattle.tree_pairs.specs.lemmas.RowTotals.{RowFits, RowUp};
-ghost use Rattle.tree_pairs.specs.lemmas.TipRows.{MarkRoom, RowMarked, TipRoom, TipRows};
+ghost use Rattle.tree_pairs.specs.lemmas.TipRows.{MarkRoom, RowMarked, countedLabel, TipRoom, TipRows};
 
 // The first `count` cells become 0.
 pub(crate) fn clear(work: &mut [Cell], count: usize)
@@ -63,24 +65,35 @@ fn tip_row(parents: &[u16], work: &mut [Cell], base: usize, at: usize)
     add_up_row(parents, work, base);
 }
 
-// The row of each tip of the first tree: 1 at the nodes of the second tree at or above the tip with the same
-// label.
+// Whether x is one of n labels, and kept.
+fn is_counted(marks: &[u8], n: usize, x: usize) -> bool
+    ensures { λ r. ⌜ r ≡ countedLabel (now (marks .entry)) n x ⌝ }
+{
+    if !is_kept(marks, x) {
+        return false;
+    }
+    x < n
+}
+
+// The row of each tip of the first tree whose label is kept: 1 at the nodes of the second tree at or above the tip with the
+// same label. The row of a struck label stays empty.
 pub(crate) fn tip_rows(
     labels: &[u16],
+    marks: &[u8],
     n: usize,
     parents: &[u16],
     nodes: &[usize; NODES],
     work: &mut [Cell],
 )
     requires { ⌜ TipRoom (now labels) n (now parents) (now nodes) (now work) ⌝ }
-    ensures { λ _. ⌜ TipRows (now (labels .entry)) n (now (parents .entry)) (now (nodes .entry))
+    ensures { λ _. ⌜ TipRows (now (labels .entry)) (now (marks .entry)) n (now (parents .entry)) (now (nodes .entry))
         (length (now (labels .entry))) (now (work .entry)) (now (work .exit)) ⌝ }
 {
     let width = parents.len() - 1;
     let mut v = 1;
     while v < labels.len() {
         let x = as_index(labels[v]);
-        if x < n {
+        if is_counted(marks, n, x) {
             tip_row(parents, work, (v - 1) * width, nodes[x]);
         }
         v += 1;

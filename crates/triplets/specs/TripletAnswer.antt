@@ -5,7 +5,7 @@ use Rattle.tree_check.specs.Table.{Table}
 use Rattle.tree_check.specs.Refusals.{refusal, ifAccepted}
 use Rattle.counting.specs.Cases.{A, B, C, D, E}
 use Rattle.counting.specs.Triplets.{triplets}
-use Rattle.pair_check.specs.PairOrder.{pairOrder}
+use Rattle.pair_check.specs.PairOrder.{cellsOrder}
 use Rattle.triplets.specs.declared.tables.TripletTable.{TripletTable}
 
 -- how many sets of three labels the two trees put in each case, and the distance B + C + D
@@ -24,6 +24,7 @@ tripletsOfPair t u = record {
 abbrev pub refusedTriplets : ℕ → TripletTable
 refusedTriplets number = record { refusal = number; a = 0; b = 0; c = 0; d = 0; e = 0; distance = 0 }
 
+-- of all labels: the call takes no marks
 unfoldable pub tripletAnswer : Table → Table → ℕ → TripletTable
 tripletAnswer t u cells =
-    let number = refusal (pairOrder t u cells) in ifAccepted number (tripletsOfPair t u) (refusedTriplets number)
+    let number = refusal (cellsOrder t u cells) in ifAccepted number (tripletsOfPair t u) (refusedTriplets number)

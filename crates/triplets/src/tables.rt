@@ -5,12 +5,12 @@ use pair_check::CheckedPair;
 use pair_check::pair_refusal;
 use table_words::Cell;
 use table_words::as_count;
-use tree_pairs::cross_pair;
+use tree_pairs::cross_all;
 ghost use mathlib.Core.Path.{_≡_};
 ghost use Prim.Native.Nat.{_-_, _≤_};
 ghost use lib.ListN.{length};
 ghost use Rattle.sums.specs.Threes.{threes};
-ghost use Rattle.tree_pairs.specs.Crossings.{afterCrossings};
+ghost use Rattle.tree_pairs.specs.Crossings.{afterAll};
 ghost use Rattle.triplets.specs.lemmas.FormedTriplets.{TableFits, formed};
 ghost use Rattle.triplets.specs.lemmas.TripletsCounted.{Countable, counted};
 ghost use Rattle.triplets.specs.TripletAnswer.{tripletAnswer};
@@ -76,16 +76,17 @@ fn count_triplets(
     form_table(first, second, pairs.alike, pairs.apart, n)
 }
 
-// The triplet table, with the crossings in the cells afterwards.
+// The triplet table of all labels, with their crossings in the cells afterwards.
 pub fn triplet_table(first: &[u16], second: &[u16], work: &mut [Cell]) -> TripletTable
     ensures { λ r. ⌜
         (r ≡ tripletAnswer (now (first .entry)) (now (second .entry)) (length (now (work .entry))))
-        × (now (work .exit) ≡ afterCrossings (now (first .entry)) (now (second .entry)) (now (work .entry)))
+        × (now (work .exit) ≡ afterAll (now (first .entry)) (now (second .entry)) (now (work .entry)))
         ⌝ }
 {
-    let answer = cross_pair(first, second, work);
+    let answer = cross_all(first, second, work);
     let CheckedPair::Pair {
         tips,
+        counted: _,
         rows,
         columns,
     } = answer

@@ -13,10 +13,10 @@ ghost use Prim.Native.Nat.{_+_, _*_, _≤_};
 ghost use lib.ListN.{length};
 ghost use Rattle.tree_check.specs.Refusals.{refusal};
 ghost use Rattle.tree_check.specs.Table.{tips};
-ghost use Rattle.counting.specs.Labels.{all};
+ghost use Rattle.counting.specs.Kept.{kept};
 ghost use Rattle.counting.specs.Cases.{B, C, D, quartets as Cases·quartets};
-ghost use Rattle.pair_check.specs.PairOrder.{PairWithCells};
-ghost use Rattle.tree_pairs.specs.Crossings.{crossedAll};
+ghost use Rattle.pair_check.specs.PairOrder.{MarkedPair};
+ghost use Rattle.tree_pairs.specs.Crossings.{crossedKept};
 ghost use Rattle.weights.specs.Weights.{over256, numeratorOf};
 ghost use Rattle.weights.specs.WeightedAnswer.{fractionOrder, weightedAnswer, afterWeighted};
 
@@ -37,35 +37,42 @@ fn fraction_refusal(p: f64) -> u16
 }
 
 // The weighted distance of a pair with cells enough, by a fraction that is a k/256.
-fn weigh_table(first: &[u16], second: &[u16], work: &mut [Cell], p: f64) -> f64
-    requires { ⌜ PairWithCells (now first) (now second) (length (now work)) × (numeratorOf p ≤ 256) ⌝ }
+fn weigh_table(first: &[u16], second: &[u16], marks: &[u8], work: &mut [Cell], p: f64) -> f64
+    requires { ⌜ MarkedPair (now first) (now second) (now marks) (length (now work)) × (numeratorOf p ≤ 256) ⌝ }
     ensures { λ r. ⌜
         (r
-        ≡ over256 (256 * Cases·quartets (all (tips (now (first .entry)))) (now (first .entry)) (now (second .entry)) B
-        + numeratorOf p * (Cases·quartets (all (tips (now (first .entry)))) (now (first .entry)) (now (second .entry)) C
-        + Cases·quartets (all (tips (now (first .entry)))) (now (first .entry)) (now (second .entry)) D)))
-        × (now (work .exit) ≡ crossedAll (now (first .entry)) (now (second .entry)) (now (work .entry)))
+        ≡ over256
+        (256 * Cases·quartets (kept (now (marks .entry)) (tips (now (first .entry)))) (now (first .entry)) (now (second .entry)) B
+        + numeratorOf p
+        * (Cases·quartets (kept (now (marks .entry)) (tips (now (first .entry)))) (now (first .entry)) (now (second .entry)) C
+        + Cases·quartets (kept (now (marks .entry)) (tips (now (first .entry)))) (now (first .entry)) (now (second .entry)) D)))
+        × (now (work .exit)
+        ≡ crossedKept (now (first .entry)) (now (second .entry)) (now (marks .entry)) (now (work .entry)))
         ⌝ }
 {
-    let table = quartet_table(first, second, work);
+    let table = quartet_table(first, second, marks, work);
     weigh(table.b, table.c + table.d, p)
 }
 
-// The weighted distance, with the crossings in the cells afterwards. The fraction is judged before any cell is written.
+// The weighted distance over the kept labels, with the crossings in the cells afterwards. The fraction is judged before any
+// cell is written.
 pub fn weighted_distance(
     first: &[u16],
     second: &[u16],
+    marks: &[u8],
     work: &mut [Cell],
     weight: Weight,
 ) -> WeightedDistance
     ensures { λ r. ⌜
-        (r ≡ weightedAnswer (now (first .entry)) (now (second .entry)) (length (now (work .entry))) weight)
-        × (now (work .exit) ≡ afterWeighted (now (first .entry)) (now (second .entry)) weight (now (work .entry)))
+        (r ≡ weightedAnswer (now (first .entry)) (now (second .entry)) (now (marks .entry)) (length (now (work .entry))) weight)
+        × (now (work .exit)
+        ≡ afterWeighted (now (first .entry)) (now (second .entry)) (now (marks .entry)) weight (now (work .entry)))
         ⌝ }
 {
-    let answer = check_work(first, second, work.len());
+    let answer = check_work(first, second, marks, work.len());
     let CheckedPair::Pair {
         tips: _,
+        counted: _,
         rows: _,
         columns: _,
     } = answer
@@ -79,7 +86,7 @@ pub fn weighted_distance(
     let number = fraction_refusal(p);
     let mut distance = 0.0;
     if number == 0 {
-        distance = weigh_table(first, second, work, p);
+        distance = weigh_table(first, second, marks, work, p);
     }
     WeightedDistance {
         refusal: number,

@@ -76,7 +76,7 @@ other-weight (suc (suc zero)) x a b c = absurd (c refl)
 other-weight (suc (suc (suc kind))) x a b c = refl
 
 -- the answer and the cells of the weight that was made
-pub weighted-plain : (t u : Table) (work new : List ℕ) (r : WeightedDistance) (w w' : Weight) → w ≡ w'
-    → r ≡ weightedAnswer t u (length work) w → new ≡ afterWeighted t u w work
-    → (plainWeighted r ≡ plainWeighted (weightedAnswer t u (length work) w')) × (new ≡ afterWeighted t u w' work)
-weighted-plain t u work new r w w' e er en = rw (← e) (ap plainWeighted er, en)
+pub weighted-plain : (t u : Table) (marks work new : List ℕ) (r : WeightedDistance) (w w' : Weight) → w ≡ w'
+    → r ≡ weightedAnswer t u marks (length work) w → new ≡ afterWeighted t u marks w work
+    → (plainWeighted r ≡ plainWeighted (weightedAnswer t u marks (length work) w')) × (new ≡ afterWeighted t u marks w' work)
+weighted-plain t u marks work new r w w' e er en = rw (← e) (ap plainWeighted er, en)

@@ -63,12 +63,12 @@ pub record CellRoom (work : List ℕ) (base c : ℕ) : Type 0 where
   pub row-most : word work base ≤ tipsMost
   pub column-most : word work c ≤ tipsMost
 
--- `rows` rows of w crossings, of trees on n tips
+-- `rows` rows of w crossings, of n labels
 pub record Crossed (work : List ℕ) (rows w n : ℕ) : Type 0 where
   pub rows-few : rows ≤ nodeRoom
   pub narrow : w ≤ nodeRoom
   pub inside : rows * w ≤ length work
-  pub tips-few : n ≤ tipsMost
+  pub labels-few : n ≤ tipsMost
   pub in-row : (r c : ℕ) → r < rows → c < w → word work (r * w + c) ≤ word work (r * w)
   pub in-column : (r c : ℕ) → r < rows → c < w → word work (r * w + c) ≤ word work c
   pub row-most : (r : ℕ) → r < rows → word work (r * w) ≤ n
@@ -94,8 +94,8 @@ cell-room work rows w n h r c lr lc = record {
   narrow = omega (arith, h .narrow);
   in-row = h .in-row r c lr lc;
   in-column = h .in-column r c lr lc;
-  row-most = omega (arith, h .row-most r lr, h .tips-few);
-  column-most = omega (arith, h .column-most c lc, h .tips-few);
+  row-most = omega (arith, h .row-most r lr, h .labels-few);
+  column-most = omega (arith, h .column-most c lc, h .labels-few);
 }
   where
     ends : (r + 1) * w ≤ rows * w

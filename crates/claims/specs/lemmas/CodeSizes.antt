@@ -9,7 +9,7 @@ use Rattle.table_words.specs.Sizes.{tipsMost, workRoom}
 use Rattle.tree_check.specs.Table.{word}
 
 -- Edge r has its size in cell r * step. The i-th code into a node belongs to edge r i: the node's own edge first, which
--- points away from tip 0, then its children's, which point towards it; n is the number of tips.
+-- points away from tip 0, then its children's, which point towards it; n is the number of labels that are counted.
 unfoldable pub codeSize : List ℕ → ℕ → ℕ → (ℕ → ℕ) → ℕ → ℕ
 codeSize work step n r zero = n - word work (r 0 * step)
 codeSize work step n r (suc i) = word work (r (suc i) * step)

@@ -242,7 +242,7 @@ module _ (ks : Labels) (t u : Table) (work : List ℕ) (p : PairWithCells t u (l
         rows-few = omega arith;
         narrow = omega arith;
         inside = omega (arith, crossed-length ks t u work (p .room), p .room);
-        tips-few = omega (arith, number-le (tips t) ks r, few .1);
+        labels-few = omega (arith, number-le (tips t) ks r, few .1);
         in-row = λ j k lj lk. omega (arith, cell-is j k lj lk, row-is j k lj lk, first-rising ks t u j k);
         in-column = λ j k lj lk. omega (arith, cell-is j k lj lk, column-is j k lj lk, second-rising ks t u j k);
         row-most = λ j lj. omega (

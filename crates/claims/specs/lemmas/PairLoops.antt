@@ -213,21 +213,29 @@ nodeS2 work w n ps qs v = sum (length qs) (pairSumS2 work w n ps qs v)
 abbrev pub nodeS3 : List ℕ → ℕ → ℕ → List ℕ → List ℕ → ℕ → ℕ
 nodeS3 work w n ps qs v = sum (length qs) (pairSumS3 work w n ps qs v)
 
-pub record NodePairs (work : List ℕ) (w n : ℕ) (ps starts edges qs starts' edges' : List ℕ) : Type 0 where
+-- n labels are counted, and no node has more than `most` codes into it
+pub record NodePairs (work : List ℕ) (w n most : ℕ) (ps starts edges qs starts' edges' : List ℕ) : Type 0 where
   pub first : CodeLists ps starts edges
   pub second : CodeLists qs starts' edges'
   pub crossed : Crossed work (length ps - 1) w n
   pub width : length qs - 1 ≤ w
-  pub first-few : (v : ℕ) → v < length ps → degreeAt ps v ≤ n
-  pub second-few : (v : ℕ) → v < length qs → degreeAt qs v ≤ n
+  pub most-few : most ≤ tipsMost
+  pub first-few : (v : ℕ) → v < length ps → degreeAt ps v ≤ most
+  pub second-few : (v : ℕ) → v < length qs → degreeAt qs v ≤ most
   pub whole : (v v' : ℕ) → v < length ps → v' < length qs → 3 ≤ degreeAt ps v → 3 ≤ degreeAt qs v'
       → sum (degreeAt ps v) (λ i. sum (degreeAt qs v')
       (codeCell work w n (edgeInto ps v) (edgeInto qs v') i)) ≤ tipsMost
   pub all-S2 : sum (length ps) (nodeS2 work w n ps qs) ≤ 699170560
   pub all-S3 : sum (length ps) (nodeS3 work w n ps qs) ≤ 699170560
 
-module _ (work : List ℕ) (w n : ℕ) (ps starts edges qs starts' edges' : List ℕ)
-    (h : NodePairs work w n ps starts edges qs starts' edges') (v : ℕ) (l : v < length ps) where
+-- .. and room for the block of any two nodes in `size` cells
+pub record PairsRoom (work : List ℕ) (w n : ℕ) (ps starts edges qs starts' edges' : List ℕ) (size : ℕ) : Type 0 where
+  pub most : ℕ
+  pub pairs : NodePairs work w n most ps starts edges qs starts' edges'
+  pub room : most * most ≤ size
+
+module _ (work : List ℕ) (w n most : ℕ) (ps starts edges qs starts' edges' : List ℕ)
+    (h : NodePairs work w n most ps starts edges qs starts' edges') (v : ℕ) (l : v < length ps) where
   same-rows : (v' i j : ℕ) → i < degreeAt ps v
       → codeCell work w n (word (nodePart starts edges v)) (edgeInto qs v') i j
       ≡ codeCell work w n (edgeInto ps v) (edgeInto qs v') i j
@@ -256,13 +264,13 @@ module _ (work : List ℕ) (w n : ℕ) (ps starts edges qs starts' edges' : List
       → a ≡ nodeS3 work w n ps qs v
   node-S3 a q = q ∙ sum-cong (length qs) node-pair-S3
 
-  node-row : (size : ℕ) → n * n ≤ size → 3 ≤ length (nodePart starts edges v)
+  node-row : (size : ℕ) → most * most ≤ size → 3 ≤ length (nodePart starts edges v)
       → NodeRow work w n (nodePart starts edges v) qs starts' edges' size
   node-row size k m = record {
     count = length ps - 1;
     crossed = h .crossed;
     rows-three = m;
-    rows-few = omega (arith, e, h .first-few v l, h .crossed .tips-few);
+    rows-few = omega (arith, e, h .first-few v l, h .most-few);
     rows-inside = λ i li. omega (
       arith,
       part-edge ps starts edges (h .first) v l i (omega (arith, e)),
@@ -272,9 +280,9 @@ module _ (work : List ℕ) (w n : ℕ) (ps starts edges qs starts' edges' : List
     width = h .width;
     room = λ v' l'. omega (
       arith,
-      product-le n n (length (nodePart starts edges v)) (degreeAt qs v') (omega (arith, e, h .first-few v l)) (h .second-few v' l'),
+      product-le most most (length (nodePart starts edges v)) (degreeAt qs v') (omega (arith, e, h .first-few v l)) (h .second-few v' l'),
     );
-    few = λ v' l'. omega (arith, h .second-few v' l', h .crossed .tips-few);
+    few = λ v' l'. omega (arith, h .second-few v' l', h .most-few);
     whole = λ v' l' m'. rw (
       e,
       sum-ext (degreeAt ps v) _ _ (λ i li.
@@ -295,5 +303,5 @@ module _ (work : List ℕ) (w n : ℕ) (ps starts edges qs starts' edges' : List
     );
   }
 
-  pub node-room : (size : ℕ) → n * n ≤ size → RowRoom work w n (nodePart starts edges v) qs starts' edges' size
+  pub node-room : (size : ℕ) → most * most ≤ size → RowRoom work w n (nodePart starts edges v) qs starts' edges' size
   node-room size k = record { row = node-row size k }

@@ -11,16 +11,14 @@ use Rattle.sums.specs.Sum.{sum}
 use Rattle.tree_check.specs.Table.{Table, tips, nodes, parents}
 use Rattle.tree_check.specs.lemmas.TableParts.{parents-length}
 use Rattle.tree_check.specs.Refusals.{refusal}
-use Rattle.tree_check.specs.theorems.RefusalLaws.{if-accepted, if-refused}
+use Rattle.tree_check.specs.theorems.RefusalLaws.{if-refused}
 use Rattle.tree_check.specs.IsTree.{IsTree}
-use Rattle.counting.specs.Labels.{all}
-use Rattle.counting.specs.theorems.LabelLaws.{all-rising}
-use Rattle.counting.specs.ClaimSums.{S, S2, S3}
+use Rattle.counting.specs.Labels.{Labels, all, Rising}
+use Rattle.counting.specs.theorems.LabelLaws.{number-le}
 use Rattle.counting.specs.theorems.QuartetTheorem.{quartet-theorem}
 use Rattle.pair_check.specs.PairOrder.{PairWithCells, pairOrder}
-use Rattle.pair_check.specs.theorems.PairCheck.{pair-check}
-use Rattle.tree_pairs.specs.Crossings.{crossedAll}
-use Rattle.claims.specs.ClaimAnswer.{sumsOfPair, refusedSums, claimAnswer}
+use Rattle.tree_pairs.specs.Crossings.{crossed}
+use Rattle.claims.specs.ClaimAnswer.{sumsOver, refusedSums, claimAnswer}
 use Rattle.claims.specs.declared.totals.ClaimSums.{ClaimSums}
 use Rattle.claims.specs.lemmas.CodeCells.{Crossed, codeCell, row-start}
 use Rattle.claims.specs.lemmas.NodeCodes.{CodeLists}
@@ -36,36 +34,38 @@ use Rattle.claims.specs.lemmas.TreeSizes.{TreeSizes}
 
 -- ---- what the code sums
 
+-- where k labels are counted
 unfoldable pub summed : List ℕ → ℕ → List ℕ → List ℕ → ClaimSums
-summed work n ps qs = record {
+summed work k ps qs = record {
   refusal = 0;
-  first = sum (length ps) (nodeSum work (length qs - 1) n ps) / 2;
-  second = sum (length qs) (nodeSum work 1 n qs) / 2;
-  same = sum (length ps) (nodeS2 work (length qs - 1) n ps qs) / 2;
-  different = sum (length ps) (nodeS3 work (length qs - 1) n ps qs);
+  first = sum (length ps) (nodeSum work (length qs - 1) k ps) / 2;
+  second = sum (length qs) (nodeSum work 1 k qs) / 2;
+  same = sum (length ps) (nodeS2 work (length qs - 1) k ps qs) / 2;
+  different = sum (length ps) (nodeS3 work (length qs - 1) k ps qs);
 }
 
--- what it asks of the parents and of the cells
-pub record Summable (work : List ℕ) (n : ℕ) (ps qs : List ℕ) : Type 0 where
+-- what it asks of the parents and of the cells; the trees have n tips
+pub record Summable (work : List ℕ) (k n : ℕ) (ps qs : List ℕ) : Type 0 where
   pub first : Parents ps
   pub second : Parents qs
   pub some : (2 ≤ length ps) × (2 ≤ length qs)
-  pub crossed : Crossed work (length ps - 1) (length qs - 1) n
+  pub crossed : Crossed work (length ps - 1) (length qs - 1) k
+  pub tips-few : n ≤ tipsMost
   pub first-few : (v : ℕ) → v < length ps → degreeAt ps v ≤ n
   pub second-few : (v : ℕ) → v < length qs → degreeAt qs v ≤ n
   pub first-whole : (v : ℕ) → v < length ps → 3 ≤ degreeAt ps v
-      → sum (degreeAt ps v) (codeSize work (length qs - 1) n (edgeInto ps v)) ≤ tipsMost
+      → sum (degreeAt ps v) (codeSize work (length qs - 1) k (edgeInto ps v)) ≤ tipsMost
   pub second-whole : (v : ℕ) → v < length qs → 3 ≤ degreeAt qs v
-      → sum (degreeAt qs v) (codeSize work 1 n (edgeInto qs v)) ≤ tipsMost
+      → sum (degreeAt qs v) (codeSize work 1 k (edgeInto qs v)) ≤ tipsMost
   pub cells-whole : (v v' : ℕ) → v < length ps → v' < length qs → 3 ≤ degreeAt ps v → 3 ≤ degreeAt qs v'
       → sum (degreeAt ps v) (λ i. sum (degreeAt qs v')
-      (codeCell work (length qs - 1) n (edgeInto ps v) (edgeInto qs v') i)) ≤ tipsMost
-  pub first-most : sum (length ps) (nodeSum work (length qs - 1) n ps) ≤ 699170560
-  pub second-most : sum (length qs) (nodeSum work 1 n qs) ≤ 699170560
-  pub same-most : sum (length ps) (nodeS2 work (length qs - 1) n ps qs) ≤ 699170560
-  pub different-most : sum (length ps) (nodeS3 work (length qs - 1) n ps qs) ≤ 699170560
+      (codeCell work (length qs - 1) k (edgeInto ps v) (edgeInto qs v') i)) ≤ tipsMost
+  pub first-most : sum (length ps) (nodeSum work (length qs - 1) k ps) ≤ 699170560
+  pub second-most : sum (length qs) (nodeSum work 1 k qs) ≤ 699170560
+  pub same-most : sum (length ps) (nodeS2 work (length qs - 1) k ps qs) ≤ 699170560
+  pub different-most : sum (length ps) (nodeS3 work (length qs - 1) k ps qs) ≤ 699170560
 
-module _ (work : List ℕ) (n : ℕ) (ps qs : List ℕ) (h : Summable work n ps qs) where
+module _ (work : List ℕ) (k n : ℕ) (ps qs : List ℕ) (h : Summable work k n ps qs) where
   pub first-lists : (starts edges : List ℕ) → Starts ps starts → EdgeList ps edges → CodeLists ps starts edges
   first-lists starts edges a b =
       record { parents = h .first; begins = a; listed = b; long = b .long }
@@ -75,12 +75,12 @@ module _ (work : List ℕ) (n : ℕ) (ps qs : List ℕ) (h : Summable work n ps 
       record { parents = h .second; begins = a; listed = b; long = b .long }
 
   pub first-sizes : (starts edges : List ℕ) → CodeLists ps starts edges
-      → TreeSizes work (length qs - 1) n ps starts edges tipsMost
+      → TreeSizes work (length qs - 1) k ps starts edges tipsMost
   first-sizes starts edges l = record {
     lists = l;
     room = omega arith;
-    few = λ v l. omega (arith, h .first-few v l, h .crossed .tips-few);
-    cell = λ r m. let a = row-start work _ _ n (h .crossed) r m (omega (arith, h .some)) in record {
+    few = λ v l. omega (arith, h .first-few v l, h .tips-few);
+    cell = λ r m. let a = row-start work _ _ k (h .crossed) r m (omega (arith, h .some)) in record {
       inside = a .0;
       low = a .1;
       most = h .crossed .row-most r m;
@@ -89,9 +89,9 @@ module _ (work : List ℕ) (n : ℕ) (ps qs : List ℕ) (h : Summable work n ps 
     all = h .first-most;
   }
 
-  column-cell : (r : ℕ) → r < length qs - 1 → SizeCell work n (r * 1)
+  column-cell : (r : ℕ) → r < length qs - 1 → SizeCell work k (r * 1)
   column-cell r m =
-      let a = row-start work _ _ n (h .crossed) 0 (omega (arith, h .some)) (omega arith) in
+      let a = row-start work _ _ k (h .crossed) 0 (omega (arith, h .some)) (omega arith) in
       let e : r * 1 ≡ r = omega arith in
       rw e (record {
         inside = omega (arith, h .crossed .inside, rows);
@@ -102,23 +102,24 @@ module _ (work : List ℕ) (n : ℕ) (ps qs : List ℕ) (h : Summable work n ps 
       rows : 1 * (length qs - 1) ≤ (length ps - 1) * (length qs - 1)
       rows = native.Mathlib.Nat.mul-le-mul-right (length qs - 1) (omega (arith, h .some))
 
-  pub second-sizes : (starts edges : List ℕ) → CodeLists qs starts edges → TreeSizes work 1 n qs starts edges tipsMost
+  pub second-sizes : (starts edges : List ℕ) → CodeLists qs starts edges → TreeSizes work 1 k qs starts edges tipsMost
   second-sizes starts edges l = record {
     lists = l;
     room = omega arith;
-    few = λ v l. omega (arith, h .second-few v l, h .crossed .tips-few);
+    few = λ v l. omega (arith, h .second-few v l, h .tips-few);
     cell = column-cell;
     whole = h .second-whole;
     all = h .second-most;
   }
 
   pub node-pairs : (starts edges begins columns : List ℕ) → CodeLists ps starts edges → CodeLists qs begins columns
-      → NodePairs work (length qs - 1) n ps starts edges qs begins columns
+      → NodePairs work (length qs - 1) k n ps starts edges qs begins columns
   node-pairs starts edges begins columns l m = record {
     first = l;
     second = m;
     crossed = h .crossed;
     width = omega arith;
+    most-few = h .tips-few;
     first-few = h .first-few;
     second-few = h .second-few;
     whole = h .cells-whole;
@@ -127,17 +128,17 @@ module _ (work : List ℕ) (n : ℕ) (ps qs : List ℕ) (h : Summable work n ps 
   }
 
 -- from the four sums
-pub summed-is : (work : List ℕ) (n : ℕ) (ps qs : List ℕ) (a b c d : ℕ)
-    → a ≡ sum (length ps) (nodeSum work (length qs - 1) n ps) → b ≡ sum (length qs) (nodeSum work 1 n qs)
-    → c ≡ sum (length ps) (nodeS2 work (length qs - 1) n ps qs)
-    → d ≡ sum (length ps) (nodeS3 work (length qs - 1) n ps qs)
-    → record { refusal = 0; first = a / 2; second = b / 2; same = c / 2; different = d } ≡ summed work n ps qs
+pub summed-is : (work : List ℕ) (k : ℕ) (ps qs : List ℕ) (a b c d : ℕ)
+    → a ≡ sum (length ps) (nodeSum work (length qs - 1) k ps) → b ≡ sum (length qs) (nodeSum work 1 k qs)
+    → c ≡ sum (length ps) (nodeS2 work (length qs - 1) k ps qs)
+    → d ≡ sum (length ps) (nodeS3 work (length qs - 1) k ps qs)
+    → record { refusal = 0; first = a / 2; second = b / 2; same = c / 2; different = d } ≡ summed work k ps qs
 unfolding summed
-summed-is work n ps qs a b c d ea eb ec ed = rw (ea, eb, ec, ed) refl
+summed-is work k ps qs a b c d ea eb ec ed = rw (ea, eb, ec, ed) refl
 
 -- ---- of two tables
 
-module _ (t u : Table) (work : List ℕ) (p : PairWithCells t u (length work)) where
+module _ (l : Labels) (t u : Table) (work : List ℕ) (p : PairWithCells t u (length work)) (r : Rising (tips t) l) where
   g : IsTree t
   g = p .pair .first
 
@@ -161,48 +162,50 @@ module _ (t u : Table) (work : List ℕ) (p : PairWithCells t u (length work)) w
   inner-second : (v : ℕ) → 3 ≤ degreeAt (parents u) v → 1 ≤ v
   inner-second v m = inner _ v m (λ e. rw e (root-degree u h))
 
-  pub summable : Summable (crossedAll t u work) (tips t) (parents t) (parents u)
+  pub summable : Summable (crossed l t u work) (l .number) (tips t) (parents t) (parents u)
   summable =
       let few = g .tips-range in
       let many = g .nodes-range in
       let more = h .nodes-range in
       let same = p .pair .same-tips in
-      let q = quartet-theorem (all (tips t)) t u g h same (all-rising (tips t)) in record {
+      let kept = number-le (tips t) l r in
+      let q = quartet-theorem l t u g h same r in record {
         first = tree-parents t g;
         second = tree-parents u h;
         some = (omega (arith, long), omega (arith, long'));
-        crossed = rw (long, long') (crossed-cells (all (tips t)) t u work p (all-rising (tips t)));
-        first-few = λ v l. let d = degree-few t g v (omega (arith, long)) in omega arith;
-        second-few = λ v l. let d = degree-few u h v (omega (arith, long')) in omega arith;
-        first-whole = λ v l m.
-            let w = rw (← long') at (first-whole (all (tips t)) t u work p (all-rising (tips t)) v (inner-first v m) (omega (arith, long))) in omega arith;
-        second-whole = λ v l m.
-            let w = second-whole (all (tips t)) t u work p (all-rising (tips t)) v (inner-second v m) (omega (arith, long')) in omega arith;
-        cells-whole = λ v v' l l' m m'. let w = rw (← long') at (cells-whole (all (tips t)) t u work p (all-rising (tips t)) v v'
-            (inner-first v m) (omega (arith, long)) (inner-second v' m') (omega (arith, long'))) in omega arith;
-        first-most = rw (long', first-sum (all (tips t)) t u work p (all-rising (tips t))) (omega (arith, q .S-most));
-        second-most = rw (second-sum (all (tips t)) t u work p (all-rising (tips t))) (omega (arith, q .S'-most));
-        same-most = rw (long', same-sum (all (tips t)) t u work p (all-rising (tips t))) (omega (arith, q .S2-most));
-        different-most = rw (long', different-sum (all (tips t)) t u work p (all-rising (tips t))) (omega (arith, q .S3-most));
+        crossed = rw (long, long') (crossed-cells l t u work p r);
+        tips-few = few .1;
+        first-few = λ v m. degree-few t g v (omega (arith, long));
+        second-few = λ v m. let d = degree-few u h v (omega (arith, long')) in omega arith;
+        first-whole = λ v m three.
+            let w = rw (← long') at (first-whole l t u work p r v (inner-first v three) (omega (arith, long))) in omega arith;
+        second-whole = λ v m three.
+            let w = second-whole l t u work p r v (inner-second v three) (omega (arith, long')) in omega arith;
+        cells-whole = λ v v' m m' three three'. let w = rw (← long') at (cells-whole l t u work p r v v'
+            (inner-first v three) (omega (arith, long)) (inner-second v' three') (omega (arith, long'))) in omega arith;
+        first-most = rw (long', first-sum l t u work p r) (omega (arith, q .S-most));
+        second-most = rw (second-sum l t u work p r) (omega (arith, q .S'-most));
+        same-most = rw (long', same-sum l t u work p r) (omega (arith, q .S2-most));
+        different-most = rw (long', different-sum l t u work p r) (omega (arith, q .S3-most));
       }
 
   halved : (a b : ℕ) → a ≡ 2 * b → a / 2 ≡ b
   halved a b e = omega arith
 
   -- the sums are the published ones
-  pub claims-accepted : summed (crossedAll t u work) (tips t) (parents t) (parents u) ≡ claimAnswer t u (length work)
-  unfolding summed claimAnswer
-  claims-accepted = rw (
+  pub claims-over : summed (crossed l t u work) (l .number) (parents t) (parents u) ≡ sumsOver l t u
+  unfolding summed
+  claims-over = rw (
     long',
-    halved _ _ (first-sum (all (tips t)) t u work p (all-rising (tips t))),
-    halved _ _ (rw long' at (second-sum (all (tips t)) t u work p (all-rising (tips t)))),
-    halved _ _ (same-sum (all (tips t)) t u work p (all-rising (tips t))),
-    different-sum (all (tips t)) t u work p (all-rising (tips t)),
+    halved _ _ (first-sum l t u work p r),
+    halved _ _ (rw long' at (second-sum l t u work p r)),
+    halved _ _ (same-sum l t u work p r),
+    different-sum l t u work p r,
   )
-      (sym (if-accepted _ (sumsOfPair t u) _ (pair-check t u (length work) .1 p)))
+      refl
 
 -- a refused pair
-pub claims-refused : (t u : Table) (cells k : ℕ) → k ≡ refusal (pairOrder t u cells) → k ≢ 0
-    → refusedSums k ≡ claimAnswer t u cells
+pub claims-refused : (t u : Table) (marks : List ℕ) (cells k : ℕ) → k ≡ refusal (pairOrder t u marks cells) → k ≢ 0
+    → refusedSums k ≡ claimAnswer t u marks cells
 unfolding claimAnswer
-claims-refused t u cells k e d = rw e (sym (if-refused _ _ _ (λ z. d (e ∙ z))))
+claims-refused t u marks cells k e d = rw e (sym (if-refused _ _ _ (λ z. d (e ∙ z))))

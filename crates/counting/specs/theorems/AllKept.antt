@@ -18,7 +18,8 @@ use Rattle.trees.specs.declared.quartet.Topology.{Topology}
 use Rattle.trees.specs.Topology.{topology}
 use Rattle.tree_check.specs.Table.{Table, tips, nodes, parent, nodeOf, beyond}
 use Rattle.counting.specs.Labels.{Labels, all}
-use Rattle.counting.specs.Kept.{isKept, kept}
+use Rattle.marks.specs.Marks.{isKept}
+use Rattle.counting.specs.Kept.{kept}
 use Rattle.counting.specs.ClaimSums.{codes, behindEdge, size, crossing, S, S2, S3}
 use Rattle.counting.specs.Cases.{Case, caseOf, isCase, topologyAt, quartets}
 use Rattle.counting.specs.SplitCounts.{beyondAt, splits, commonSplits, robinsonFoulds}
@@ -70,7 +71,7 @@ module _ (l m : Labels) (a : Alike l m) where
       rw (at w (omega arith), at x (omega arith), at y (omega arith), at z o) refl)
       ∙ ap (λ (n : ℕ). sets4 n (λ w x y z. bit (isCase (caseOf (topologyAt m t w x y z) (topologyAt m u w x y z)) k))) (a .same-number)
 
-  sides-alike : (t : Table) (i x : ℕ) → x < l .number → beyondAt l t i x ≡ beyondAt m t i x
+  pub sides-alike : (t : Table) (i x : ℕ) → x < l .number → beyondAt l t i x ≡ beyondAt m t i x
   unfolding beyondAt
   sides-alike t i x o = ap (beyond t i) (a .same-at x o)
 
@@ -100,10 +101,14 @@ module _ (l m : Labels) (a : Alike l m) where
     robinson-foulds = unfold robinsonFoulds in rw (splits-alike t, splits-alike u, common-alike t u) refl;
   }
 
--- all n labels are kept: every figure is what it is without marks
-pub all-kept : (marks : List ℕ) (n : ℕ) → ((x : ℕ) → x < n → bit (isKept marks x) ≡ 1) → (t u : Table)
-    → FiguresAlike (kept marks n) (all n) t u
-all-kept marks n every t u = figures-alike (kept marks n) (all n) (record {
+-- all n labels are kept: as many, and each its own rank
+pub all-alike : (marks : List ℕ) (n : ℕ) → ((x : ℕ) → x < n → bit (isKept marks x) ≡ 1) → Alike (kept marks n) (all n)
+all-alike marks n every = record {
   same-number = all-kept-number marks n every;
   same-at = λ x o. all-kept-at marks n every x (omega (arith, all-kept-number marks n every));
-}) t u
+}
+
+-- .. so every figure is what it is without marks
+pub all-kept : (marks : List ℕ) (n : ℕ) → ((x : ℕ) → x < n → bit (isKept marks x) ≡ 1) → (t u : Table)
+    → FiguresAlike (kept marks n) (all n) t u
+all-kept marks n every t u = figures-alike (kept marks n) (all n) (all-alike marks n every) t u

@@ -10,11 +10,13 @@ use native.Mathlib.Decide.{decLe, decLt, ℕ-discrete}
 use native.Mathlib.Omega.{arith}
 use borrow.Author.Tests.{eq-eqb, ne-eqb}
 use Rattle.sums.specs.Sum.{sum}
-use Rattle.sums.specs.theorems.SumLaws.{sum-suc, sum-ext, sum-part, sum-const}
+use Rattle.sums.specs.SetsOfFour.{sets2, sets3, sets4}
+use Rattle.sums.specs.theorems.SumLaws.{sum-suc, sum-ext, sum-part, sum-const, sum-mul-left}
 use Rattle.sums.specs.Bits.{bit}
 use Rattle.sums.specs.Counts.{count}
 use Rattle.counting.specs.Labels.{Labels, Rising}
-use Rattle.counting.specs.Kept.{isKept, keptAt, kept}
+use Rattle.marks.specs.Marks.{isKept}
+use Rattle.counting.specs.Kept.{keptAt, kept}
 
 known : (b : Bool) → ((b ≡ true) × (bit b ≡ 1)) ⊎ ((b ≡ false) × (bit b ≡ 0))
 unfolding bit
@@ -96,6 +98,40 @@ module _ (q : ℕ → Bool) where
     where
       same : sum (count n q) (λ i. f (keptAt q (suc n) i)) ≡ sum (count n q) (λ i. f (keptAt q n i))
       same = sum-ext (count n q) _ _ (λ i l. ap f (at-more n i l))
+
+  -- labels below m alone have the same ranks
+  at-lower : (n m i : ℕ) → m ≤ n → i < count m q → keptAt q n i ≡ keptAt q m i
+  at-lower zero m i h l = absurd (omega (arith, l, grows 0 m h, none-below))
+    where
+      none-below : count 0 q ≡ 0
+      none-below = unfold sum in refl
+  at-lower (suc n) m i h l = elim (ℕ-discrete m (suc n)) [
+    | yes e ↦ ap (λ (k : ℕ). keptAt q k i) (sym e)
+    | no d ↦ at-more n i (omega (arith, l, grows n m (omega (arith, h, d)))) ∙ at-lower n m i (omega (arith, h, d)) l
+  ]
+
+  -- a sum over the ranks below that of a kept label is one over the kept labels below it
+  sum-before : (n z : ℕ) (f : ℕ → ℕ) → z < count n q
+      → sum z (λ i. f (keptAt q n i)) ≡ sum (keptAt q n z) (λ x. bit (q x) * f x)
+  sum-before n z f l =
+      let r = ranked n z l in
+      ap (λ (c : ℕ). sum c (λ i. f (keptAt q n i))) (sym (r .rank))
+      ∙ sum-ext (count (keptAt q n z) q) _ _ (λ i m. ap f (at-lower n (keptAt q n z) i (omega (arith, r .label)) m))
+      ∙ sum-kept (keptAt q n z) f
+
+  -- a sum over sets of four ranks is one over sets of four kept labels
+  pub sets4-kept : (n : ℕ) (f : ℕ → ℕ → ℕ → ℕ → ℕ)
+      → sets4 (count n q) (λ w x y z. f (keptAt q n w) (keptAt q n x) (keptAt q n y) (keptAt q n z))
+      ≡ sets4 n (λ w x y z. bit (q z) * (bit (q y) * (bit (q x) * (bit (q w) * f w x y z))))
+  unfolding sets4 sets3 sets2
+  sets4-kept n f =
+      sum-ext (count n q) _ _ (λ z lz.
+      sum-ext z _ _ (λ y ly.
+      sum-ext y _ _ (λ x lx. sum-before n x (λ w. f w (keptAt q n x) (keptAt q n y) (keptAt q n z)) (omega arith))
+      ∙ sum-before n y (λ x. sum x (λ w. bit (q w) * f w x (keptAt q n y) (keptAt q n z))) (omega arith))
+      ∙ sum-before n z (λ y. sum y (λ x. bit (q x) * sum x (λ w. bit (q w) * f w x y (keptAt q n z)))) lz)
+      ∙ sum-kept n (λ z. sum z (λ y. bit (q y) * sum y (λ x. bit (q x) * sum x (λ w. bit (q w) * f w x y z))))
+      ∙ sym (simp sum-mul-left)
 
 -- ---- of marks
 

@@ -2,7 +2,7 @@
 -- Assumes nothing.
 use mathlib.Core.Path.{_≡_, refl}
 use mathlib.Core.Bool.{true, false}
-use mathlib.Core.List.{List, [], _∷_}
+use mathlib.Core.List.{List, [], _∷_, _++_}
 use Prim.Native.Nat.{ℕ, _+_}
 use Rattle.sums.specs.Sum.{sum}
 use Rattle.sums.specs.Bits.{bit}
@@ -18,23 +18,28 @@ use Rattle.shapes.specs.Splits.{isSplit, sameSides, occurs, isNewSplit, splitsO
 use Rattle.tree_check.specs.Table.{Table, tips, nodes, parents, labels, parent, label, nodeBelow, nodeOf, beyond}
 use Rattle.trees.specs.Topology.{butterfly, partner, named, topology}
 use Rattle.walks.specs.theorems.WalkExamples.{X, P, Q, R, W, TwoTips, ThreeTips}
-use Rattle.counting.specs.Labels.{all}
+use Rattle.marks.specs.Marks.{isKept}
+use Rattle.counting.specs.Labels.{Labels, all}
+use Rattle.counting.specs.Kept.{keptAt, kept}
 use Rattle.counting.specs.ClaimSums.{codes, behindEdge, size, crossing, S, S2, S3}
 use Rattle.counting.specs.Cases.{A, B, C, D, E, caseOf, caseNumber, isCase, topologyAt, quartets}
 use Rattle.counting.specs.QuartetTable.{formulaA, formulaB, formulaC, formulaE, formulaDistance, formulaD}
 use Rattle.counting.specs.SplitCounts.{beyondAt, splits, commonSplits, robinsonFoulds, sameSplits}
 use Rattle.counting.specs.Triplets.{together, triplet, triplets}
 
--- one line of the reference table: S S′ S2 S3, A B C D E, distance, splits of the first, of the second, common,
--- Robinson-Foulds distance, A B C D E of the triplets
-unfoldable pub figures : Table → Table → List ℕ
-figures t u =
-    let l = all (tips t) in
+-- over labels: S S′ S2 S3, A B C D E, distance, splits of the first, of the second, common, Robinson-Foulds distance
+unfoldable pub figuresOver : Labels → Table → Table → List ℕ
+figuresOver l t u =
     S l t ∷ S l u ∷ S2 l t u ∷ S3 l t u
     ∷ quartets l t u A ∷ quartets l t u B ∷ quartets l t u C ∷ quartets l t u D ∷ quartets l t u E
     ∷ (quartets l t u B + quartets l t u C + quartets l t u D)
-    ∷ splits l t ∷ splits l u ∷ commonSplits l t u ∷ robinsonFoulds l t u
-    ∷ triplets t u A ∷ triplets t u B ∷ triplets t u C ∷ triplets t u D ∷ triplets t u E ∷ []
+    ∷ splits l t ∷ splits l u ∷ commonSplits l t u ∷ robinsonFoulds l t u ∷ []
+
+-- one line of the reference table: those over all labels, then A B C D E of the triplets
+unfoldable pub figures : Table → Table → List ℕ
+figures t u =
+    figuresOver (all (tips t)) t u
+    ++ (triplets t u A ∷ triplets t u B ∷ triplets t u C ∷ triplets t u D ∷ triplets t u E ∷ [])
 
 -- K1 to K9
 pub reference-pairs :
@@ -50,12 +55,37 @@ pub reference-pairs :
     ∷ (0 ∷ 0 ∷ 0 ∷ 0 ∷ 0 ∷ 0 ∷ 0 ∷ 0 ∷ 0 ∷ 0 ∷ 0 ∷ 0 ∷ 0 ∷ 0 ∷ 0 ∷ 0 ∷ 0 ∷ 0 ∷ 0 ∷ [])
     ∷ (0 ∷ 0 ∷ 0 ∷ 0 ∷ 0 ∷ 0 ∷ 0 ∷ 0 ∷ 0 ∷ 0 ∷ 0 ∷ 0 ∷ 0 ∷ 0 ∷ 0 ∷ 0 ∷ 0 ∷ 0 ∷ 0 ∷ []) ∷ []
 unfolding
-    figures S S2 S3 codes behindEdge size crossing sumClaims sumClaimsOf sumIf meet choose2 quartets topologyAt isCase caseNumber
+    figures figuresOver S S2 S3 codes behindEdge size crossing sumClaims sumClaimsOf sumIf meet choose2 quartets topologyAt isCase caseNumber
     caseOf beyondAt splits commonSplits robinsonFoulds splitsOf commonOf isNewSplit isSplit sameSides occurs
     triplets triplet together resolved lowest lastBelow
     topology named partner butterfly parts parted sets2 sets3 sets4 sum bit some every
     ancIn anc edge rising head behind tips nodes parents labels parent label nodeBelow nodeOf beyond
 reference-pairs = refl
+
+-- tip 0, and a node with two children, each with two tips
+abbrev pub Halves : Table
+Halves = 5 ∷ 8 ∷ 0 ∷ 0 ∷ 1 ∷ 1 ∷ 2 ∷ 2 ∷ 3 ∷ 3 ∷ 0 ∷ X ∷ X ∷ X ∷ 1 ∷ 2 ∷ 3 ∷ 4 ∷ []
+
+-- with label 0 struck, P has the one split 12|34, Q none, and Halves one, though two of its edges part 12 from 34; with label 4
+-- struck, P and Q have the one split 01|23; four struck, and all
+pub struck-pairs :
+    figuresOver (kept (0 ∷ 1 ∷ 1 ∷ 1 ∷ 1 ∷ []) 5) P Q
+    ∷ figuresOver (kept (1 ∷ 1 ∷ 1 ∷ 1 ∷ 0 ∷ []) 5) P Q
+    ∷ figuresOver (kept (0 ∷ 1 ∷ 1 ∷ 1 ∷ 1 ∷ []) 5) Halves P
+    ∷ figuresOver (kept (0 ∷ 0 ∷ 0 ∷ 1 ∷ 0 ∷ []) 5) P Q
+    ∷ figuresOver (kept (0 ∷ 0 ∷ 0 ∷ 0 ∷ 0 ∷ []) 5) P Q ∷ []
+    ≡ (2 ∷ 0 ∷ 0 ∷ 0 ∷ 0 ∷ 0 ∷ 1 ∷ 0 ∷ 0 ∷ 1 ∷ 1 ∷ 0 ∷ 0 ∷ 1 ∷ [])
+    ∷ (2 ∷ 2 ∷ 2 ∷ 0 ∷ 1 ∷ 0 ∷ 0 ∷ 0 ∷ 0 ∷ 0 ∷ 1 ∷ 1 ∷ 1 ∷ 0 ∷ [])
+    ∷ (2 ∷ 2 ∷ 2 ∷ 0 ∷ 1 ∷ 0 ∷ 0 ∷ 0 ∷ 0 ∷ 0 ∷ 1 ∷ 1 ∷ 1 ∷ 0 ∷ [])
+    ∷ (0 ∷ 0 ∷ 0 ∷ 0 ∷ 0 ∷ 0 ∷ 0 ∷ 0 ∷ 0 ∷ 0 ∷ 0 ∷ 0 ∷ 0 ∷ 0 ∷ [])
+    ∷ (0 ∷ 0 ∷ 0 ∷ 0 ∷ 0 ∷ 0 ∷ 0 ∷ 0 ∷ 0 ∷ 0 ∷ 0 ∷ 0 ∷ 0 ∷ 0 ∷ []) ∷ []
+unfolding
+    isKept keptAt figuresOver S S2 S3 codes behindEdge size crossing sumClaims sumClaimsOf sumIf meet choose2
+    quartets topologyAt isCase caseNumber
+    caseOf beyondAt splits commonSplits robinsonFoulds splitsOf commonOf isNewSplit isSplit sameSides occurs
+    topology named partner butterfly parts parted sets2 sets3 sets4 sum bit some every
+    ancIn anc edge rising head behind tips nodes parents labels parent label nodeBelow nodeOf beyond
+struck-pairs = refl
 
 -- the five formulas and the distance, from the printed sums
 abbrev pub formulas : ℕ → ℕ → ℕ → ℕ → ℕ → List ℕ

@@ -1,20 +1,24 @@
 -- The pair's order accepts exactly the pairs.
 -- Assumes nothing.
-use mathlib.Core.Path.{_≡_, refl, sym}
+use mathlib.Core.Path.{_≡_, refl, sym, _∙_}
 use mathlib.Core.Bool.{Bool, true, false}
 use mathlib.Core.Logic.{_≢_, _↔_}
 use mathlib.Core.List.{List, [], _∷_, _++_}
 use Prim.Native.Nat.{ℕ, _+_, _≤_}
+use native.Mathlib.Decide.{ℕ-discrete}
 use native.Mathlib.Omega.{arith}
 use lib.Dec.{eqb}
 use Rattle.sums.specs.theorems.TestLaws.{not-lt-iff, eq-iff, not-not}
 use Rattle.tree_check.specs.Table.{Table, tips}
 use Rattle.tree_check.specs.Refusals.{Rule, refusal}
 use Rattle.tree_check.specs.theorems.RefusalLaws.{Kept, Numbered, accepted, kept-append, numbered-append}
+use Rattle.tree_check.specs.theorems.RefusalLaws.{refusal-first, refusal-kept}
 use Rattle.tree_check.specs.TreeOrder.{arraysOrder, treeOrder}
 use Rattle.tree_check.specs.theorems.TreeCheck.{tree-numbered, tree-kept, kept-tree}
-use Rattle.pair_check.specs.PairOrder.{plus, tipsOrder, tablesOrder, cellsNeeded, workOrder, pairOrder}
-use Rattle.pair_check.specs.PairOrder.{IsPair, PairWithCells}
+use Rattle.marks.specs.Marks.{marksOrder, AreMarks}
+use Rattle.marks.specs.theorems.MarksCheck.{marks-numbered, marks-kept}
+use Rattle.pair_check.specs.PairOrder.{plus, tipsOrder, tablesOrder, cellsNeeded, workOrder, cellsOrder, pairOrder}
+use Rattle.pair_check.specs.PairOrder.{IsPair, PairWithCells, MarkedPair}
 
 -- ---- numbers plus k
 
@@ -81,9 +85,9 @@ tables-check t u =
     (λ e. k .0 (a .0 e), λ h. a .1 (k .1 h))
 
 -- .. given cells enough
-pub pair-check : (t u : Table) (cells : ℕ) → (refusal (pairOrder t u cells) ≡ 0) ↔ PairWithCells t u cells
-unfolding pairOrder
-pair-check t u cells =
+pub cells-check : (t u : Table) (cells : ℕ) → (refusal (cellsOrder t u cells) ≡ 0) ↔ PairWithCells t u cells
+unfolding cellsOrder
+cells-check t u cells =
     let a = accepted (tablesOrder t u ++ workOrder t u cells) numbered in
     let b = kept-append (tablesOrder t u) (workOrder t u cells) in
     let k = tables-kept t u in
@@ -94,6 +98,45 @@ pair-check t u cells =
   where
     numbered : Numbered (tablesOrder t u ++ workOrder t u cells)
     numbered = unfold workOrder in numbered-append (tablesOrder t u) _ (tables-numbered t u) (omega arith, tt)
+
+-- .. and marks of their labels
+pub pair-check : (t u : Table) (marks : List ℕ) (cells : ℕ)
+    → (refusal (pairOrder t u marks cells) ≡ 0) ↔ MarkedPair t u marks cells
+unfolding pairOrder
+pair-check t u marks cells =
+    let rest = marksOrder marks (tips t) ++ workOrder t u cells in
+    let a = accepted (tablesOrder t u ++ rest) numbered in
+    let b = kept-append (tablesOrder t u) rest in
+    let c = kept-append (marksOrder marks (tips t)) (workOrder t u cells) in
+    let k = tables-kept t u in
+    let m = marks-kept marks (tips t) in
+    let w = work-iff t u cells in (
+      λ e. let r = b .0 (a .0 e) in let s = c .0 (r .1) in record {
+        with-cells = record { pair = k .0 (r .0); room = w .0 (s .1) };
+        marked = m .0 (s .0);
+      },
+      λ h. a .1 (b .1 (k .1 (h .with-cells .pair), c .1 (m .1 (h .marked), w .1 (h .with-cells .room)))),
+    )
+  where
+    numbered : Numbered (tablesOrder t u ++ (marksOrder marks (tips t) ++ workOrder t u cells))
+    numbered = unfold workOrder in numbered-append (tablesOrder t u) _ (tables-numbered t u)
+        (numbered-append (marksOrder marks (tips t)) _ (marks-numbered marks (tips t)) (omega arith, tt))
+
+-- right marks change no number
+pub order-kept : (t u : Table) (marks : List ℕ) (cells : ℕ) → AreMarks marks (tips t)
+    → refusal (pairOrder t u marks cells) ≡ refusal (cellsOrder t u cells)
+unfolding pairOrder cellsOrder
+order-kept t u marks cells h = go (ℕ-discrete (refusal (tablesOrder t u)) 0)
+  where
+    go : Dec (refusal (tablesOrder t u) ≡ 0)
+        → refusal (tablesOrder t u ++ (marksOrder marks (tips t) ++ workOrder t u cells))
+        ≡ refusal (tablesOrder t u ++ workOrder t u cells)
+    go (yes e) =
+        let k = accepted (tablesOrder t u) (tables-numbered t u) .0 e in
+        refusal-kept (tablesOrder t u) _ k
+        ∙ refusal-kept (marksOrder marks (tips t)) _ (marks-kept marks (tips t) .1 h)
+        ∙ sym (refusal-kept (tablesOrder t u) _ k)
+    go (no d) = refusal-first (tablesOrder t u) _ d ∙ sym (refusal-first (tablesOrder t u) _ d)
 
 -- ---- the numbers of a tree
 

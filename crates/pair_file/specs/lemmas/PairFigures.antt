@@ -10,8 +10,14 @@ use Rattle.tree_check.specs.Table.{Table, tips}
 use Rattle.tree_check.specs.lemmas.TableParts.{rest}
 use Rattle.tree_check.specs.Refusals.{refusal, ifAccepted}
 use Rattle.tree_check.specs.theorems.RefusalLaws.{if-refused}
-use Rattle.pair_check.specs.PairOrder.{PairWithCells, pairOrder}
-use Rattle.pair_check.specs.theorems.PairCheck.{pair-check}
+use Rattle.table_words.specs.Sizes.{tipsMost}
+use Rattle.sums.specs.Bits.{bit}
+use Rattle.marks.specs.Marks.{ones}
+use Rattle.marks.specs.theorems.Ones.{ones-marks, ones-keep, ones-taken}
+use Rattle.counting.specs.Cases.{A, B, C, D, E}
+use Rattle.counting.specs.theorems.AllKept.{all-kept}
+use Rattle.pair_check.specs.PairOrder.{PairWithCells, cellsOrder, pairOrder}
+use Rattle.pair_check.specs.theorems.PairCheck.{cells-check, pair-check}
 use Rattle.splits.specs.SplitAnswer.{splitAnswer}
 use Rattle.splits.specs.declared.counts.SplitCounts.{SplitCounts}
 use Rattle.triplets.specs.TripletAnswer.{tripletAnswer}
@@ -30,7 +36,7 @@ use Rattle.pair_file.specs.PairFile.{bytesMost, cellsLent}
 
 -- the figures of two tables, by the pair's order
 unfoldable pub pairFigures : Table → Table → Figures
-pairFigures t u = figuresOf (refusal (pairOrder t u cellsLent)) t u
+pairFigures t u = figuresOf (refusal (cellsOrder t u cellsLent)) t u
 
 -- the figures of a file's words
 unfoldable pub wordFigures : List ℕ → Figures
@@ -58,23 +64,64 @@ answered n sums cases counts threes = record {
   triplets = record { a = threes .a; b = threes .b; c = threes .c; d = threes .d; e = threes .e };
 }
 
+-- the figures of the four calls with these marks
+unfoldable pub calledWith : Table → Table → List ℕ → ℕ → Figures
+calledWith t u marks n = answered n (claimAnswer t u marks cellsLent) (quartetAnswer t u marks cellsLent)
+    (splitAnswer t u marks cellsLent) (tripletAnswer t u cellsLent)
+
+pub called : (t u : Table) (marks : List ℕ) (n : ℕ) (sums : ClaimSums) (cases : QuartetTable) (counts : SplitCounts)
+    (threes : TripletTable) → sums ≡ claimAnswer t u marks cellsLent → cases ≡ quartetAnswer t u marks cellsLent
+    → counts ≡ splitAnswer t u marks cellsLent → threes ≡ tripletAnswer t u cellsLent
+    → answered n sums cases counts threes ≡ calledWith t u marks n
+unfolding calledWith
+called t u marks n sums cases counts threes e ec es et = rw (e, ec, es, et) refl
+
 -- ---- as the code finds them
 
 -- a refusal leaves zeros, whatever the tables
 figures-refused : (k : ℕ) (t u : Table) → k ≢ 0 → ofRefusal k ≡ figuresOf k t u
 figures-refused k t u d = sym (if-refused k _ _ d)
 
-pub pair-refused : (t u : Table) (k : ℕ) → k ≡ refusal (pairOrder t u cellsLent) → k ≢ 0 → ofRefusal k ≡ pairFigures t u
+pub pair-refused : (t u : Table) (k : ℕ) → k ≡ refusal (cellsOrder t u cellsLent) → k ≢ 0 → ofRefusal k ≡ pairFigures t u
 unfolding pairFigures
 pair-refused t u k e d = figures-refused k t u d ∙ ap (λ (j : ℕ). figuresOf j t u) e
 
-pub pair-accepted : (t u : Table) → PairWithCells t u cellsLent → (n : ℕ) (sums : ClaimSums) (cases : QuartetTable)
-    (counts : SplitCounts) (threes : TripletTable) → n ≡ tips t → sums ≡ claimAnswer t u cellsLent
-    → cases ≡ quartetAnswer t u cellsLent → counts ≡ splitAnswer t u cellsLent → threes ≡ tripletAnswer t u cellsLent
-    → answered n sums cases counts threes ≡ pairFigures t u
-unfolding pairFigures claimAnswer quartetAnswer splitAnswer tripletAnswer ifAccepted
-pair-accepted t u p n sums cases counts threes en e ec es et =
-    rw (en, e, ec, es, et, pair-check t u cellsLent .1 p) refl
+-- so many of the marks of 1
+pub marks-lent : (k : ℕ) → k ≤ tipsMost → k ≡ length (take k (ones tipsMost))
+marks-lent k l = rw (ones-taken k tipsMost l) (sym (ones-marks k .long))
+
+-- with marks of 1 the calls tell the figures of all labels
+all-called : (t u : Table) → PairWithCells t u cellsLent → calledWith t u (ones (tips t)) (tips t) ≡ pairFigures t u
+unfolding calledWith pairFigures claimAnswer quartetAnswer splitAnswer tripletAnswer ifAccepted
+all-called t u p =
+    let n = tips t in
+    let f = all-kept (ones n) n (λ x l. unfold bit in rw (ones-keep n x l) refl) t u in
+    rw (
+      pair-check t u (ones n) cellsLent .1 (record { with-cells = p; marked = ones-marks n }),
+      cells-check t u cellsLent .1 p,
+      f .first,
+      f .second,
+      f .same,
+      f .different,
+      f .counts A,
+      f .counts B,
+      f .counts C,
+      f .counts D,
+      f .counts E,
+      f .first-splits,
+      f .second-splits,
+      f .common,
+      f .robinson-foulds,
+    )
+    refl
+
+pub pair-accepted : (t u : Table) → PairWithCells t u cellsLent → (n k : ℕ) → n ≡ tips t → k ≡ n
+    → calledWith t u (take k (ones tipsMost)) n ≡ pairFigures t u
+pair-accepted t u p n k e d =
+    ap (λ (x : ℕ). calledWith t u (take x (ones tipsMost)) n) d
+    ∙ ap (λ (x : ℕ). calledWith t u (take x (ones tipsMost)) x) e
+    ∙ ap (λ (m : List ℕ). calledWith t u m (tips t)) (ones-taken (tips t) tipsMost (p .pair .first .tips-range .1))
+    ∙ all-called t u p
 
 -- ---- a whole file
 

@@ -23,7 +23,7 @@ use Rattle.counting.specs.ClaimSums.{codes, behindEdge, size, crossing, S, S2, 
 use Rattle.counting.specs.Cases.{caseOf, caseNumber, isCase, topologyAt, quartets}
 use Rattle.counting.specs.SplitCounts.{beyondAt, splits, commonSplits, robinsonFoulds}
 use Rattle.counting.specs.Triplets.{together, triplet, triplets}
-use Rattle.pair_check.specs.PairOrder.{plus, tipsOrder, tablesOrder, workOrder, pairOrder}
+use Rattle.pair_check.specs.PairOrder.{plus, tipsOrder, tablesOrder, workOrder, cellsOrder}
 use Rattle.pair_file.specs.PairFile.{fileWords, firstLength, firstTable, secondTable, wordsOrder, fileOrder}
 use Rattle.pair_file.specs.PairFile.{figuresOf, comparison}
 use Rattle.listings.specs.theorems.ListingExamples.{ofPAndQ}
@@ -46,8 +46,8 @@ bytesOfQ =
 -- the figures of the bytes of P, then Q
 pub comparison-of-P-and-Q : comparison (bytesOfP ++ bytesOfQ) ≡ ofPAndQ
 unfolding
-    comparison figuresOf fileOrder wordsOrder fileWords firstTable secondTable firstLength refusal ifAccepted
-    pairOrder tablesOrder tipsOrder workOrder plus treeOrder arraysOrder tipsFit nodesFit parentFits labelFits standing labelsFit labelsOnce
+    comparison fileOrder wordsOrder fileWords firstTable secondTable firstLength refusal ifAccepted
+    cellsOrder tablesOrder tipsOrder workOrder plus treeOrder arraysOrder tipsFit nodesFit parentFits labelFits standing labelsFit labelsOnce
     isChild children misplaced
     S S2 S3 codes behindEdge size crossing sumClaims sumClaimsOf sumIf meet choose2 quartets topologyAt isCase caseNumber
     caseOf beyondAt splits commonSplits robinsonFoulds splitsOf commonOf isNewSplit isSplit sameSides occurs
@@ -67,6 +67,6 @@ pub edges-of-a-file :
     ≡ 1 ∷ 15 ∷ 4 ∷ 101 ∷ 104 ∷ []
 unfolding
     fileOrder wordsOrder fileWords firstTable secondTable firstLength refusal
-    pairOrder tablesOrder tipsOrder workOrder plus treeOrder arraysOrder tipsFit nodesFit parentFits labelFits standing labelsFit labelsOnce
+    cellsOrder tablesOrder tipsOrder workOrder plus treeOrder arraysOrder tipsFit nodesFit parentFits labelFits standing labelsFit labelsOnce
     isChild children misplaced sum bit some every tips nodes parents labels parent label
 edges-of-a-file = refl

@@ -13,10 +13,10 @@ use Rattle.tree_check.specs.Refusals.{refusal}
 use Rattle.tree_check.specs.IsTree.{IsTree}
 use Rattle.tree_check.specs.TreeOrder.{treeOrder}
 use Rattle.tree_check.specs.theorems.TreeCheck.{tree-check}
-use Rattle.pair_check.specs.PairOrder.{tablesOrder, pairOrder, cellsNeeded}
-use Rattle.pair_check.specs.theorems.PairCheck.{tables-check, tree-never-nine}
+use Rattle.pair_check.specs.PairOrder.{tablesOrder, cellsOrder, cellsNeeded}
+use Rattle.pair_check.specs.theorems.PairCheck.{tables-check, cells-check, tree-never-nine}
 use Rattle.pair_check.specs.lemmas.PairOutcomes.{first-refused, second-refused, tips-differ, tables-accepted}
-use Rattle.pair_check.specs.lemmas.PairOutcomes.{tables-refused, pair-kept}
+use Rattle.pair_check.specs.lemmas.PairOutcomes.{tables-refused}
 use Rattle.pair_file.specs.PairFile.{fileWords, firstTable, secondTable, wordsOrder, fileOrder}
 use Rattle.pair_file.specs.lemmas.FileWords.{words-length, tables-length}
 use Rattle.pair_file.specs.lemmas.FileOrder.{too-long, odd-length, even-length}
@@ -57,10 +57,11 @@ tables-never-nine t u z = elim (ℕ-discrete (refusal (treeOrder t)) 0) [
       | no d ↦ omega (arith, z, tips-differ t u g h d)
     ]
 
-never-pair : (t u : Table) → length t + length u ≤ wordsMost → refusal (pairOrder t u cellsLent) ≢ 9
+never-pair : (t u : Table) → length t + length u ≤ wordsMost → refusal (cellsOrder t u cellsLent) ≢ 9
 never-pair t u few z = elim (ℕ-discrete (refusal (tablesOrder t u)) 0) [
   | yes e ↦ (let p = tables-check t u .0 e in
-      omega (arith, z, pair-kept t u cellsLent p (cells-enough t u (p .first) (p .second) few)))
+      let room = cells-enough t u (p .first) (p .second) few in
+      omega (arith, z, cells-check t u cellsLent .1 (record { pair = p; room = room })))
   | no d ↦ tables-never-nine t u (sym (tables-refused t u cellsLent _ refl d) ∙ z)
 ]
 

@@ -2,33 +2,41 @@
 -- Assumes nothing.
 use mathlib.Core.Path.{_≡_, refl, sym, _∙_}
 use mathlib.Core.Logic.{_≢_}
+use mathlib.Core.List.{List}
 use Prim.Native.Nat.{ℕ, zero, suc, _+_, _*_, _-_, _%_}
 use native.Mathlib.Omega.{arith}
 use Rattle.tree_check.specs.Table.{Table, tips}
 use Rattle.tree_check.specs.Refusals.{refusal, ifAccepted}
 use Rattle.tree_check.specs.theorems.RefusalLaws.{if-accepted, if-refused}
-use Rattle.counting.specs.Labels.{all}
-use Rattle.counting.specs.theorems.LabelLaws.{all-rising}
+use Rattle.counting.specs.Labels.{Labels}
+use Rattle.counting.specs.Kept.{kept}
+use Rattle.counting.specs.theorems.KeptLaws.{kept-rising}
 use Rattle.counting.specs.Cases.{A, B, C, D, E, quartets}
 use Rattle.counting.specs.theorems.QuartetTheorem.{QuartetTheorem, quartet-theorem}
-use Rattle.pair_check.specs.PairOrder.{PairWithCells, pairOrder}
+use Rattle.pair_check.specs.PairOrder.{MarkedPair, pairOrder}
 use Rattle.pair_check.specs.theorems.PairCheck.{pair-check}
-use Rattle.quartets.specs.QuartetAnswer.{casesOfPair, refusedTable, quartetAnswer, DemandThree}
+use Rattle.quartets.specs.QuartetAnswer.{casesOver, refusedTable, quartetAnswer, DemandThree}
 
-module _ (t u : Table) (cells : ℕ) where
-  pub accepted : PairWithCells t u cells → quartetAnswer t u cells ≡ casesOfPair t u
+module _ (t u : Table) (marks : List ℕ) (cells : ℕ) where
+  -- the kept labels
+  abbrev l : Labels
+  l = kept marks (tips t)
+
+  pub accepted : MarkedPair t u marks cells → quartetAnswer t u marks cells ≡ casesOver l t u
   unfolding quartetAnswer
-  accepted p = if-accepted _ _ _ (pair-check t u cells .1 p)
+  accepted p = if-accepted _ _ _ (pair-check t u marks cells .1 p)
 
-  pub refused : refusal (pairOrder t u cells) ≢ 0
-      → quartetAnswer t u cells ≡ refusedTable (refusal (pairOrder t u cells))
+  pub refused : refusal (pairOrder t u marks cells) ≢ 0
+      → quartetAnswer t u marks cells ≡ refusedTable (refusal (pairOrder t u marks cells))
   unfolding quartetAnswer
   refused d = if-refused _ _ _ d
 
-  pub theorem : PairWithCells t u cells → QuartetTheorem (all (tips t)) t u
-  theorem p = quartet-theorem (all (tips t)) t u (p .pair .first) (p .pair .second) (p .pair .same-tips) (all-rising (tips t))
+  pub theorem : MarkedPair t u marks cells → QuartetTheorem l t u
+  theorem p =
+      let q = p .with-cells .pair in
+      quartet-theorem l t u (q .first) (q .second) (q .same-tips) (kept-rising marks (tips t))
 
-  own-number : (k : ℕ) → ifAccepted k (casesOfPair t u) (refusedTable k) .refusal ≡ k
+  own-number : (k : ℕ) → ifAccepted k (casesOver l t u) (refusedTable k) .refusal ≡ k
   unfolding ifAccepted
   own-number zero = refl
   own-number (suc k) = refl
@@ -36,11 +44,11 @@ module _ (t u : Table) (cells : ℕ) where
   multiple : (x y : ℕ) → 24 * x ≡ y → y % 24 ≡ 0
   multiple x y e = omega arith
 
-  pub demand-three : DemandThree t u cells (quartetAnswer t u cells)
+  pub demand-three : DemandThree t u marks cells (quartetAnswer t u marks cells)
   unfolding quartetAnswer
   demand-three = record {
-    number = own-number (refusal (pairOrder t u cells));
-    refused = λ n. rw (refused (λ z. n (own-number (refusal (pairOrder t u cells)) ∙ z)))
+    number = own-number (refusal (pairOrder t u marks cells));
+    refused = λ n. rw (refused (λ z. n (own-number (refusal (pairOrder t u marks cells)) ∙ z)))
         (refl, refl, refl, refl, refl, refl);
     formulas = λ p. rw (accepted p) (let h = theorem p in (
       sym (h .A-counts),

@@ -29,11 +29,11 @@ module _ (n : ℕ) (b c : Sides) (i j : ℕ) where
   two = count n (c j)
 
   -- all beyond either lie beyond both
-  abbrev alike : Bool
+  abbrev pub alike : Bool
   alike = eqb both one && eqb both two
 
   -- none lies beyond both, and every label beyond one of them
-  abbrev apart : Bool
+  abbrev pub apart : Bool
   apart = eqb both 0 && eqb (one + two) n
 
   parts : (x : ℕ) → T (b i x && c j x) → T (b i x) × T (c j x)
@@ -56,14 +56,14 @@ module _ (n : ℕ) (b c : Sides) (i j : ℕ) where
       ∙ sum-const n 1
       ∙ omega arith
 
-  from-apart : T apart → SameSides n b c i j
-  from-apart s =
+  pub apart-turned : T apart → (x : ℕ) → x < n → b i x ≡ not (c j x)
+  apart-turned s x l =
       let r = and-iff (eqb both 0) (eqb (one + two) n) .0 s in
       let none = count-none n (λ x. b i x && c j x) .0 (eq-iff both 0 .0 (r .0)) in
       let off : (x : ℕ) → x < n → T (b i x) → T (not (c j x)) =
       λ x l y. not-T (c j x) (λ z. none x l (and-iff (b i x) (c j x) .1 (y, z))) in
-      turned (λ x l. same-test (b i x) (not (c j x)) (off x l)
-      (count-same n (b i) (λ z. not (c j z)) off (omega (arith, count-both (c j), eq-iff (one + two) n .0 (r .1))) x l))
+      same-test (b i x) (not (c j x)) (off x l)
+      (count-same n (b i) (λ z. not (c j z)) off (omega (arith, count-both (c j), eq-iff (one + two) n .0 (r .1))) x l)
 
   to-either : SameSides n b c i j → T alike ⊎ T apart
   to-either (same s) =
@@ -79,4 +79,4 @@ module _ (n : ℕ) (b c : Sides) (i j : ℕ) where
   pub sides-by-crossing : sameSides n b c i j ≡ (alike || apart)
   sides-by-crossing = same-test _ _
       (λ y. or-iff alike apart .1 (to-either (same-sides-iff n b c i j .0 y)))
-      (λ y. same-sides-iff n b c i j .1 (elim (or-iff alike apart .0 y) [ inl s ↦ from-alike s | inr s ↦ from-apart s ]))
+      (λ y. same-sides-iff n b c i j .1 (elim (or-iff alike apart .0 y) [ inl s ↦ from-alike s | inr s ↦ turned (apart-turned s) ]))

@@ -1,28 +1,30 @@
 -- Splits counted in cells, row by row and column by column.
 -- Assumes nothing.
-use mathlib.Core.Path.{_≡_, refl, sym, ap, subst, _∙_}
-use mathlib.Core.Bool.{Bool, true, false}
+use mathlib.Core.Path.{_≡_, refl, sym, _∙_}
+use mathlib.Core.Bool.{Bool, true, false, not, _&&_}
 use mathlib.Core.Logic.{_≢_}
 use mathlib.Core.List.{List}
 use Prim.Native.Nat.{ℕ, _+_, _*_, _-_, _≤_, _<_}
 use native.Mathlib.Nat.{mul-le-mul-right}
-use native.Mathlib.Numerals.{add-one}
 use native.Mathlib.Omega.{arith}
-use lib.Dec.{T}
+use lib.Dec.{eqb}
 use lib.ListN.{length}
+use borrow.Author.Tests.{eq-eqb, ne-eqb}
 use Rattle.table_words.specs.Sizes.{nodeRoom, workRoom}
-use Rattle.sums.specs.Sum.{sum}
-use Rattle.sums.specs.theorems.SumLaws.{sum-suc}
-use Rattle.sums.specs.Bits.{bit}
-use Rattle.sums.specs.theorems.BitLaws.{bit-T, bit-no, T-true, T-false}
 use Rattle.sums.specs.Tests.{some}
-use Rattle.sums.specs.theorems.TestLaws.{some-iff}
 use Rattle.sums.specs.theorems.Products.{product-le}
-use Rattle.sums.specs.Counts.{count}
-use Rattle.sums.specs.theorems.CountLaws.{count-le, count-none, count-pos}
-use Rattle.tree_pairs.specs.lemmas.EdgeRows.{EdgeRoom}
+use Rattle.tree_pairs.specs.lemmas.EdgeRows.{EdgeRoom, aboveIn, sizeAt}
+use Rattle.splits.specs.lemmas.SplitCells.{newSize, halfRow, newRow, newEdge}
 
 -- ---- room
+
+-- the size of row i stands where there are cells
+pub size-room : (cells step : ℕ) (ps : List ℕ) → EdgeRoom cells step ps → (i : ℕ) → i < length ps - 1
+    → (i * step ≤ workRoom) × (i * step < cells)
+size-room cells step ps a i l = (
+  omega (arith, product-le nodeRoom nodeRoom i step (omega (arith, a .parents .few)) (a .narrow)),
+  a .inside i l,
+)
 
 -- `cells` cells hold the rows
 pub record RowsRoom (cells width : ℕ) (ps : List ℕ) : Type 0 where
@@ -46,31 +48,22 @@ row-room cells width ps a b i l = record {
     ends : (i + 1 + 1) * width ≤ (length ps - 1) * width
     ends = mul-le-mul-right width (omega arith)
 
--- ---- counts, as a loop finds them
+-- ---- `newEdge`, test by test: `new` by the sizes, with `above` labels beyond the edge above
 
-pub count-start : (q : ℕ → Bool) → 0 ≡ count 0 q
-unfolding sum
-count-start q = refl
+module _ (n : ℕ) (work : List ℕ) (step : ℕ) (ps : List ℕ) (i up : ℕ) (new : Bool) (e : up ≡ aboveIn ps (i + 1))
+    (q : new ≡ newSize n (sizeAt work step (i + 1)) (sizeAt work step up)) where
+  tested : newEdge n work step ps i
+      ≡ (new && not (eqb (sizeAt work step up) n && some (i + 1) (halfRow n work step ps (i + 1))))
+  unfolding newRow
+  tested = rw (q, e)
 
-count-more : (k : ℕ) (q : ℕ → Bool) → count (k + 1) q ≡ count k q + bit (q k)
-count-more k q = ap (λ (m : ℕ). count m q) (add-one k) ∙ sum-suc k (λ i. bit (q i))
+  pub not-new : new ≡ false → false ≡ newEdge n work step ps i
+  not-new d = sym (tested ∙ rw d refl)
 
--- the test b of index k is passed, or not
-pub count-hit : (k : ℕ) (q : ℕ → Bool) (total : ℕ) (b : Bool) → total ≡ count k q → b ≡ q k → b ≡ true
-    → total + 1 ≡ count (k + 1) q
-count-hit k q total b h e d = omega (arith, h, count-more k q, bit-T (q k) (subst T e (rw d tt)))
+  pub new-without-half : (above : ℕ) → new ≡ true → above ≡ sizeAt work step up → above ≢ n
+      → true ≡ newEdge n work step ps i
+  new-without-half above d r z = sym (tested ∙ rw (d, ne-eqb (sizeAt work step up) n (λ w. z (r ∙ w))) refl)
 
-pub count-miss : (k : ℕ) (q : ℕ → Bool) (total : ℕ) (b : Bool) → total ≡ count k q → b ≡ q k → b ≡ false
-    → total ≡ count (k + 1) q
-count-miss k q total b h e d = omega (arith, h, count-more k q, bit-no (q k) (λ t. subst T (sym e ∙ d) t))
-
-pub count-few : (k : ℕ) (q : ℕ → Bool) (total : ℕ) → total ≡ count k q → total ≤ k
-count-few k q total h = omega (arith, h, count-le k q)
-
--- some index passed exactly if the count is not 0
-pub count-found : (k : ℕ) (q : ℕ → Bool) (total : ℕ) → total ≡ count k q → total ≢ 0 → true ≡ some k q
-count-found k q total h d = sym (T-true (some k q) (some-iff k q .1 (count-pos k q .0 (omega (arith, h, d)))))
-
-pub count-not-found : (k : ℕ) (q : ℕ → Bool) (total : ℕ) → total ≡ count k q → total ≡ 0 → false ≡ some k q
-count-not-found k q total h e = sym (T-false (some k q) (λ t.
-    let r = some-iff k q .0 t in count-none k q .0 (sym h ∙ e) (r .0) (r .1) (r .2)))
+  pub new-by-half : (above : ℕ) (half : Bool) → new ≡ true → above ≡ sizeAt work step up → above ≡ n
+      → half ≡ some (i + 1) (halfRow n work step ps (i + 1)) → not half ≡ newEdge n work step ps i
+  new-by-half above half d r z h = sym (tested ∙ rw (d, eq-eqb (sizeAt work step up) n (sym r ∙ z), h) refl)

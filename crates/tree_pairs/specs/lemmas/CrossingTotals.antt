@@ -1,4 +1,4 @@
--- A crossing count is a total over the first tree: of the tips at or below a node, those beyond an edge of the second.
+-- A crossing count is a total over the first tree: of the kept tips at or below a node, those beyond an edge of the second.
 -- Assumes nothing.
 use mathlib.Core.Path.{_≡_, sym, _∙_, ap}
 use mathlib.Core.Bool.{Bool, _&&_}
@@ -19,48 +19,11 @@ use Rattle.tree_check.specs.Table.{Table, tips, nodes, parent, label, nodeOf, b
 use Rattle.tree_check.specs.IsTree.{IsTree}
 use Rattle.tree_check.specs.theorems.RootedTables.{rooted}
 use Rattle.walks.specs.theorems.NodeLabels.{node-at, sum-over-tips}
-use Rattle.counting.specs.Labels.{Labels, all}
+use Rattle.counting.specs.Labels.{Labels}
 use Rattle.counting.specs.Kept.{keptAt}
 use Rattle.counting.specs.theorems.KeptLaws.{sum-kept}
 use Rattle.counting.specs.SplitCounts.{beyondAt}
 use Rattle.tree_pairs.specs.Crossings.{edgeCrossing}
-
--- 1 if node x of the first tree is a tip whose label lies beyond edge j of the second
-abbrev pub tipBeyond : Table → Table → ℕ → ℕ → ℕ
-tipBeyond t u j x = bit (ltb (label t x) (tips t)) * bit (anc (parent u) j (nodeOf u (label t x)))
-
-module _ (t u : Table) (g : IsTree t) where
-  pub crossing-total : (v j : ℕ) → 1 ≤ v → (cells : ℕ → ℕ)
-      → ((x : ℕ) → 1 ≤ x → x < nodes t → cells x ≡ tipBeyond t u j x)
-      → total (parent t) (nodes t) cells v ≡ edgeCrossing (all (tips t)) t u v j
-  unfolding total edgeCrossing beyond beyondAt
-  crossing-total v j lv cells h =
-      sum-ext (nodes t) _ _ term
-      ∙ sum-over-tips t g (λ x. bit (anc (parent t) v x) * bit (anc (parent u) j (nodeOf u (label t x))))
-      ∙ sum-ext (tips t) _ _ (λ y l.
-      ap (λ (z : ℕ). bit (anc (parent t) v (nodeOf t y)) * bit (anc (parent u) j (nodeOf u z))) (node-at t g y l .1)
-      ∙ sym (bit-and (anc (parent t) v (nodeOf t y)) (anc (parent u) j (nodeOf u y))))
-    where
-      regroup : (a b c : ℕ) → a * (b * c) ≡ b * (a * c)
-      regroup a b c = omega arith
-
-      none : bit (anc (parent t) v 0) ≡ 0
-      none = anc-at-zero (parent t) (rooted t g) v ∙ is-other v 0 (omega arith)
-
-      gone : (a x b c : ℕ) → a ≡ 0 → a * x ≡ b * (a * c)
-      gone a x b c e = rw e (omega arith)
-
-      term : (x : ℕ) → x < nodes t → bit (anc (parent t) v x) * cells x
-          ≡ bit (ltb (label t x) (tips t)) * (bit (anc (parent t) v x) * bit (anc (parent u) j (nodeOf u (label t x))))
-      term zero l = gone _ (cells 0) _ _ none
-      term (suc x) l = ap (λ (z : ℕ). bit (anc (parent t) v (suc x)) * z) (h (suc x) (omega arith) l) ∙ regroup _ _ _
-
-  -- no more than there are tips
-  pub crossing-most : (v j : ℕ) → edgeCrossing (all (tips t)) t u v j ≤ tipsMost
-  unfolding edgeCrossing beyondAt
-  crossing-most v j = omega (arith, count-le (tips t) (λ x. beyond t v x && beyond u j x), g .tips-range)
-
--- ---- of kept labels: a struck tip's row stays empty
 
 -- 1 if node x of the first tree is a tip whose label is kept and lies beyond edge j of the second
 abbrev pub keptBeyond : (ℕ → Bool) → Table → Table → ℕ → ℕ → ℕ
@@ -70,11 +33,11 @@ keptBeyond q t u j x = bit (ltb (label t x) (tips t)) * (bit (q (label t x)) * b
 abbrev pub passing : (ℕ → Bool) → Table → Labels
 passing q t = record { number = count (tips t) q; at = keptAt q (tips t) }
 
-pub kept-crossing-total : (q : ℕ → Bool) (t u : Table) → IsTree t → (v j : ℕ) → 1 ≤ v → (cells : ℕ → ℕ)
+pub crossing-total : (q : ℕ → Bool) (t u : Table) → IsTree t → (v j : ℕ) → 1 ≤ v → (cells : ℕ → ℕ)
     → ((x : ℕ) → 1 ≤ x → x < nodes t → cells x ≡ keptBeyond q t u j x)
     → total (parent t) (nodes t) cells v ≡ edgeCrossing (passing q t) t u v j
 unfolding total edgeCrossing beyond beyondAt
-kept-crossing-total q t u g v j lv cells h =
+crossing-total q t u g v j lv cells h =
     sum-ext (nodes t) _ _ term
     ∙ sum-over-tips t g (λ x. bit (anc (parent t) v x) * (bit (q (label t x)) * bit (anc (parent u) j (nodeOf u (label t x)))))
     ∙ sum-ext (tips t) _ _ (λ y l.
@@ -96,3 +59,13 @@ kept-crossing-total q t u g v j lv cells h =
         ≡ bit (ltb (label t x) (tips t)) * (bit (anc (parent t) v x) * (bit (q (label t x)) * bit (anc (parent u) j (nodeOf u (label t x)))))
     term zero l = gone _ (cells 0) _ _ none
     term (suc x) l = ap (λ (z : ℕ). bit (anc (parent t) v (suc x)) * z) (h (suc x) (omega arith) l) ∙ swap _ _ _
+
+-- no more than there are tips
+pub crossing-most : (q : ℕ → Bool) (t u : Table) → IsTree t → (v j : ℕ) → edgeCrossing (passing q t) t u v j ≤ tipsMost
+unfolding edgeCrossing
+crossing-most q t u g v j = omega (
+  arith,
+  count-le (count (tips t) q) (λ x. beyondAt (passing q t) t v x && beyondAt (passing q t) u j x),
+  count-le (tips t) q,
+  g .tips-range,
+)

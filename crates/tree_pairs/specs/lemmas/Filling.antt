@@ -13,6 +13,7 @@ use lib.ListN.{length}
 use Rattle.table_words.specs.Sizes.{nodesMost}
 use Rattle.sums.specs.Bits.{bit}
 use Rattle.sums.specs.theorems.BitLaws.{bit-no}
+use Rattle.sums.specs.theorems.Products.{bit-and}
 use Rattle.sums.specs.theorems.TestLaws.{lt-iff}
 use Rattle.shapes.specs.Ancestors.{anc}
 use Rattle.shapes.specs.theorems.Totals.{total}
@@ -21,13 +22,14 @@ use Rattle.tree_check.specs.lemmas.TableParts.{tableOf, tips-of, nodes-of}
 use Rattle.walks.specs.theorems.NodeLabels.{node-at}
 use Rattle.walks.specs.lemmas.TreeArrays.{TreeArrays, parent-is, label-is, few-tips, few-nodes, rooted-parents}
 use Rattle.tree_pairs.specs.lemmas.Grid.{cellAt}
-use Rattle.counting.specs.Labels.{all}
+use Rattle.marks.specs.Marks.{isKept}
+use Rattle.counting.specs.Kept.{kept}
 use Rattle.tree_pairs.specs.Crossings.{edgeCrossing, crossed, cellOf}
 use Rattle.tree_pairs.specs.theorems.CrossingLaws.{in-order-front}
-use Rattle.tree_pairs.specs.lemmas.CrossingTotals.{tipBeyond, crossing-total, crossing-most}
+use Rattle.tree_pairs.specs.lemmas.CrossingTotals.{keptBeyond, crossing-total, crossing-most}
 use Rattle.tree_pairs.specs.lemmas.Cleared.{Cleared}
 use Rattle.tree_pairs.specs.lemmas.NodeCells.{NodesOf}
-use Rattle.tree_pairs.specs.lemmas.TipRows.{TipRoom, TipRows}
+use Rattle.tree_pairs.specs.lemmas.TipRows.{countedLabel, TipRoom, TipRows}
 use Rattle.tree_pairs.specs.lemmas.RowsUp.{Room, RowsAdded}
 
 -- the arrays of two tree tables on n tips, and a cell for each pair of edges
@@ -72,6 +74,14 @@ of-tips y n p q h = elim (decLt y n) [
   | no m ↦ rw (bit-no (ltb y n) (λ b. m (lt-iff y n .0 b))) (omega arith)
 ]
 
+counted-parts : (ks : List ℕ) (n y p : ℕ) → bit (countedLabel ks n y) * p ≡ bit (ltb y n) * (bit (isKept ks y) * p)
+unfolding countedLabel
+counted-parts ks n y p =
+    ap (λ (z : ℕ). z * p) (bit-and (isKept ks y) (ltb y n)) ∙ regroup (bit (isKept ks y)) (bit (ltb y n)) p
+  where
+    regroup : (x z p : ℕ) → x * z * p ≡ z * (x * p)
+    regroup x z p = omega arith
+
 module _ (n : ℕ) (ps ls qs ms work : List ℕ) (a : PairArrays n ps ls qs ms work) where
   sizes : (2 ≤ length ps) × (length ps ≤ nodesMost) × (2 ≤ length qs) × (length qs ≤ nodesMost) × (length ls ≡ length ps)
   sizes =
@@ -111,10 +121,10 @@ module _ (n : ℕ) (ps ls qs ms work : List ℕ) (a : PairArrays n ps ls qs ms w
           zeros = λ i l. c .zeros i (omega arith);
         }
 
-    module _ (marked : List ℕ) (r : TipRows ls n qs nodes (length ls) cleared marked) where
+    module _ (ks marked : List ℕ) (r : TipRows ls ks n qs nodes (length ls) cleared marked) where
       -- column j of the marked rows
       column : (j x : ℕ) → j < length qs - 1 → 1 ≤ x → x < length ps
-          → cellAt marked (length qs - 1) x j ≡ tipBeyond (tableOf n ps ls) (tableOf n qs ms) (suc j) x
+          → cellAt marked (length qs - 1) x j ≡ keptBeyond (isKept ks) (tableOf n ps ls) (tableOf n qs ms) (suc j) x
       column j x lj l m =
           ap (cellAt marked (length qs - 1) x) (one-less j)
           ∙ r .rows x (suc j) l (omega (arith, sizes)) (omega arith) (omega arith)
@@ -127,19 +137,21 @@ module _ (n : ℕ) (ps ls qs ms work : List ℕ) (a : PairArrays n ps ls qs ms w
           eqn x = ap (λ (f : ℕ → ℕ). f x) (label-is n ps ls (a .first))
 
           either : (y : ℕ) → label (tableOf n ps ls) x ≡ y
-              → bit (ltb y n) * bit (anc (word qs) (suc j) (word nodes y))
-              ≡ tipBeyond (tableOf n ps ls) (tableOf n qs ms) (suc j) x
-          either y e = rw (e, tips-of n ps ls, parent-is n qs ms (a .second)) (of-tips y n _ _ (λ b.
-              ap (λ (k : ℕ). bit (anc (word qs) (suc j) k)) (node-of-label n qs ms (a .second) nodes f y b .0)))
+              → bit (countedLabel ks n y) * bit (anc (word qs) (suc j) (word nodes y))
+              ≡ keptBeyond (isKept ks) (tableOf n ps ls) (tableOf n qs ms) (suc j) x
+          either y e = rw (e, tips-of n ps ls, parent-is n qs ms (a .second)) (
+              counted-parts ks n y (bit (anc (word qs) (suc j) (word nodes y)))
+              ∙ of-tips y n _ _ (λ b. ap (λ (k : ℕ). bit (isKept ks y) * bit (anc (word qs) (suc j) k))
+              (node-of-label n qs ms (a .second) nodes f y b .0)))
 
       -- a column's totals are the crossings
       column-total : (v j : ℕ) → 1 ≤ v → j < length qs - 1
           → total (word ps) (length ps) (λ x. cellAt marked (length qs - 1) x j) v
-          ≡ edgeCrossing (all (tips (tableOf n ps ls))) (tableOf n ps ls) (tableOf n qs ms) v (suc j)
+          ≡ edgeCrossing (kept ks (tips (tableOf n ps ls))) (tableOf n ps ls) (tableOf n qs ms) v (suc j)
       column-total v j l lj =
           ap₂ (λ (up : ℕ → ℕ) (k : ℕ). total up k (λ x. cellAt marked (length qs - 1) x j) v)
           (sym (parent-is n ps ls (a .first))) (sym (nodes-of n ps ls))
-          ∙ crossing-total (tableOf n ps ls) (tableOf n qs ms) (a .first .tree) v (suc j) l _
+          ∙ crossing-total (isKept ks) (tableOf n ps ls) (tableOf n qs ms) (a .first .tree) v (suc j) l _
           (λ x l m. column j x lj l (omega (arith, nodes-of n ps ls)))
 
       pub rows-room : Room ps marked (length qs - 1)
@@ -155,16 +167,16 @@ module _ (n : ℕ) (ps ls qs ms work : List ℕ) (a : PairArrays n ps ls qs ms w
             fits = λ v j l m lj. omega (
               arith,
               column-total v j l lj,
-              crossing-most (tableOf n ps ls) (tableOf n qs ms) (a .first .tree) v (suc j),
+              crossing-most (isKept ks) (tableOf n ps ls) (tableOf n qs ms) (a .first .tree) v (suc j),
             );
           }
 
       -- all of it
       pub filled : (new : List ℕ) → RowsAdded ps marked new (length qs - 1)
-          → new ≡ crossed (all (tips (tableOf n ps ls))) (tableOf n ps ls) (tableOf n qs ms) work
+          → new ≡ crossed (kept ks (tips (tableOf n ps ls))) (tableOf n ps ls) (tableOf n qs ms) work
       unfolding crossed
       filled new h = rw (nodes-of n ps ls, nodes-of n qs ms) (
-          in-order-front ((length ps - 1) * (length qs - 1)) (cellOf (all (tips t)) t u) work new
+          in-order-front ((length ps - 1) * (length qs - 1)) (cellOf (kept ks (tips t)) t u) work new
           (h .long ∙ r .long ∙ c .long) (a .room) front back)
         where
           t : Table
@@ -186,11 +198,11 @@ module _ (n : ℕ) (ps ls qs ms work : List ℕ) (a : PairArrays n ps ls qs ms w
               one-more k = omega arith
 
           cell : (i : ℕ)
-              → cellOf (all (tips t)) t u i ≡ edgeCrossing (all (tips t)) t u (suc (i / (length qs - 1))) (suc (i % (length qs - 1)))
-          cell i = unfold cellOf in ap (λ (k : ℕ). edgeCrossing (all (tips t)) t u (suc (i / (k - 1))) (suc (i % (k - 1))))
+              → cellOf (kept ks (tips t)) t u i ≡ edgeCrossing (kept ks (tips t)) t u (suc (i / (length qs - 1))) (suc (i % (length qs - 1)))
+          cell i = unfold cellOf in ap (λ (k : ℕ). edgeCrossing (kept ks (tips t)) t u (suc (i / (k - 1))) (suc (i % (k - 1))))
               (nodes-of n qs ms)
 
-          front : (i : ℕ) → i < (length ps - 1) * (length qs - 1) → word new i ≡ cellOf (all (tips t)) t u i
+          front : (i : ℕ) → i < (length ps - 1) * (length qs - 1) → word new i ≡ cellOf (kept ks (tips t)) t u i
           front i l =
               let w = length qs - 1 in
               let s = sizes in

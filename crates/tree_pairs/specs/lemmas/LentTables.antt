@@ -12,10 +12,11 @@ use Rattle.tree_check.specs.lemmas.TableParts.{parents-length, table-of-parts}
 use Rattle.tree_check.specs.Refusals.{refusal}
 use Rattle.tree_check.specs.theorems.RefusalLaws.{if-accepted, if-refused}
 use Rattle.walks.specs.lemmas.TreeArrays.{TreeArrays, tree-arrays}
-use Rattle.pair_check.specs.PairOrder.{PairWithCells, pairOrder}
-use Rattle.pair_check.specs.theorems.PairCheck.{pair-check}
+use Rattle.counting.specs.Labels.{Labels}
+use Rattle.pair_check.specs.PairOrder.{PairWithCells, MarkedPair, cellsOrder, pairOrder}
+use Rattle.pair_check.specs.theorems.PairCheck.{cells-check, pair-check}
 use Rattle.pair_check.specs.lemmas.PairOutcomes.{edges-some}
-use Rattle.tree_pairs.specs.Crossings.{crossedAll, afterCrossings}
+use Rattle.tree_pairs.specs.Crossings.{crossed, crossedKept, crossedAll, afterCrossings, afterAll}
 use Rattle.tree_pairs.specs.lemmas.Filling.{PairArrays}
 
 -- the first word is the number of tips, ..
@@ -55,15 +56,15 @@ module _ (t u : Table) (work : List ℕ) (h : PairWithCells t u (length work)) (
       (to-parts (λ x qs ms. PairArrays x (parents t) (labels t) qs ms work)
       u (tips t) k (h .pair .second .words) (h .pair .same-tips) (lent-nodes u k ek) own-arrays)
 
-  pub lent-crossed : (new : List ℕ)
-      → new ≡ crossedAll (tableOf n (lentParents t m) (lentLabels t m)) (tableOf n (lentParents u k) (lentLabels u k)) work
-      → new ≡ crossedAll t u work
-  lent-crossed new e =
-      of-parts (λ x qs ms. new ≡ crossedAll (tableOf (tips t) (parents t) (labels t)) (tableOf x qs ms) work)
+  pub lent-crossed : (ks new : List ℕ)
+      → new ≡ crossedKept (tableOf n (lentParents t m) (lentLabels t m)) (tableOf n (lentParents u k) (lentLabels u k)) ks work
+      → new ≡ crossedKept t u ks work
+  lent-crossed ks new e =
+      of-parts (λ x qs ms. new ≡ crossedKept (tableOf (tips t) (parents t) (labels t)) (tableOf x qs ms) ks work)
       u (tips t) k (h .pair .second .words) (h .pair .same-tips) (lent-nodes u k ek)
-      (of-parts (λ x ps ls. new ≡ crossedAll (tableOf x ps ls) (tableOf x (lentParents u k) (lentLabels u k)) work)
+      (of-parts (λ x ps ls. new ≡ crossedKept (tableOf x ps ls) (tableOf x (lentParents u k) (lentLabels u k)) ks work)
       t n m (h .pair .first .words) (lent-tips t n en) (lent-nodes t m em) e)
-      ∙ ap₂ (λ (x y : Table). crossedAll x y work)
+      ∙ ap₂ (λ (x y : Table). crossedKept x y ks work)
       (table-of-parts t (h .pair .first .words)) (table-of-parts u (h .pair .second .words))
 
 -- ---- a pair that was checked, as its answer tells it
@@ -82,33 +83,56 @@ lent-words t u cells p m k em ek =
 
 -- ---- the lent cells afterwards
 
-pub crossings-accepted : (t u : Table) (work new : List ℕ) → PairWithCells t u (length work) → new ≡ crossedAll t u work
-    → new ≡ afterCrossings t u work
-unfolding afterCrossings
-crossings-accepted t u work new p h = h ∙ sym (if-accepted _ _ _ (pair-check t u (length work) .1 p))
+module _ (t u : Table) (marks work new : List ℕ) where
+  pub crossings-accepted : MarkedPair t u marks (length work) → new ≡ crossedKept t u marks work
+      → new ≡ afterCrossings t u marks work
+  unfolding afterCrossings
+  crossings-accepted p h = h ∙ sym (if-accepted _ _ _ (pair-check t u marks (length work) .1 p))
 
-pub crossings-are : (t u : Table) (work new : List ℕ) → PairWithCells t u (length work) → new ≡ afterCrossings t u work
-    → new ≡ crossedAll t u work
-unfolding afterCrossings
-crossings-are t u work new p h = h ∙ if-accepted _ _ _ (pair-check t u (length work) .1 p)
+  pub crossings-are : MarkedPair t u marks (length work) → new ≡ afterCrossings t u marks work
+      → new ≡ crossedKept t u marks work
+  unfolding afterCrossings
+  crossings-are p h = h ∙ if-accepted _ _ _ (pair-check t u marks (length work) .1 p)
 
-pub crossings-refused : (t u : Table) (work : List ℕ) (k : ℕ) → k ≡ refusal (pairOrder t u (length work))
-    → k ≢ 0 → work ≡ afterCrossings t u work
+pub crossings-refused : (t u : Table) (marks work : List ℕ) (k : ℕ) → k ≡ refusal (pairOrder t u marks (length work))
+    → k ≢ 0 → work ≡ afterCrossings t u marks work
 unfolding afterCrossings
-crossings-refused t u work k e d = sym (if-refused _ _ _ (λ z. d (e ∙ z)))
+crossings-refused t u marks work k e d = sym (if-refused _ _ _ (λ z. d (e ∙ z)))
 
--- what holds of the crossings and the parents of a pair holds of the cells and the parts that code lends, and back
-module _ (P : List ℕ → ℕ → List ℕ → List ℕ → Type 0) (t u : Table) (work new : List ℕ)
-    (p : PairWithCells t u (length work)) (w : new ≡ afterCrossings t u work)
-    (n m k : ℕ) (en : n ≡ tips t) (em : m ≡ nodes t) (ek : k ≡ nodes u) where
-  pub to-lent : P (crossedAll t u work) (tips t) (parents t) (parents u) → P new n (lentParents t m) (lentParents u k)
+-- .. of all labels
+module _ (t u : Table) (work new : List ℕ) where
+  pub all-accepted : PairWithCells t u (length work) → new ≡ crossedAll t u work → new ≡ afterAll t u work
+  unfolding afterAll
+  all-accepted p h = h ∙ sym (if-accepted _ _ _ (cells-check t u (length work) .1 p))
+
+  pub all-are : PairWithCells t u (length work) → new ≡ afterAll t u work → new ≡ crossedAll t u work
+  unfolding afterAll
+  all-are p h = h ∙ if-accepted _ _ _ (cells-check t u (length work) .1 p)
+
+pub all-refused : (t u : Table) (work : List ℕ) (k : ℕ) → k ≡ refusal (cellsOrder t u (length work))
+    → k ≢ 0 → work ≡ afterAll t u work
+unfolding afterAll
+all-refused t u work k e d = sym (if-refused _ _ _ (λ z. d (e ∙ z)))
+
+-- what holds of the crossings of labels, of how many they are, and of the tips and parents of a pair holds of the cells, the
+-- numbers and the parts that code lends, and back
+module _ (P : List ℕ → ℕ → ℕ → List ℕ → List ℕ → Type 0) (l : Labels) (t u : Table) (work new : List ℕ)
+    (p : PairWithCells t u (length work)) (w : new ≡ crossed l t u work)
+    (c n m k : ℕ) (ec : c ≡ l .number) (en : n ≡ tips t) (em : m ≡ nodes t) (ek : k ≡ nodes u) where
+  pub to-lent : P (crossed l t u work) (l .number) (tips t) (parents t) (parents u)
+      → P new c n (lentParents t m) (lentParents u k)
   to-lent h =
-      subst (λ (c : List ℕ). P c n (lentParents t m) (lentParents u k)) (sym (crossings-are t u work new p w))
-      (to-parts (λ x ps ls. P (crossedAll t u work) x ps (lentParents u k)) t n m (p .pair .first .words) en em
-      (to-parts (λ x qs ls. P (crossedAll t u work) (tips t) (parents t) qs) u (tips u) k (p .pair .second .words) refl ek h))
+      subst (λ (x : List ℕ). P x c n (lentParents t m) (lentParents u k)) (sym w)
+      (subst (λ (x : ℕ). P (crossed l t u work) x n (lentParents t m) (lentParents u k)) (sym ec)
+      (to-parts (λ x ps ls. P (crossed l t u work) (l .number) x ps (lentParents u k)) t n m (p .pair .first .words) en em
+      (to-parts (λ x qs ls. P (crossed l t u work) (l .number) (tips t) (parents t) qs)
+      u (tips u) k (p .pair .second .words) refl ek h)))
 
-  pub of-lent : P new n (lentParents t m) (lentParents u k) → P (crossedAll t u work) (tips t) (parents t) (parents u)
+  pub of-lent : P new c n (lentParents t m) (lentParents u k)
+      → P (crossed l t u work) (l .number) (tips t) (parents t) (parents u)
   of-lent h =
-      of-parts (λ x qs ls. P (crossedAll t u work) (tips t) (parents t) qs) u (tips u) k (p .pair .second .words) refl ek
-      (of-parts (λ x ps ls. P (crossedAll t u work) x ps (lentParents u k)) t n m (p .pair .first .words) en em
-      (subst (λ (c : List ℕ). P c n (lentParents t m) (lentParents u k)) (crossings-are t u work new p w) h))
+      of-parts (λ x qs ls. P (crossed l t u work) (l .number) (tips t) (parents t) qs)
+      u (tips u) k (p .pair .second .words) refl ek
+      (of-parts (λ x ps ls. P (crossed l t u work) (l .number) x ps (lentParents u k)) t n m (p .pair .first .words) en em
+      (subst (λ (x : ℕ). P (crossed l t u work) x n (lentParents t m) (lentParents u k)) ec
+      (subst (λ (x : List ℕ). P x c n (lentParents t m) (lentParents u k)) w h)))

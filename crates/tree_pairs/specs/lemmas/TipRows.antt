@@ -1,12 +1,13 @@
 -- The rows of the first tree's tips: 1 at the second tree's nodes at or above the tip with the same label.
 -- Assumes nothing.
 use mathlib.Core.Path.{_≡_, refl, sym, _∙_, ap, subst}
+use mathlib.Core.Bool.{Bool, true, false, _&&_}
 use mathlib.Core.List.{List}
 use Prim.Native.Nat.{ℕ, zero, suc, _+_, _*_, _-_, _≤_, _<_}
 use native.Mathlib.Decide.{ℕ-discrete}
 use native.Mathlib.Nat.{zero-mul, mul-le-mul-right}
 use native.Mathlib.Omega.{arith}
-use lib.Dec.{ltb}
+use lib.Dec.{T, ltb}
 use lib.ListN.{length, set, length-set}
 use lib.Seq.{getD-set-same, getD-set-other}
 use Rattle.table_words.specs.Sizes.{nodeRoom, workRoom}
@@ -14,11 +15,12 @@ use Rattle.sums.specs.theorems.Products.{product-le}
 use Rattle.sums.specs.theorems.SumLaws.{sum-ext}
 use Rattle.sums.specs.Bits.{bit, is}
 use Rattle.sums.specs.theorems.BitLaws.{bit-le, bit-T, bit-no, is-eq, is-other}
-use Rattle.sums.specs.theorems.TestLaws.{lt-iff}
+use Rattle.sums.specs.theorems.TestLaws.{and-iff, lt-iff}
 use Rattle.shapes.specs.theorems.AncestorLaws.{Rooted, anc-lt}
 use Rattle.shapes.specs.Ancestors.{anc}
 use Rattle.shapes.specs.theorems.Totals.{total, total-is}
 use Rattle.tree_check.specs.Table.{word}
+use Rattle.marks.specs.Marks.{isKept}
 use Rattle.tree_pairs.specs.lemmas.Grid.{cellAt}
 use Rattle.tree_pairs.specs.lemmas.RowTotals.{RowFits, RowUp}
 
@@ -96,6 +98,14 @@ module _ (ps old : List ℕ) (base at : ℕ) (a : MarkRoom ps old base at) where
 
 -- ---- all rows
 
+-- x is one of n labels, and kept
+unfoldable pub countedLabel : List ℕ → ℕ → ℕ → Bool
+countedLabel ks n x = isKept ks x && ltb x n
+
+pub counted-inside : (ks : List ℕ) (n x : ℕ) → true ≡ countedLabel ks n x → x < n
+unfolding countedLabel
+counted-inside ks n x e = lt-iff x n .0 (and-iff (isKept ks x) (ltb x n) .0 (subst T e tt) .1)
+
 pub record TipRoom (ls : List ℕ) (n : ℕ) (ps nodes work : List ℕ) : Type 0 where
   pub tree : Rooted (word ps)
   pub some : 2 ≤ length ps
@@ -110,15 +120,15 @@ pub record TipRoom (ls : List ℕ) (n : ℕ) (ps nodes work : List ℕ) : Type 0
   pub zeros : (c : ℕ) → c < (length ls - 1) * (length ps - 1) → word work c ≡ 0
 
 -- the rows of the nodes below k are marked, and the cells after them are as they were
-pub record TipRows (ls : List ℕ) (n : ℕ) (ps nodes : List ℕ) (k : ℕ) (old new : List ℕ) : Type 0 where
+pub record TipRows (ls ks : List ℕ) (n : ℕ) (ps nodes : List ℕ) (k : ℕ) (old new : List ℕ) : Type 0 where
   pub long : length new ≡ length old
   pub rows : (v j : ℕ) → 1 ≤ v → v < k → 1 ≤ j → j < length ps
       → cellAt new (length ps - 1) v (j - 1)
-      ≡ bit (ltb (word ls v) n) * bit (anc (word ps) j (word nodes (word ls v)))
+      ≡ bit (countedLabel ks n (word ls v)) * bit (anc (word ps) j (word nodes (word ls v)))
   pub rest : (c : ℕ) → (k - 1) * (length ps - 1) ≤ c → word new c ≡ word old c
 
-pub rows-none : (ls : List ℕ) (n : ℕ) (ps nodes old : List ℕ) → TipRows ls n ps nodes 1 old old
-rows-none ls n ps nodes old = record {
+pub rows-none : (ls ks : List ℕ) (n : ℕ) (ps nodes old : List ℕ) → TipRows ls ks n ps nodes 1 old old
+rows-none ls ks n ps nodes old = record {
   long = refl;
   rows = λ v j o l p q. absurd (omega arith);
   rest = λ c l. refl;
@@ -139,8 +149,8 @@ next-row v w l =
 row-before : (u v w : ℕ) → u ≤ v → u * w ≤ v * w
 row-before u v w l = mul-le-mul-right w l
 
-module _ (ls : List ℕ) (n : ℕ) (ps nodes old : List ℕ) (a : TipRoom ls n ps nodes old) (new : List ℕ) (v : ℕ)
-    (o : 1 ≤ v) (l : v < length ls) (h : TipRows ls n ps nodes v old new) where
+module _ (ls ks : List ℕ) (n : ℕ) (ps nodes old : List ℕ) (a : TipRoom ls n ps nodes old) (new : List ℕ) (v : ℕ)
+    (o : 1 ≤ v) (l : v < length ls) (h : TipRows ls ks n ps nodes v old new) where
   ends : (v - 1) * (length ps - 1) + (length ps - 1) ≤ (length ls - 1) * (length ps - 1)
   ends = omega (
     arith,
@@ -181,25 +191,25 @@ module _ (ls : List ℕ) (n : ℕ) (ps nodes old : List ℕ) (a : TipRoom ls n p
     row-before u (v - 1) (length ps - 1) (omega arith),
   )
 
-  -- node v is no tip
-  pub rows-skip : n ≤ word ls v → TipRows ls n ps nodes (v + 1) old new
+  -- node v is no tip, or its label is struck
+  pub rows-skip : false ≡ countedLabel ks n (word ls v) → TipRows ls ks n ps nodes (v + 1) old new
   rows-skip m = record {
     long = h .long;
     rows = λ u j p q s t. elim (ℕ-discrete u v) [
       | yes d ↦ rw d (
           still ((v - 1) * (length ps - 1) + (j - 1)) (omega arith) (omega arith)
           ∙ sym (ap (λ (b : ℕ). b * bit (anc (word ps) j (word nodes (word ls v))))
-          (bit-no (ltb (word ls v) n) (λ y. omega (arith, lt-iff (word ls v) n .0 y)))
+          (bit-no (countedLabel ks n (word ls v)) (λ y. subst T (sym m) y))
           ∙ zero-mul (bit (anc (word ps) j (word nodes (word ls v))))))
       | no d ↦ h .rows u j p (omega arith) s t
     ];
     rest = λ c q. h .rest c (omega (arith, next-row v (length ps - 1) o, q));
   }
 
-  -- node v is a tip, and its row has been marked
-  pub rows-next : (x : ℕ) → x ≡ word ls v → x < n → (made : List ℕ)
+  -- node v is a tip whose label is kept, and its row has been marked
+  pub rows-next : (x : ℕ) → x ≡ word ls v → true ≡ countedLabel ks n x → (made : List ℕ)
       → RowMarked ps new made ((v - 1) * (length ps - 1)) (word nodes x)
-      → TipRows ls n ps nodes (v + 1) old made
+      → TipRows ls ks n ps nodes (v + 1) old made
   rows-next x e m made g = record {
     long = g .long ∙ h .long;
     rows = λ u j p q s t. elim (ℕ-discrete u v) [
@@ -209,7 +219,7 @@ module _ (ls : List ℕ) (n : ℕ) (ps nodes old : List ℕ) (a : TipRoom ls n p
           ∙ omega (
             arith,
             ap (λ (b : ℕ). b * bit (anc (word ps) j (word nodes (word ls v))))
-                (bit-T (ltb (word ls v) n) (lt-iff (word ls v) n .1 (omega arith))),
+                (bit-T (countedLabel ks n (word ls v)) (subst T (rw e at m) tt)),
           ))
       | no d ↦ g .before ((u - 1) * (length ps - 1) + (j - 1)) (earlier u j p (omega arith) s t)
           ∙ h .rows u j p (omega arith) s t
@@ -218,8 +228,8 @@ module _ (ls : List ℕ) (n : ℕ) (ps nodes old : List ℕ) (a : TipRoom ls n p
         ∙ h .rest c (omega (arith, next-row v (length ps - 1) o, q));
   }
 
-pub rows-all : (ls : List ℕ) (n : ℕ) (ps nodes old new : List ℕ) (v : ℕ) → v ≤ length ls → length ls ≤ v
-    → TipRows ls n ps nodes v old new → TipRows ls n ps nodes (length ls) old new
-rows-all ls n ps nodes old new v l m h =
+pub rows-all : (ls ks : List ℕ) (n : ℕ) (ps nodes old new : List ℕ) (v : ℕ) → v ≤ length ls → length ls ≤ v
+    → TipRows ls ks n ps nodes v old new → TipRows ls ks n ps nodes (length ls) old new
+rows-all ls ks n ps nodes old new v l m h =
     let e : v ≡ length ls = omega arith in
-    subst (λ (k : ℕ). TipRows ls n ps nodes k old new) e h
+    subst (λ (k : ℕ). TipRows ls ks n ps nodes k old new) e h

@@ -11,18 +11,23 @@ use Rattle.tree_check.specs.Refusals.{refusal}
 use Rattle.tree_check.specs.TreeOrder.{tipsFit, nodesFit, parentFits, labelFits, standing, labelsFit, labelsOnce}
 use Rattle.tree_check.specs.TreeOrder.{isChild, children, misplaced, arraysOrder, treeOrder}
 use Rattle.walks.specs.theorems.WalkExamples.{P, Q, TwoTips}
+use Rattle.marks.specs.Marks.{isKept, marksOrder, ones}
 use Rattle.counting.specs.Labels.{all}
+use Rattle.counting.specs.Kept.{keptAt, kept}
 use Rattle.counting.specs.SplitCounts.{beyondAt}
 use Rattle.pair_check.specs.PairOrder.{plus, tipsOrder, tablesOrder, workOrder, pairOrder, cellsNeeded}
 use Rattle.tree_pairs.specs.Crossings.{edgeCrossing, inOrder, cellOf}
 
--- for P and Q 41 cells give 9, and 42 are enough; then 8, a refused second table, and a refused first one
+-- for P and Q 41 cells give 9, and 42 are enough; a mark too few or too many and a mark of 2 give 32, before 9; then 8, a
+-- refused second table, and a refused first one
 pub edges-of-a-pair :
-    refusal (pairOrder P Q 41) ∷ refusal (pairOrder P Q 42) ∷ refusal (pairOrder P TwoTips 42)
-    ∷ refusal (pairOrder P [] 0) ∷ refusal (pairOrder [] [] 0) ∷ []
-    ≡ 9 ∷ 0 ∷ 8 ∷ 101 ∷ 1 ∷ []
+    refusal (pairOrder P Q (ones 5) 41) ∷ refusal (pairOrder P Q (ones 5) 42)
+    ∷ refusal (pairOrder P Q (ones 4) 41) ∷ refusal (pairOrder P Q (ones 6) 42)
+    ∷ refusal (pairOrder P Q (0 ∷ 1 ∷ 2 ∷ 1 ∷ 0 ∷ []) 42) ∷ refusal (pairOrder P Q (0 ∷ 0 ∷ 0 ∷ 0 ∷ 0 ∷ []) 42)
+    ∷ refusal (pairOrder P TwoTips [] 42) ∷ refusal (pairOrder P [] [] 0) ∷ refusal (pairOrder [] [] [] 0) ∷ []
+    ≡ 9 ∷ 0 ∷ 32 ∷ 32 ∷ 32 ∷ 0 ∷ 8 ∷ 101 ∷ 1 ∷ []
 unfolding
-    refusal pairOrder tablesOrder tipsOrder workOrder plus treeOrder arraysOrder tipsFit nodesFit parentFits
+    ones marksOrder refusal pairOrder tablesOrder tipsOrder workOrder plus treeOrder arraysOrder tipsFit nodesFit parentFits
     labelFits standing labelsFit labelsOnce isChild children misplaced sum bit some every tips nodes parents labels parent label
 edges-of-a-pair = refl
 
@@ -40,3 +45,18 @@ pub crossings-of-P-and-Q :
 unfolding
     inOrder cellOf edgeCrossing beyondAt sum bit ancIn anc tips nodes parents labels parent label nodeBelow nodeOf beyond
 crossings-of-P-and-Q = refl
+
+-- with 0 and 3 struck, label 1, 2 and 4 are left: each cell has those of them beyond both edges
+pub crossings-of-kept-labels :
+    inOrder (cellsNeeded P Q) (cellOf (kept (0 ∷ 1 ∷ 1 ∷ 0 ∷ 1 ∷ []) 5) P Q)
+    ≡ 3 ∷ 1 ∷ 2 ∷ 1 ∷ 0 ∷ 1
+    ∷ 1 ∷ 1 ∷ 0 ∷ 0 ∷ 0 ∷ 0
+    ∷ 2 ∷ 0 ∷ 2 ∷ 1 ∷ 0 ∷ 1
+    ∷ 1 ∷ 0 ∷ 1 ∷ 1 ∷ 0 ∷ 0
+    ∷ 1 ∷ 0 ∷ 1 ∷ 0 ∷ 0 ∷ 1
+    ∷ 0 ∷ 0 ∷ 0 ∷ 0 ∷ 0 ∷ 0
+    ∷ 1 ∷ 0 ∷ 1 ∷ 0 ∷ 0 ∷ 1 ∷ []
+unfolding
+    isKept keptAt inOrder cellOf edgeCrossing beyondAt sum bit ancIn anc tips nodes parents labels parent label nodeBelow nodeOf
+    beyond
+crossings-of-kept-labels = refl

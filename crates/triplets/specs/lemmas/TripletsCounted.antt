@@ -36,8 +36,8 @@ use Rattle.counting.specs.Cases.{A, B, C, D, E, caseNumber}
 use Rattle.counting.specs.Triplets.{triplets}
 use Rattle.counting.specs.theorems.TreeShape.{shapeOf}
 use Rattle.counting.specs.theorems.TripletTheorem.{outgroup, triplets-in-shapes, triplets-total, all-triplets}
-use Rattle.pair_check.specs.PairOrder.{PairWithCells, pairOrder}
-use Rattle.pair_check.specs.theorems.PairCheck.{pair-check}
+use Rattle.pair_check.specs.PairOrder.{PairWithCells, cellsOrder}
+use Rattle.pair_check.specs.theorems.PairCheck.{cells-check}
 use Rattle.tree_pairs.specs.Crossings.{edgeCrossing, crossedAll}
 use Rattle.tree_pairs.specs.theorems.CrossingLaws.{cell-of-edges, cell-inside, crossed-length}
 use Rattle.tree_pairs.specs.lemmas.CellSizes.{row-cell, column-cell}
@@ -376,10 +376,10 @@ module _ (t u : Table) (work : List ℕ) (p : PairWithCells t u (length work)) w
   unfolding counted tripletAnswer
   triplets-accepted =
       formed-is (tips t) _ _ _ _ _ _ _ _ _ first-sum second-sum alike-sum apart-sum total
-      ∙ sym (if-accepted _ (tripletsOfPair t u) _ (pair-check t u (length work) .1 p))
+      ∙ sym (if-accepted _ (tripletsOfPair t u) _ (cells-check t u (length work) .1 p))
 
 -- a refused pair
-pub triplets-refused : (t u : Table) (cells k : ℕ) → k ≡ refusal (pairOrder t u cells) → k ≢ 0
+pub triplets-refused : (t u : Table) (cells k : ℕ) → k ≡ refusal (cellsOrder t u cells) → k ≢ 0
     → refusedTriplets k ≡ tripletAnswer t u cells
 unfolding tripletAnswer
 triplets-refused t u cells k e d = rw e (sym (if-refused _ _ _ (λ z. d (e ∙ z))))

@@ -2,7 +2,7 @@
 -- Assumes nothing.
 use mathlib.Core.Path.{_≡_, refl, sym, _∙_, subst}
 use mathlib.Core.Bool.{Bool, false, not}
-use mathlib.Core.List.{[]}
+use mathlib.Core.List.{List, [], _++_}
 use mathlib.Core.Logic.{_≢_, _↔_}
 use Prim.Native.Nat.{ℕ, _+_, _*_, _≤_, _<_}
 use native.Mathlib.Nat.{mul-le-mul-right, lt-of-lt-of-le}
@@ -19,16 +19,17 @@ use Rattle.sums.specs.theorems.TestLaws.{not-lt-iff}
 use Rattle.tree_check.specs.Table.{Table, tips}
 use Rattle.tree_check.specs.Refusals.{refusal}
 use Rattle.tree_check.specs.theorems.RefusalLaws.{Kept, refusal-none, refusal-here, refusal-next, refusal-first, refusal-kept, kept-append}
-use Rattle.counting.specs.Labels.{all}
-use Rattle.counting.specs.theorems.LabelLaws.{all-rising}
+use Rattle.counting.specs.Labels.{Labels, Rising}
 use Rattle.counting.specs.Cases.{B, C, D, quartets}
 use Rattle.counting.specs.theorems.QuartetTheorem.{quartet-theorem}
-use Rattle.pair_check.specs.PairOrder.{tablesOrder, workOrder, pairOrder, PairWithCells}
+use Rattle.marks.specs.Marks.{marksOrder}
+use Rattle.marks.specs.theorems.MarksCheck.{marks-kept}
+use Rattle.pair_check.specs.PairOrder.{tablesOrder, workOrder, pairOrder, IsPair, MarkedPair}
 use Rattle.pair_check.specs.theorems.PairCheck.{tables-kept, pair-check}
 use Rattle.weights.specs.declared.weight.Weight.{Weight}
 use Rattle.weights.specs.declared.weight.Weight.the-variants.{None, Full}
 use Rattle.weights.specs.Weights.{over256, pOf, numeratorOf}
-use Rattle.weights.specs.WeightedAnswer.{fractionOrder, weightedOrder, weightedOfPair}
+use Rattle.weights.specs.WeightedAnswer.{fractionOrder, weightedOrder, weightedOver}
 use Rattle.weights.specs.theorems.Fractions.{over-256-exact, numerator-iff, numerator-le}
 
 -- ---- acceptance
@@ -44,27 +45,33 @@ fraction-check w = (
   λ l. refusal-next 30 _ _ (ne-eqb (numeratorOf (pOf w)) 257 (λ h. omega arith)) ∙ refusal-none,
 )
 
-module _ (t u : Table) (cells : ℕ) (w : Weight) where
-  pub order-kept : PairWithCells t u cells → Kept (pairOrder t u cells)
+module _ (t u : Table) (marks : List ℕ) (cells : ℕ) (w : Weight) where
+  order-kept : MarkedPair t u marks cells → Kept (pairOrder t u marks cells)
   unfolding pairOrder workOrder
-  order-kept p = kept-append (tablesOrder t u) (workOrder t u cells) .1
-      (tables-kept t u .1 (p .pair), (not-lt-iff cells _ .1 (p .room), tt))
+  order-kept p =
+      kept-append (tablesOrder t u) (marksOrder marks (tips t) ++ workOrder t u cells) .1 (
+        tables-kept t u .1 (p .with-cells .pair),
+        kept-append (marksOrder marks (tips t)) (workOrder t u cells) .1
+            (marks-kept marks (tips t) .1 (p .marked), (not-lt-iff cells _ .1 (p .with-cells .room), tt)),
+      )
 
-  -- the tables are accepted as in every pair call; only then the fraction is judged
-  pub then-fraction : PairWithCells t u cells → refusal (weightedOrder t u cells w) ≡ refusal (fractionOrder (pOf w))
+  -- the tables and the marks are accepted as in every pair call; only then the fraction is judged
+  pub then-fraction : MarkedPair t u marks cells
+      → refusal (weightedOrder t u marks cells w) ≡ refusal (fractionOrder (pOf w))
   unfolding weightedOrder
-  then-fraction p = refusal-kept (pairOrder t u cells) _ (order-kept p)
+  then-fraction p = refusal-kept (pairOrder t u marks cells) _ (order-kept p)
 
-  pub tables-first : refusal (pairOrder t u cells) ≢ 0
-      → refusal (weightedOrder t u cells w) ≡ refusal (pairOrder t u cells)
+  pub tables-first : refusal (pairOrder t u marks cells) ≢ 0
+      → refusal (weightedOrder t u marks cells w) ≡ refusal (pairOrder t u marks cells)
   unfolding weightedOrder
-  tables-first d = refusal-first (pairOrder t u cells) _ d
+  tables-first d = refusal-first (pairOrder t u marks cells) _ d
 
-  pub weighted-check : (refusal (weightedOrder t u cells w) ≡ 0) ↔ PairWithCells t u cells × (numeratorOf (pOf w) ≤ 256)
+  pub weighted-check : (refusal (weightedOrder t u marks cells w) ≡ 0)
+      ↔ MarkedPair t u marks cells × (numeratorOf (pOf w) ≤ 256)
   weighted-check = (
-    λ e. elim (ℕ-discrete (refusal (pairOrder t u cells)) 0) [
+    λ e. elim (ℕ-discrete (refusal (pairOrder t u marks cells)) 0) [
       | yes z ↦ (
-          let p = pair-check t u cells .0 z in
+          let p = pair-check t u marks cells .0 z in
           (p, fraction-check w .0 (sym (then-fraction p) ∙ e)))
       | no d ↦ absurd (d (sym (tables-first d) ∙ e))
     ],
@@ -85,18 +92,18 @@ full-is-256 = numerator-iff (pOf Full) 256 (omega arith) .1 (record {
 
 -- ---- the answer is exact, and never minus zero
 
-module _ (t u : Table) (cells : ℕ) (p : PairWithCells t u cells) (w : Weight) (l : numeratorOf (pOf w) ≤ 256) where
-  few : (quartets (all (tips t)) t u B ≤ 174792640) × (quartets (all (tips t)) t u C + quartets (all (tips t)) t u D ≤ 174792640)
+module _ (l : Labels) (t u : Table) (p : IsPair t u) (r : Rising (tips t) l) (w : Weight) (m : numeratorOf (pOf w) ≤ 256) where
+  few : (quartets l t u B ≤ 174792640) × (quartets l t u C + quartets l t u D ≤ 174792640)
   few =
-      let q = quartet-theorem (all (tips t)) t u (p .pair .first) (p .pair .second) (p .pair .same-tips) (all-rising (tips t)) in
+      let q = quartet-theorem l t u (p .first) (p .second) (p .same-tips) r in
       (q .count-most B, omega (arith, q .total, q .all-most, q .C-counts, q .D-counts))
 
   -- 256 times the answer is 256 · B + k · (C + D), and its sign is plus
-  pub weighted-exact : HasValue (weightedOfPair t u w .distance) false
-      (256 * quartets (all (tips t)) t u B + numeratorOf (pOf w) * (quartets (all (tips t)) t u C + quartets (all (tips t)) t u D)) 256
-  weighted-exact = over-256-exact _ (lt-of-lt-of-le (low _ (mul-le-mul-right (quartets (all (tips t)) t u C + quartets (all (tips t)) t u D) l)) (lit≤ tt))
+  pub weighted-exact : HasValue (weightedOver l t u w .distance) false
+      (256 * quartets l t u B + numeratorOf (pOf w) * (quartets l t u C + quartets l t u D)) 256
+  weighted-exact = over-256-exact _ (lt-of-lt-of-le (low _ (mul-le-mul-right (quartets l t u C + quartets l t u D) m)) (lit≤ tt))
     where
-      low : (x : ℕ) → x ≤ 256 * (quartets (all (tips t)) t u C + quartets (all (tips t)) t u D) → 256 * quartets (all (tips t)) t u B + x < 89493831681
+      low : (x : ℕ) → x ≤ 256 * (quartets l t u C + quartets l t u D) → 256 * quartets l t u B + x < 89493831681
       low x h = omega (arith, few)
 
 -- ---- nothing gives B, full the distance, and the weighted distance grows with k
@@ -105,22 +112,22 @@ nothing : (b c k : ℕ) → k ≡ 0 → over256 (256 * b + k * c) ≡ ofInt bina
 unfolding ofInt
 nothing b c k e = round-same binary64 false (256 * b + k * c) 256 b 1 (lit< tt) (lit< tt) (rw e (omega arith))
 
-pub none-gives-B : (t u : Table) → weightedOfPair t u None .distance ≡ ofInt binary64 (pos (quartets (all (tips t)) t u B))
-none-gives-B t u = nothing (quartets (all (tips t)) t u B) (quartets (all (tips t)) t u C + quartets (all (tips t)) t u D) (numeratorOf (pOf None)) none-is-0
+pub none-gives-B : (l : Labels) (t u : Table) → weightedOver l t u None .distance ≡ ofInt binary64 (pos (quartets l t u B))
+none-gives-B l t u = nothing (quartets l t u B) (quartets l t u C + quartets l t u D) (numeratorOf (pOf None)) none-is-0
 
 everything : (b c k : ℕ) → k ≡ 256 → over256 (256 * b + k * c) ≡ ofInt binary64 (pos (b + c))
 unfolding ofInt
 everything b c k e = round-same binary64 false (256 * b + k * c) 256 (b + c) 1 (lit< tt) (lit< tt) (rw e (omega arith))
 
-pub full-gives-distance : (t u : Table)
-    → weightedOfPair t u Full .distance ≡ ofInt binary64 (pos (quartets (all (tips t)) t u B + (quartets (all (tips t)) t u C + quartets (all (tips t)) t u D)))
-full-gives-distance t u = everything (quartets (all (tips t)) t u B) (quartets (all (tips t)) t u C + quartets (all (tips t)) t u D) (numeratorOf (pOf Full)) full-is-256
+pub full-gives-distance : (l : Labels) (t u : Table)
+    → weightedOver l t u Full .distance ≡ ofInt binary64 (pos (quartets l t u B + (quartets l t u C + quartets l t u D)))
+full-gives-distance l t u = everything (quartets l t u B) (quartets l t u C + quartets l t u D) (numeratorOf (pOf Full)) full-is-256
 
-pub grows-with-k : (t u : Table) (w w' : Weight) → numeratorOf (pOf w) ≤ numeratorOf (pOf w')
-    → T (le (weightedOfPair t u w .distance) (weightedOfPair t u w' .distance))
-grows-with-k t u w w' l =
+pub grows-with-k : (l : Labels) (t u : Table) (w w' : Weight) → numeratorOf (pOf w) ≤ numeratorOf (pOf w')
+    → T (le (weightedOver l t u w .distance) (weightedOver l t u w' .distance))
+grows-with-k l t u w w' m =
     round-mono binary64 _ 256 _ 256 (lit< tt) (lit< tt)
-    (mul-le-mul-right 256 (more _ _ (mul-le-mul-right (quartets (all (tips t)) t u C + quartets (all (tips t)) t u D) l)))
+    (mul-le-mul-right 256 (more _ _ (mul-le-mul-right (quartets l t u C + quartets l t u D) m)))
   where
-    more : (x y : ℕ) → x ≤ y → 256 * quartets (all (tips t)) t u B + x ≤ 256 * quartets (all (tips t)) t u B + y
+    more : (x y : ℕ) → x ≤ y → 256 * quartets l t u B + x ≤ 256 * quartets l t u B + y
     more x y h = omega arith

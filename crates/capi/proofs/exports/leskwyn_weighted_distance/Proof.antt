@@ -19,7 +19,7 @@ returns : tie.Need-returns
 unfolding plainWeighted
 returns c =
     let x = c .before .before .weighted-distance .ensures in
-    weighted-plain _ _ _ _ _ _ _ (c .before .before .before .weight-of .ensures) (x .0) (x .1)
+    weighted-plain _ _ _ _ _ _ _ _ (c .before .before .before .weight-of .ensures) (x .0) (x .1)
 
 pub leskwyn-weighted-distance-spec : {M : Type 1} → statement M
 leskwyn-weighted-distance-spec =

@@ -28,7 +28,7 @@ mul-own-row c =
 own-row-requires : tie.Need-own-row-requires Inv-loop μ-loop
 own-row-requires c κs =
     let p = c .before .before .before .before .before .before .pre in (
-      (first-row-room _ _ _ _ _ (p .0) _ (p .1), p .0 .crossed .tips-few),
+      (first-row-room _ _ _ _ _ (p .0) _ (p .1), p .0 .crossed .labels-few),
       p .0 .crossed .neither _ _ (p .0 .rows-inside 0 (p .0 .rows-some)) (p .0 .columns-inside 0 (p .0 .columns-some)),
     )
 

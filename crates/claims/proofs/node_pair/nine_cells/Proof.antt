@@ -35,7 +35,7 @@ own-cells-requires : tie.Need-own-cells-requires
 own-cells-requires c κs =
     let b = c .before .before .before .before in
     let p = b .before .before .before .pre in (
-      (three-room _ _ _ _ _ (p .0) (p .1 .0) (p .1 .1) 0 (omega arith), p .0 .crossed .tips-few),
+      (three-room _ _ _ _ _ (p .0) (p .1 .0) (p .1 .1) 0 (omega arith), p .0 .crossed .labels-few),
       own-neither _ _ _ _ _ (p .0) (p .1 .0) (p .1 .1),
     )
 

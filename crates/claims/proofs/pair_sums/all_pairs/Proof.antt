@@ -59,7 +59,7 @@ inner : (c : tie.After-inner-nodes Inv-loop μ-loop)
     → (let qs = start c .args .second-parents .now in
     InnerNodes qs (c .inner-nodes .last .1 .0) (c .inner-nodes .result) (length qs))
 inner c =
-    let h = start c .pre .0 .second in
+    let h = start c .pre .pairs .second in
     lent-inner _ _ (h .parents) (h .begins) _ _ _ (omega arith) (c .inner-nodes .ensures .0) (c .inner-nodes .ensures .1)
 
 -- the sums with the turn's row
@@ -73,28 +73,28 @@ module _ (c : tie.After-node-row Inv-loop μ-loop) where
       (nodeS3 (a .work .now) w (a .n) (a .first-parents .now) (a .second-parents .now)) (l .before .loop .v + 1)
       (l .before .loop .s2 + c .node-row .result .s2) (l .before .loop .s3 + c .node-row .result .s3))
   summed =
-      let h = start (listed l) .pre .0 in
+      let h = start (listed l) .pre .pairs in
       summed-next _ _ _ _ _ (l .before .loop .inv .1) _ _
-      (node-S2 _ _ _ _ _ _ _ _ _ h _ (l .loop-test .taken) _ (c .node-row .ensures .0))
-      (node-S3 _ _ _ _ _ _ _ _ _ h _ (l .loop-test .taken) _ (c .node-row .ensures .1))
+      (node-S2 _ _ _ _ _ _ _ _ _ _ h _ (l .loop-test .taken) _ (c .node-row .ensures .0))
+      (node-S3 _ _ _ _ _ _ _ _ _ _ h _ (l .loop-test .taken) _ (c .node-row .ensures .1))
 
   low : (l .before .loop .s2 + c .node-row .result .s2 ≤ 699170560)
       × (l .before .loop .s3 + c .node-row .result .s3 ≤ 699170560)
   low =
-      let h = start (listed l) .pre .0 in
+      let h = start (listed l) .pre .pairs in
       summed-most _ _ _ _ _ summed _ 699170560 (omega (arith, l .loop-test .taken)) (h .all-S2) (h .all-S3)
 
 -- ---- what is asked there
 
 sub-width : tie.Need-sub-width Inv-loop μ-loop
-sub-width c = omega (arith, c .before .before .before .before .before .before .before .before .pre .0 .second .parents .some)
+sub-width c = omega (arith, c .before .before .before .before .before .before .before .before .pre .pairs .second .parents .some)
 
 add-inner-nodes : tie.Need-add-inner-nodes Inv-loop μ-loop
-add-inner-nodes c = omega (arith, c .before .before .before .before .before .before .before .before .pre .0 .second .parents .few)
+add-inner-nodes c = omega (arith, c .before .before .before .before .before .before .before .before .pre .pairs .second .parents .few)
 
 slice-aggregate-inner-nodes : tie.Need-slice-aggregate-inner-nodes Inv-loop μ-loop
 slice-aggregate-inner-nodes c =
-    let h = c .before .before .before .before .before .before .before .before .before .pre .0 .second in
+    let h = c .before .before .before .before .before .before .before .before .before .pre .pairs .second in
     sym (lent-length _ _ (h .parents) (h .begins))
 
 slice-aggregate-inner-nodes-2 : tie.Need-slice-aggregate-inner-nodes-2 Inv-loop μ-loop
@@ -109,52 +109,52 @@ loop-holds c = (omega arith, summed-none _ _, refl, refl, refl, refl, refl, refl
 mul-from : tie.Need-mul-from Inv-loop μ-loop
 mul-from c =
     let l = c in
-    let h = start (listed l) .pre .0 .first in
+    let h = start (listed l) .pre .pairs .first in
     omega (arith, h .parents .few, l .loop-test .taken, h .begins .long)
 
 shared-slice-read-from : tie.Need-shared-slice-read-from Inv-loop μ-loop
 shared-slice-read-from c =
     let l = c .before in
-    let h = start (listed l) .pre .0 .first in
+    let h = start (listed l) .pre .pairs .first in
     omega (arith, h .parents .few, l .loop-test .taken, h .begins .long)
 
 add-to : tie.Need-add-to Inv-loop μ-loop
 add-to c =
     let l = c .before in
-    let h = start (listed l) .pre .0 .first in
+    let h = start (listed l) .pre .pairs .first in
     omega (arith, h .parents .few, l .loop-test .taken, h .begins .long)
 
 mul-to : tie.Need-mul-to Inv-loop μ-loop
 mul-to c =
     let l = c .before in
-    let h = start (listed l) .pre .0 .first in
+    let h = start (listed l) .pre .pairs .first in
     omega (arith, h .parents .few, l .loop-test .taken, h .begins .long)
 
 shared-slice-read-to : tie.Need-shared-slice-read-to Inv-loop μ-loop
 shared-slice-read-to c =
     let l = c .before .before in
-    let h = start (listed l) .pre .0 .first in
+    let h = start (listed l) .pre .pairs .first in
     omega (arith, h .parents .few, l .loop-test .taken, h .begins .long)
 
 mul-node-row : tie.Need-mul-node-row Inv-loop μ-loop
 mul-node-row c =
     let l = c .before .before in
-    omega (arith, part-inside _ _ _ (start (listed l) .pre .0 .first) _ (l .loop-test .taken))
+    omega (arith, part-inside _ _ _ (start (listed l) .pre .pairs .first) _ (l .loop-test .taken))
 
 sub-node-row : tie.Need-sub-node-row Inv-loop μ-loop
 sub-node-row c =
     let l = c .before .before in
-    part-inside _ _ _ (start (listed l) .pre .0 .first) _ (l .loop-test .taken) .0
+    part-inside _ _ _ (start (listed l) .pre .pairs .first) _ (l .loop-test .taken) .0
 
 part-node-row-start : tie.Need-part-node-row-start Inv-loop μ-loop
 part-node-row-start c =
     let l = c .before .before in
-    part-inside _ _ _ (start (listed l) .pre .0 .first) _ (l .loop-test .taken) .0
+    part-inside _ _ _ (start (listed l) .pre .pairs .first) _ (l .loop-test .taken) .0
 
 part-node-row-end : tie.Need-part-node-row-end Inv-loop μ-loop
 part-node-row-end c =
     let l = c .before .before in
-    part-inside _ _ _ (start (listed l) .pre .0 .first) _ (l .loop-test .taken) .1
+    part-inside _ _ _ (start (listed l) .pre .pairs .first) _ (l .loop-test .taken) .1
 
 slice-aggregate-node-row : tie.Need-slice-aggregate-node-row Inv-loop μ-loop
 slice-aggregate-node-row c = sym (listed (c .before .before .before .before) .inner-nodes .kept .1 .0)
@@ -177,10 +177,10 @@ slice-aggregate-node-row-6 c = sym (all-lent c .before .loop .inv .7)
 node-row-requires : tie.Need-node-row-requires Inv-loop μ-loop
 node-row-requires c κs =
     let l = all-lent c in
-    let h = start (listed l) .pre .0 in
+    let h = start (listed l) .pre .pairs in
     let n = inner (listed l) in
     let i = l .before .loop .inv in (
-      node-room _ _ _ _ _ _ _ _ _ h _ (l .loop-test .taken) _ (omega (arith, i .2, start (listed l) .pre .1)),
+      node-room _ _ _ _ _ _ _ _ _ _ h _ (l .loop-test .taken) _ (omega (arith, i .2, start (listed l) .pre .room)),
       (
         record {
           sums-long = omega (arith, i .3);
@@ -202,7 +202,7 @@ add-s3 c = omega (arith, low (c .before .before .before .before .before .before 
 add-v : tie.Need-add-v Inv-loop μ-loop
 add-v c =
     let l = turn (c .before .before .before .before .before .before .before .before .before) in
-    omega (arith, start (listed l) .pre .0 .first .parents .few, l .loop-test .taken)
+    omega (arith, start (listed l) .pre .pairs .first .parents .few, l .loop-test .taken)
 
 loop-less : tie.Need-loop-less Inv-loop μ-loop
 loop-less c = omega (arith, turn (c .before .before .before .before .before .before .before .before .before) .loop-test .taken)

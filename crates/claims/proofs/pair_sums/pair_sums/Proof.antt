@@ -13,7 +13,11 @@ slice-aggregate-all-pairs c = search needs
 all-pairs-requires : tie.Need-all-pairs-requires
 all-pairs-requires c κs =
     let s = c .before .before .before .before .before .before .before .before .before in
-    (s .pre, product-le 64 64 _ _ (c .before .if1 .taken) (c .before .if1 .taken))
+    record {
+      most = s .args .tips;
+      pairs = s .pre;
+      room = product-le 64 64 _ _ (c .before .if1 .taken) (c .before .if1 .taken);
+    }
 
 returns : tie.Need-returns
 returns c = search needs
@@ -24,7 +28,11 @@ slice-aggregate-all-pairs-2 c = search needs
 all-pairs-requires-2 : tie.Need-all-pairs-requires-2
 all-pairs-requires-2 c κs =
     let s = c .before .before .before .before .before .before .before .before .before in
-    (s .pre, product-le tipsMost tipsMost _ _ (s .pre .crossed .tips-few) (s .pre .crossed .tips-few))
+    record {
+      most = s .args .tips;
+      pairs = s .pre;
+      room = product-le tipsMost tipsMost _ _ (s .pre .most-few) (s .pre .most-few);
+    }
 
 returns-2 : tie.Need-returns-2
 returns-2 c = search needs

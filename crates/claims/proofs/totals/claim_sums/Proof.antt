@@ -6,7 +6,8 @@ use native.Mathlib.Omega.{arith}
 use lib.ListN.{length}
 use Rattle.table_words.specs.Sizes.{nodesMost}
 use Rattle.tree_check.specs.Table.{tips, nodes}
-use Rattle.pair_check.specs.PairOrder.{PairWithCells}
+use Rattle.marks.specs.Marks.{keptOf}
+use Rattle.pair_check.specs.PairOrder.{MarkedPair}
 use Rattle.pair_check.specs.lemmas.PairOutcomes.{work-says, work-passed, edges-some}
 use Rattle.tree_pairs.specs.lemmas.LentTables.{nodes-are, lent-words}
 use Rattle.claims.specs.lemmas.LentSums.{lent-summable, lent-claims}
@@ -18,33 +19,35 @@ use Rattle.claims.proofs.totals.claim_sums.Tie as tie
 -- ---- the points of the program, once the answer is known to be a pair
 
 abbrev start : tie.After-known-told → tie.Start
-start c = c .before .before .before .before .before .before .before .before .before .before
+start c = c .before .before .before .before .before .before .before .before .before .before .before
 
 abbrev crossed : tie.After-known-told → tie.After-cross-pair
 crossed c = c .before .before .before .before .before
 
 -- ---- what is asked there
 
--- a pair with cells enough, with n and the edges of both trees as told
+-- a pair with marks and cells enough, with n, how many labels are kept and the edges of both trees as told
 record Told (c : tie.After-known-told) : Type 0 where
-  pair : PairWithCells (start c .args .first .now) (start c .args .second .now) (length (start c .args .work .now))
+  pair : MarkedPair (start c .args .first .now) (start c .args .second .now) (start c .args .marks .now)
+      (length (start c .args .work .now))
   n-is : c .before .answer .given .0 .0 ≡ tips (start c .args .first .now)
-  m-is : c .before .answer .given .0 .1 .0 + 1 ≡ nodes (start c .args .first .now)
-  k-is : c .before .answer .given .0 .1 .1 .0 + 1 ≡ nodes (start c .args .second .now)
+  kept-is : c .before .answer .given .0 .1 .0 ≡ keptOf (start c .args .marks .now) (tips (start c .args .first .now))
+  m-is : c .before .answer .given .0 .1 .1 .0 + 1 ≡ nodes (start c .args .first .now)
+  k-is : c .before .answer .given .0 .1 .1 .1 .0 + 1 ≡ nodes (start c .args .second .now)
 
 told : (c : tie.After-known-told) → Told c
 told c =
-    let p = work-says _ _ _ _ _ _ (sym (crossed c .cross-pair .ensures .0) ∙ c .before .answer .given .1) in
-    let q = nodes-are _ _ _ (p .0) _ _ (p .2) (p .3) in
-    record { pair = p .0; n-is = p .1; m-is = q .0; k-is = q .1 }
+    let p = work-says _ _ _ _ _ _ _ _ (sym (crossed c .cross-pair .ensures .0) ∙ c .before .answer .given .1) in
+    let q = nodes-are _ _ _ (p .0 .with-cells) _ _ (p .3) (p .4) in
+    record { pair = p .0; n-is = p .1; kept-is = p .2; m-is = q .0; k-is = q .1 }
 
 -- each has at most `nodesMost` nodes, and its parents among its words
 few : (c : tie.After-known-told)
-    → (c .before .answer .given .0 .1 .0 < nodesMost) × (c .before .answer .given .0 .1 .1 .0 < nodesMost)
+    → (c .before .answer .given .0 .1 .1 .0 < nodesMost) × (c .before .answer .given .0 .1 .1 .1 .0 < nodesMost)
 few c =
     let t = told c in (
-      omega (arith, t .m-is, edges-some _ (t .pair .pair .first)),
-      omega (arith, t .k-is, edges-some _ (t .pair .pair .second)),
+      omega (arith, t .m-is, edges-some _ (t .pair .with-cells .pair .first)),
+      omega (arith, t .k-is, edges-some _ (t .pair .with-cells .pair .second)),
     )
 
 cross-pair-requires : tie.Need-cross-pair-requires
@@ -65,8 +68,8 @@ same-length c = search needs
 returns : tie.Need-returns
 returns c =
     let x = c .before .before .before .before .before .cross-pair .ensures in
-    let h = work-passed _ _ _ _ _ _ (x .0) (c .before .enum-told .given .1) (c .pair-refusal .ensures) in
-    (claims-refused _ _ _ _ (h .0) (h .1), x .2)
+    let h = work-passed _ _ _ _ _ _ _ (x .0) (c .before .enum-told .given .1) (c .pair-refusal .ensures) in
+    (claims-refused _ _ _ _ _ (h .0) (h .1), x .2)
 
 add-m : tie.Need-add-m
 add-m c = omega (arith, few c)
@@ -84,7 +87,7 @@ part-sums-of-start : tie.Need-part-sums-of-start
 part-sums-of-start c = search needs
 
 part-sums-of-end : tie.Need-part-sums-of-end
-part-sums-of-end c = let t = told c in lent-words _ _ _ (t .pair) _ _ (t .m-is) (t .k-is) .0
+part-sums-of-end c = let t = told c in lent-words _ _ _ (t .pair .with-cells) _ _ (t .m-is) (t .k-is) .0
 
 add-sums-of-2 : tie.Need-add-sums-of-2
 add-sums-of-2 c = omega (arith, few (c .before))
@@ -96,14 +99,14 @@ part-sums-of-start-2 : tie.Need-part-sums-of-start-2
 part-sums-of-start-2 c = search needs
 
 part-sums-of-end-2 : tie.Need-part-sums-of-end-2
-part-sums-of-end-2 c = let t = told (c .before) in lent-words _ _ _ (t .pair) _ _ (t .m-is) (t .k-is) .1
+part-sums-of-end-2 c = let t = told (c .before) in lent-words _ _ _ (t .pair .with-cells) _ _ (t .m-is) (t .k-is) .1
 
 sums-of-requires : tie.Need-sums-of-requires
 sums-of-requires c κs =
     let k = c .before .before .before in
     let t = told k in
-    lent-summable _ _ _ _ (t .pair) (crossed k .cross-pair .ensures .2)
-    _ _ _ (t .n-is) (t .m-is) (t .k-is)
+    lent-summable _ _ _ _ _ (t .pair) (crossed k .cross-pair .ensures .2)
+    _ _ _ _ (t .kept-is) (t .n-is) (t .m-is) (t .k-is)
 
 same-length-2 : tie.Need-same-length-2
 same-length-2 c = search needs
@@ -113,7 +116,7 @@ returns-2 c =
     let k = c .before .before .before .before in
     let t = told k in
     let x = crossed k .cross-pair .ensures .2 in
-    (lent-claims _ _ _ _ (t .pair) x _ _ _ (t .n-is) (t .m-is) (t .k-is) _ (c .sums-of .ensures), x)
+    (lent-claims _ _ _ _ _ (t .pair) x _ _ _ _ (t .kept-is) (t .n-is) (t .m-is) (t .k-is) _ (c .sums-of .ensures), x)
 
 pub claim-sums-spec : {M : Type 1} → statement M
 claim-sums-spec =

@@ -47,7 +47,7 @@ first-listed c =
     let p = start c .pre in
     let f = fit _ (p .first) in
     let e = c .list-codes .ensures in
-    first-lists _ _ _ _ p _ _ (listed-starts _ _ _ f _ (c .list-codes .kept .1 .0) (e .0))
+    first-lists _ _ _ _ _ p _ _ (listed-starts _ _ _ f _ (c .list-codes .kept .1 .0) (e .0))
     (listed-edges _ _ _ f _ (c .list-codes .kept .1 .1 .0) (e .1))
 
 second-listed : (c : tie.After-list-codes2)
@@ -56,7 +56,7 @@ second-listed c =
     let p = start (first c) .pre in
     let f = fit _ (p .second) in
     let e = c .list-codes2 .ensures in
-    second-lists _ _ _ _ p _ _ (listed-starts _ _ _ f _ (c .list-codes2 .kept .1 .0) (e .0))
+    second-lists _ _ _ _ _ p _ _ (listed-starts _ _ _ f _ (c .list-codes2 .kept .1 .0) (e .0))
     (listed-edges _ _ _ f _ (c .list-codes2 .kept .1 .1 .0) (e .1))
 
 -- ---- what is asked
@@ -94,7 +94,7 @@ slice-aggregate-tree-sum-3 c = refl
 tree-sum-requires : tie.Need-tree-sum-requires
 tree-sum-requires c κs =
     let s = first (c .before .before .before .before .before) in
-    first-sizes _ _ _ _ (start s .pre) _ _ (first-listed s)
+    first-sizes _ _ _ _ _ (start s .pre) _ _ (first-listed s)
 
 slice-aggregate-tree-sum-4 : tie.Need-slice-aggregate-tree-sum-4
 slice-aggregate-tree-sum-4 c = sym (second-listed (listed (c .before .before)) .begins .long)
@@ -111,7 +111,7 @@ tree-sum-requires-2 : tie.Need-tree-sum-requires-2
 tree-sum-requires-2 c κs =
     let t = (c .before .before .before .before) in
     let s = listed t in
-    rw (t .tree-sum .kept .1 .1 .1 .1 .1 .1 .0) (second-sizes _ _ _ _ (start (first s) .pre) _ _ (second-listed s))
+    rw (t .tree-sum .kept .1 .1 .1 .1 .1 .1 .0) (second-sizes _ _ _ _ _ (start (first s) .pre) _ _ (second-listed s))
 
 slice-aggregate-pair-sums : tie.Need-slice-aggregate-pair-sums
 slice-aggregate-pair-sums c = sym (first-listed (first (listed (summed (c .before .before)))) .begins .long)
@@ -128,7 +128,7 @@ slice-aggregate-pair-sums-4 c = sym (second-listed (listed (summed (c .before .b
 pair-sums-requires : tie.Need-pair-sums-requires
 pair-sums-requires c κs =
     let s = listed (summed (c .before .before .before .before .before)) in
-    node-pairs _ _ _ _ (start (first s) .pre) _ _ _ _ (first-listed (first s)) (second-listed s)
+    node-pairs _ _ _ _ _ (start (first s) .pre) _ _ _ _ (first-listed (first s)) (second-listed s)
 
 returns : tie.Need-returns
 returns c =

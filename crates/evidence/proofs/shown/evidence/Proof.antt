@@ -15,7 +15,7 @@ start c = c .before .before .before .before .before
 
 -- the tables are a pair
 pair : (c : tie.After-enum-told) → IsPair (start c .args .first .now) (start c .args .second .now)
-pair c = check-says _ _ _ _ _ (sym (c .before .before .check-pair .ensures .0) ∙ c .enum-told .given .1) .0
+pair c = check-says _ _ _ _ _ _ (sym (c .before .before .check-pair .ensures .0) ∙ c .enum-told .given .1) .0
 
 -- ---- what is asked
 

@@ -1,53 +1,47 @@
 -- `is_common` tells what the two tests do, arm by arm.
 -- Assumes nothing.
-use mathlib.Core.Path.{sym, _∙_, ap}
-use mathlib.Core.Bool.{Bool, _&&_}
+use mathlib.Core.Path.{refl, sym, _∙_}
+use native.Mathlib.Omega.{arith}
 use borrow.Author.Tests.{not-true, not-false}
-use Rattle.splits.specs.lemmas.SplitCells.{sharedRow}
+use Rattle.splits.specs.lemmas.SplitCells.{commonRow}
+use Rattle.splits.specs.lemmas.SplitLoops.{row-room}
 use borrow.Author.Needs.{needs}
 use Rattle.splits.proofs.cells.is_common.Statement.{statement}
 use Rattle.splits.proofs.cells.is_common.Tie as tie
 
-mul-is-new : tie.Need-mul-is-new
-mul-is-new c = search needs
-
-shared-slice-read-is-new : tie.Need-shared-slice-read-is-new
-shared-slice-read-is-new c = search needs
-
-mul-is-new-2 : tie.Need-mul-is-new-2
-mul-is-new-2 c = search needs
-
-shared-slice-read-is-new-2 : tie.Need-shared-slice-read-is-new-2
-shared-slice-read-is-new-2 c = search needs
-
-is-new-requires : tie.Need-is-new-requires
-is-new-requires c κs = search needs
+is-first-requires : tie.Need-is-first-requires
+is-first-requires c κs = search needs
 
 returns : tie.Need-returns
-returns c =
-    let a = c .before .before .before .before .before .args in
-    ap (λ (b : Bool). b && sharedRow (a .width) (a .work .now) (a .base))
-    (sym (not-true _ (c .if1 .taken)) ∙ c .before .is-new .ensures)
+unfolding commonRow
+returns c = rw (sym (c .before .is-first .ensures) ∙ not-true (c .before .is-first .result) (c .if1 .taken)) refl
 
-shared-row-requires : tie.Need-shared-row-requires
-shared-row-requires c κs = search needs
+add-occurs-row : tie.Need-add-occurs-row
+add-occurs-row c = search needs
+
+mul-occurs-row : tie.Need-mul-occurs-row
+mul-occurs-row c =
+    let p = c .before .before .before .before .pre in
+    omega (arith, row-room _ _ _ (p .0) (p .1) _ (p .2) .low)
+
+occurs-row-requires : tie.Need-occurs-row-requires
+occurs-row-requires c κs =
+    let p = c .before .before .before .before .pre in
+    (row-room _ _ _ (p .0) (p .1) _ (p .2), p .1 .some)
 
 returns-2 : tie.Need-returns-2
+unfolding commonRow
 returns-2 c =
-    let a = c .before .before .before .before .before .before .args in
-    c .shared-row .ensures
-    ∙ ap (λ (b : Bool). b && sharedRow (a .width) (a .work .now) (a .base))
-    (sym (not-false _ (c .before .if1 .left)) ∙ c .before .before .is-new .ensures)
+    c .occurs-row .ensures
+    ∙ sym (rw (sym (c .before .before .is-first .ensures) ∙ not-false _ (c .before .if1 .left)) refl)
 
 pub is-common-spec : {M : Type 1} → statement M
 is-common-spec =
     tie.close
     (tie.spec
-    mul-is-new
-    shared-slice-read-is-new
-    mul-is-new-2
-    shared-slice-read-is-new-2
-    is-new-requires
+    is-first-requires
     returns
-    shared-row-requires
+    add-occurs-row
+    mul-occurs-row
+    occurs-row-requires
     returns-2)

@@ -9,7 +9,7 @@ use lib.Dec.{eqb}
 use Rattle.sums.specs.Counts.{count}
 use Rattle.tree_check.specs.Table.{word}
 use Rattle.splits.specs.lemmas.SplitCells.{sharedRow}
-use Rattle.splits.specs.lemmas.SplitLoops.{count-start, count-hit, count-miss, count-few, count-found, count-not-found}
+use Rattle.sums.specs.theorems.CountSteps.{count-start, count-hit, count-miss, count-few, count-found, count-not-found}
 use borrow.Author.Needs.{needs}
 use Rattle.splits.proofs.cells.shared_row.Statement.{statement}
 use Rattle.splits.proofs.cells.shared_row.Tie as tie

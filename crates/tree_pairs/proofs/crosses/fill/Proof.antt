@@ -13,7 +13,7 @@ use Rattle.tree_pairs.proofs.crosses.fill.Tie as tie
 
 -- the three numbers are read, ..
 abbrev start : tie.After-as-index3 → tie.Start
-start c = c .before .before .before .before .before .before .before .before .before
+start c = c .before .before .before .before .before .before .before .before .before .before
 
 abbrev tips-read : tie.After-as-index3 → tie.After-as-index
 tips-read c = c .before .before .before .before
@@ -127,7 +127,7 @@ returns c =
     let w = numbers-read f in
     let s = start w in
     lent-crossed _ _ _ (s .pre) _ _ _ (tips-read w .as-index .ensures .0)
-    (first-nodes-read w .as-index2 .ensures .0) (w .as-index3 .ensures .0) _ (f .fill-arrays .ensures)
+    (first-nodes-read w .as-index2 .ensures .0) (w .as-index3 .ensures .0) _ _ (f .fill-arrays .ensures)
 
 pub fill-spec : {M : Type 1} → statement M
 fill-spec =

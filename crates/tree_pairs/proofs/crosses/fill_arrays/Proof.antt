@@ -10,7 +10,7 @@ use Rattle.tree_pairs.proofs.crosses.fill_arrays.Tie as tie
 -- ---- the points of the program
 
 abbrev start : tie.After-slice-known → tie.Start
-start c = c .before .before .before .before .before
+start c = c .before .before .before .before .before .before
 
 -- the cells are cleared, ..
 abbrev lent : tie.After-clear → tie.After-slice-known
@@ -60,7 +60,7 @@ add-rows-requires c κs =
     let f = nodes-found r in
     let d = cleared f in
     let s = start (lent d) in
-    rows-room _ _ _ _ _ _ (s .pre) _ _ (d .clear .ensures) (f .nodes-of .ensures) _ (r .tip-rows .ensures)
+    rows-room _ _ _ _ _ _ (s .pre) _ _ (d .clear .ensures) (f .nodes-of .ensures) _ _ (r .tip-rows .ensures)
 
 same-length : tie.Need-same-length
 same-length c = search needs
@@ -72,7 +72,7 @@ returns c =
     let f = nodes-found r in
     let d = cleared f in
     let s = start (lent d) in
-    filled _ _ _ _ _ _ (s .pre) _ _ (d .clear .ensures) (f .nodes-of .ensures) _ (r .tip-rows .ensures)
+    filled _ _ _ _ _ _ (s .pre) _ _ (d .clear .ensures) (f .nodes-of .ensures) _ _ (r .tip-rows .ensures)
     _ (a .add-rows .ensures)
 
 pub fill-arrays-spec : {M : Type 1} → statement M

@@ -1,27 +1,46 @@
 -- The invariant: the rows of the nodes below `v` are marked.
 -- Assumes nothing.
-use Prim.Native.Nat.{_≤_, _-_}
+use Prim.Native.Nat.{_≤_, _<_, _-_}
+use mathlib.Core.Path.{_≡_, sym, _∙_, ap}
+use mathlib.Core.Bool.{true}
 use mathlib.Core.Logic.{⊎-elim}
 use native.Mathlib.Omega.{arith}
 use lib.ListN.{length}
-use Rattle.tree_pairs.specs.lemmas.TipRows.{TipRows, rows-none, base-low, mark-room}
+use Rattle.tree_pairs.specs.lemmas.TipRows.{countedLabel, counted-inside, TipRows, rows-none, base-low, mark-room}
 use Rattle.tree_pairs.specs.lemmas.TipRows.{rows-skip, rows-next, rows-all}
 use borrow.Author.Needs.{needs}
 use Rattle.tree_pairs.proofs.rows_of_tips.tip_rows.Statement.{statement}
 use Rattle.tree_pairs.proofs.rows_of_tips.tip_rows.Tie as tie
 
 abbrev Inv-loop : tie.InvT-loop
-Inv-loop labels n parents nodes work₀ width v₀ work v =
-    (1 ≤ v) × (v ≤ length labels) × TipRows labels n parents nodes v work₀ work
+Inv-loop labels marks n parents nodes work₀ width v₀ work v =
+    (1 ≤ v) × (v ≤ length labels) × TipRows labels marks n parents nodes v work₀ work
 
 abbrev μ-loop : tie.MeasureT-loop
-μ-loop labels n parents nodes work₀ width v₀ work v = length labels - v
+μ-loop labels marks n parents nodes work₀ width v₀ work v = length labels - v
+
+-- ---- the points of the program
+
+abbrev start : tie.In-loop Inv-loop μ-loop → tie.Start Inv-loop μ-loop
+start c = c .before .before .before .before .before .before
+
+abbrev turn : tie.After-as-index Inv-loop μ-loop → tie.In-loop Inv-loop μ-loop
+turn c = c .before .before
+
+-- ---- what is known there
+
+-- a counted label is one of n
+label-inside : (c : tie.After-is-counted Inv-loop μ-loop) → c .is-counted .result ≡ true
+    → c .before .as-index .result < start (turn (c .before)) .args .n
+label-inside c e = counted-inside _ _ _ (sym e ∙ c .is-counted .ensures)
+
+-- ---- the needs
 
 sub-width : tie.Need-sub-width Inv-loop μ-loop
 sub-width c = search needs
 
 loop-holds : tie.Need-loop-holds Inv-loop μ-loop
-loop-holds c = (omega arith, c .before .before .before .pre .rows .0, rows-none _ _ _ _ _)
+loop-holds c = (omega arith, c .before .before .before .before .pre .rows .0, rows-none _ _ _ _ _ _)
 
 mul-as-index : tie.Need-mul-as-index Inv-loop μ-loop
 mul-as-index c = search needs
@@ -32,32 +51,36 @@ shared-slice-read-as-index c = search needs
 as-index-requires : tie.Need-as-index-requires Inv-loop μ-loop
 as-index-requires c κs = search needs
 
+is-counted-requires : tie.Need-is-counted-requires Inv-loop μ-loop
+is-counted-requires c κs = search needs
+
 sub-tip-row : tie.Need-sub-tip-row Inv-loop μ-loop
 sub-tip-row c = search needs
 
 mul-tip-row : tie.Need-mul-tip-row Inv-loop μ-loop
 mul-tip-row c =
-    let l = c .before .before .before .before .before in
-    let s = l .before .before .before .before in
+    let l = turn (c .before .before .before) in
     omega (
       arith,
-      base-low _ _ _ _ _ (s .pre) _ (l .loop .v) (l .loop .inv .0)
-          (c .before .before .before .before .loop-test .taken) (l .loop .inv .2),
+      base-low _ _ _ _ _ _ (start l .pre) _ (l .before .loop .v) (l .before .loop .inv .0) (l .loop-test .taken)
+          (l .before .loop .inv .2),
     )
 
 mul-tip-row-2 : tie.Need-mul-tip-row-2 Inv-loop μ-loop
 mul-tip-row-2 c = search needs
 
 element-copy-out-tip-row : tie.Need-element-copy-out-tip-row Inv-loop μ-loop
-element-copy-out-tip-row c = search needs
+element-copy-out-tip-row c =
+    let k = c .before .before in
+    omega (arith, label-inside k (c .before .if1 .taken), start (turn (k .before)) .pre .tips)
 
 tip-row-requires : tie.Need-tip-row-requires Inv-loop μ-loop
 tip-row-requires c κs =
-    let w = c .before .before .before in
-    let l = w .before .before .before in
-    let s = l .before .before .before .before in
-    mark-room _ _ _ _ _ (s .pre) _ (l .loop .v) (l .loop .inv .0) (w .before .before .loop-test .taken)
-    (l .loop .inv .2) (w .as-index .result) (w .as-index .ensures .0) (c .before .before .if1 .taken)
+    let k = c .before .before .before in
+    let w = k .before in
+    let l = turn w in
+    mark-room _ _ _ _ _ _ (start l .pre) _ (l .before .loop .v) (l .before .loop .inv .0) (l .loop-test .taken)
+    (l .before .loop .inv .2) (w .as-index .result) (w .as-index .ensures .0) (label-inside k (c .before .before .if1 .taken))
 
 add-v : tie.Need-add-v Inv-loop μ-loop
 add-v c = search needs
@@ -67,17 +90,19 @@ loop-less c = search needs
 
 loop-again : tie.Need-loop-again Inv-loop μ-loop
 loop-again c =
-    let w = c .before in
-    let l = w .before .before .before in
-    let s = l .before .before .before .before in
-    let t = w .before .before .loop-test .taken in (
-      omega arith,
-      omega arith,
+    let k = c .before in
+    let w = k .before in
+    let t = turn w in
+    let l = t .before .loop in
+    let s = start t in
+    let q = k .is-counted .ensures in (
+      omega (arith, t .loop-test .taken),
+      omega (arith, t .loop-test .taken),
       ⊎-elim
-          (λ h. rw (h .6) (rows-next _ _ _ _ _ (s .pre) _ (l .loop .v) (l .loop .inv .0) t (l .loop .inv .2)
-          (w .as-index .result) (w .as-index .ensures .0) (h .0 .taken) _ (h .3 .ensures)))
-          (λ h. rw (h .1) (rows-skip _ _ _ _ _ (s .pre) _ (l .loop .v) (l .loop .inv .0) t (l .loop .inv .2)
-          (omega (arith, h .0 .left, w .as-index .ensures .0))))
+          (λ h. rw (h .6) (rows-next _ _ _ _ _ _ (s .pre) _ (l .v) (l .inv .0) (t .loop-test .taken) (l .inv .2)
+          (w .as-index .result) (w .as-index .ensures .0) (sym (h .0 .taken) ∙ q) _ (h .3 .ensures)))
+          (λ h. rw (h .1) (rows-skip _ _ _ _ _ _ (s .pre) _ (l .v) (l .inv .0) (t .loop-test .taken) (l .inv .2)
+          (sym (h .0 .left) ∙ q ∙ ap (countedLabel (s .args .marks .now) (s .args .n)) (w .as-index .ensures .0))))
           (c .if1 .came),
     )
 
@@ -87,7 +112,7 @@ same-length c = search needs
 returns : tie.Need-returns Inv-loop μ-loop
 returns c =
     let l = c .before .loop in
-    rows-all _ _ _ _ _ _ (l .v) (l .inv .1) (c .loop-test .left) (l .inv .2)
+    rows-all _ _ _ _ _ _ _ (l .v) (l .inv .1) (c .loop-test .left) (l .inv .2)
 
 pub tip-rows-spec : {M : Type 1} → statement M
 tip-rows-spec =
@@ -100,6 +125,7 @@ tip-rows-spec =
     mul-as-index
     shared-slice-read-as-index
     as-index-requires
+    is-counted-requires
     sub-tip-row
     mul-tip-row
     mul-tip-row-2

@@ -7,7 +7,7 @@ use lib.ListN.{length}
 use Rattle.table_words.specs.Sizes.{nodesMost}
 use Rattle.tree_check.specs.Table.{tips, nodes}
 use Rattle.pair_check.specs.PairOrder.{PairWithCells}
-use Rattle.pair_check.specs.lemmas.PairOutcomes.{work-says, work-passed, edges-some}
+use Rattle.pair_check.specs.lemmas.PairOutcomes.{cells-says, cells-passed, edges-some}
 use Rattle.tree_pairs.specs.lemmas.LentTables.{nodes-are, lent-words}
 use Rattle.triplets.specs.lemmas.TripletsCounted.{triplets-refused}
 use Rattle.triplets.specs.lemmas.LentTriplets.{lent-countable, lent-triplets}
@@ -20,7 +20,7 @@ use Rattle.triplets.proofs.tables.triplet_table.Tie as tie
 abbrev start : tie.After-known-told → tie.Start
 start c = c .before .before .before .before .before .before .before .before .before .before
 
-abbrev crossed : tie.After-known-told → tie.After-cross-pair
+abbrev crossed : tie.After-known-told → tie.After-cross-all
 crossed c = c .before .before .before .before .before
 
 -- the parts and n are lent
@@ -33,26 +33,26 @@ lent c = c .before .before .before .before
 record Told (c : tie.After-known-told) : Type 0 where
   pair : PairWithCells (start c .args .first .now) (start c .args .second .now) (length (start c .args .work .now))
   n-is : c .before .answer .given .0 .0 ≡ tips (start c .args .first .now)
-  m-is : c .before .answer .given .0 .1 .0 + 1 ≡ nodes (start c .args .first .now)
-  k-is : c .before .answer .given .0 .1 .1 .0 + 1 ≡ nodes (start c .args .second .now)
+  m-is : c .before .answer .given .0 .1 .1 .0 + 1 ≡ nodes (start c .args .first .now)
+  k-is : c .before .answer .given .0 .1 .1 .1 .0 + 1 ≡ nodes (start c .args .second .now)
 
 told : (c : tie.After-known-told) → Told c
 told c =
-    let p = work-says _ _ _ _ _ _ (sym (crossed c .cross-pair .ensures .0) ∙ c .before .answer .given .1) in
-    let q = nodes-are _ _ _ (p .0) _ _ (p .2) (p .3) in
+    let p = cells-says _ _ _ _ _ _ _ (sym (crossed c .cross-all .ensures .0) ∙ c .before .answer .given .1) in
+    let q = nodes-are _ _ _ (p .0) _ _ (p .3) (p .4) in
     record { pair = p .0; n-is = p .1; m-is = q .0; k-is = q .1 }
 
 -- each has at most `nodesMost` nodes, and its parents among its words
 few : (c : tie.After-known-told)
-    → (c .before .answer .given .0 .1 .0 < nodesMost) × (c .before .answer .given .0 .1 .1 .0 < nodesMost)
+    → (c .before .answer .given .0 .1 .1 .0 < nodesMost) × (c .before .answer .given .0 .1 .1 .1 .0 < nodesMost)
 few c =
     let t = told c in (
       omega (arith, t .m-is, edges-some _ (t .pair .pair .first)),
       omega (arith, t .k-is, edges-some _ (t .pair .pair .second)),
     )
 
-cross-pair-requires : tie.Need-cross-pair-requires
-cross-pair-requires c κs = search needs
+cross-all-requires : tie.Need-cross-all-requires
+cross-all-requires c κs = search needs
 
 enum-known-answer : tie.Need-enum-known-answer
 enum-known-answer c = search needs
@@ -68,8 +68,8 @@ same-length c = search needs
 
 returns : tie.Need-returns
 returns c =
-    let x = c .before .before .before .before .before .cross-pair .ensures in
-    let h = work-passed _ _ _ _ _ _ (x .0) (c .before .enum-told .given .1) (c .pair-refusal .ensures) in
+    let x = c .before .before .before .before .before .cross-all .ensures in
+    let h = cells-passed _ _ _ _ _ _ (x .0) (c .before .enum-told .given .1) (c .pair-refusal .ensures) in
     (triplets-refused _ _ _ _ (h .0) (h .1), x .2)
 
 add-m : tie.Need-add-m
@@ -109,7 +109,7 @@ count-triplets-requires : tie.Need-count-triplets-requires
 count-triplets-requires c κs =
     let k = lent c in
     let t = told k in
-    lent-countable _ _ _ _ (t .pair) (crossed k .cross-pair .ensures .2)
+    lent-countable _ _ _ _ (t .pair) (crossed k .cross-all .ensures .2)
     _ _ _ (c .as-count .ensures .0 ∙ t .n-is) (t .m-is) (t .k-is)
 
 same-length-2 : tie.Need-same-length-2
@@ -119,7 +119,7 @@ returns-2 : tie.Need-returns-2
 returns-2 c =
     let k = lent (c .before) in
     let t = told k in
-    let x = crossed k .cross-pair .ensures .2 in (
+    let x = crossed k .cross-all .ensures .2 in (
       lent-triplets _ _ _ _ (t .pair) x _ _ _ (c .before .as-count .ensures .0 ∙ t .n-is) (t .m-is) (t .k-is) _
           (c .count-triplets .ensures),
       x,
@@ -129,7 +129,7 @@ pub triplet-table-spec : {M : Type 1} → statement M
 triplet-table-spec =
     tie.close
     (tie.spec
-    cross-pair-requires
+    cross-all-requires
     enum-known-answer
     enum-told
     pair-refusal-requires

@@ -14,13 +14,13 @@ use Rattle.weights.proofs.distances.weigh_table.Tie as tie
 -- ---- the points of the program, once the table is known
 
 abbrev start : tie.After-struct-known → tie.Start
-start c = c .before .before .before .before .before .before .before .before
+start c = c .before .before .before .before .before .before .before .before .before
 
 -- ---- what is known there
 
 demand : (c : tie.After-struct-known)
     → (let s = start c .args in
-    DemandThree (s .first .now) (s .second .now) (length (s .work .now)) (c .before .before .before .quartet-table .result))
+    DemandThree (s .first .now) (s .second .now) (s .marks .now) (length (s .work .now)) (c .before .before .before .quartet-table .result))
 demand c = c .before .before .before .quartet-table .ensures .1
 
 few : (c : tie.After-struct-known)
@@ -28,7 +28,7 @@ few : (c : tie.After-struct-known)
 few c =
     let h = start c .pre .0 in
     let f = demand c .fits h in
-    (f .5, omega (arith, f .11, fours-few _ _ _ h))
+    (f .5, omega (arith, f .11, fours-few _ _ _ _ h))
 
 -- ---- the needs
 
@@ -50,7 +50,7 @@ returns c =
     let x = c .before in
     let n = demand x .counts (start x .pre .0) in (
       c .weigh .ensures ∙ weighed-counts _ _ _ _ _ _ _ (n .1) (n .2) (n .3),
-      crossings-are _ _ _ _ (start x .pre .0) (x .before .before .before .quartet-table .ensures .2),
+      crossings-are _ _ _ _ _ (start x .pre .0) (x .before .before .before .quartet-table .ensures .2),
     )
 
 pub weigh-table-spec : {M : Type 1} → statement M

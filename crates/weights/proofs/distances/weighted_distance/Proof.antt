@@ -3,7 +3,7 @@
 use mathlib.Core.Path.{sym, _∙_}
 use lib.ListN.{length}
 use lib.Ieee.{ofBits}
-use Rattle.pair_check.specs.PairOrder.{PairWithCells}
+use Rattle.pair_check.specs.PairOrder.{MarkedPair}
 use Rattle.pair_check.specs.lemmas.PairOutcomes.{work-says, work-passed}
 use Rattle.weights.specs.lemmas.WeightedOutcomes.{pair-refused, fraction-refused, fraction-fits, weighed}
 use borrow.Author.Needs.{needs}
@@ -17,13 +17,13 @@ abbrev known : tie.After-fraction-refusal → tie.After-enum-told
 known c = c .before .before
 
 abbrev start : tie.After-enum-told → tie.Start
-start c = c .before .before .before .before .before .before
+start c = c .before .before .before .before .before .before .before
 
 -- ---- what is known there
 
 pair : (c : tie.After-enum-told)
-    → (let s = start c .args in PairWithCells (s .first .now) (s .second .now) (length (s .work .now)))
-pair c = work-says _ _ _ _ _ _ (sym (c .before .before .check-work .ensures .0) ∙ c .enum-told .given .1) .0
+    → (let s = start c .args in MarkedPair (s .first .now) (s .second .now) (s .marks .now) (length (s .work .now)))
+pair c = work-says _ _ _ _ _ _ _ _ (sym (c .before .before .check-work .ensures .0) ∙ c .enum-told .given .1) .0
 
 -- ---- the needs
 
@@ -43,8 +43,8 @@ returns : tie.Need-returns
 unfolding ofBits
 returns c =
     let x = c .before .before .before .check-work .ensures in
-    let h = work-passed _ _ _ _ _ _ (x .0) (c .before .enum-told2 .given .1) (c .pair-refusal .ensures) in
-    pair-refused _ _ _ _ _ (h .0) (h .1)
+    let h = work-passed _ _ _ _ _ _ _ (x .0) (c .before .enum-told2 .given .1) (c .pair-refusal .ensures) in
+    pair-refused _ _ _ _ _ _ (h .0) (h .1)
 
 fraction-of-requires : tie.Need-fraction-of-requires
 fraction-of-requires c κs = search needs
@@ -57,7 +57,7 @@ weigh-table-requires c κs =
     let k = c .before .before in
     let s = start (known k) .args in (
       pair (known k),
-      fraction-fits (s .first .now) (s .second .now) (s .work .now) (s .weight) (pair (known k)) _
+      fraction-fits (s .first .now) (s .second .now) (s .marks .now) (s .work .now) (s .weight) (pair (known k)) _
           (k .before .fraction-of .ensures) _ (k .fraction-refusal .ensures) (c .before .if1 .taken),
     )
 
@@ -68,14 +68,14 @@ returns-2 : tie.Need-returns-2
 returns-2 c =
     let x = c .before .before in
     let k = x .before .before .before in
-    weighed _ _ _ _ (pair (known k)) _ (k .before .fraction-of .ensures) _ (k .fraction-refusal .ensures) (x .before .before .if1 .taken)
+    weighed _ _ _ _ _ (pair (known k)) _ (k .before .fraction-of .ensures) _ (k .fraction-refusal .ensures) (x .before .before .if1 .taken)
     _ _ (x .weigh-table .ensures .0) (x .weigh-table .ensures .1)
 
 returns-3 : tie.Need-returns-3
 unfolding ofBits
 returns-3 c =
     let k = c .before in
-    fraction-refused _ _ _ _ (pair (known k)) _ (k .before .fraction-of .ensures) _ (k .fraction-refusal .ensures) (c .if1 .left)
+    fraction-refused _ _ _ _ _ (pair (known k)) _ (k .before .fraction-of .ensures) _ (k .fraction-refusal .ensures) (c .if1 .left)
 
 pub weighted-distance-spec : {M : Type 1} → statement M
 weighted-distance-spec =

@@ -1,0 +1,2 @@
+pub mod MarksCheck
+pub mod Ones
