@@ -6,14 +6,14 @@
  * number, and nothing beyond the lent cells is touched.
  *
  * Slices. A slice is a pointer to its first element, then the number of its elements (not of its bytes). The pointer
- * is aligned for uint16_t and not null, even where the number is 0. Nothing is kept after a call returns: a slice has
- * to live only as long as the call.
+ * is aligned for its elements and not null, even where the number is 0. Nothing is kept after a call returns: a slice
+ * has to live only as long as the call.
  *
- * Overlap. Tables are only read, so the two tables of a pair may be one slice, or share words. The lent cells (`walk`,
- * `work`) must not overlap a table.
+ * Overlap. Tables and marks are only read, so the two tables of a pair may be one slice, or share words. The lent cells
+ * (`walk`, `work`) must not overlap a table or the marks.
  *
  * Threads. No globals, no allocation, no input or output. Calls from several threads at once need no lock, as long as
- * no two of them lend the same cells and nobody writes to a table that is being read. leskwyn_claim_sums,
+ * no two of them lend the same cells and nobody writes to a table or to marks that are being read. leskwyn_claim_sums,
  * leskwyn_quartet_table and leskwyn_weighted_distance take up to 240 kB of stack, the others up to 40 kB.
  *
  * A tree table. 16-bit words: n, the tips (2 to 256); m, the nodes (n to 4n); then m parent words; then m label words;
@@ -24,6 +24,11 @@
  *   - A tip other than node 0 has no child. An inner node has one child or more; with one it is a pass-through node,
  *     which changes no count and no distance.
  * Edge i (1 to m - 1) joins node i to its parent; the labels beyond it are those on node i's side, away from tip 0.
+ *
+ * Marks. n bytes, one for each label from 0 on: LESKWYN_KEPT, 1, or LESKWYN_STRUCK, 0. A call that takes marks counts
+ * kept labels only, in its cells too: its figures are those of the two trees without the tips of the struck labels. Any
+ * labels may be struck, tip 0 and even all of them; fewer than four kept labels give zero counts. With all marks 1 all
+ * labels count. leskwyn_triplet_table and leskwyn_evidence take no marks and know all labels.
  *
  * Refusals. 0 stands for accepted. A refused call gives its number, 0 in every other field of its answer (but case E
  * where a case is told), and no change to a lent cell. Where several conditions hold, the first in this order decides.
@@ -42,6 +47,7 @@
  *   of a walk   12   the lent walk is shorter than n
  *   of a pair    the first table's number; then the second's, with 100 more (101 to 106, 131, 107); then
  *                8   the two n differ
+ *               32   there are not n marks, or a mark is above 1, where the call takes marks
  *                9   the work has fewer than (m - 1)(m' - 1) cells, m' being the second table's m
  *   of a weight 30   the kind is not 0 to 2, or the fraction of a part is not k/256 with a k from 0 to 256
  */
@@ -56,10 +62,14 @@ extern "C" {
 #endif
 
 /* The version of this header as one number: major * 1000000 + minor * 1000 + patch. */
-#define LESKWYN_VERSION 7000
+#define LESKWYN_VERSION 8000
 
 /* The label word of an inner node. */
 #define LESKWYN_INNER 65535
+
+/* The marks of labels: struck from the count, or kept in it. */
+#define LESKWYN_STRUCK 0
+#define LESKWYN_KEPT 1
 
 /* Cells that are enough for the work of every pair: (1024 - 1)(1024 - 1), for two trees of 256 tips and 1024 nodes. */
 #define LESKWYN_WORK_CELLS 1046529
@@ -73,19 +83,20 @@ typedef struct { uint16_t refusal, node; } leskwyn_centre_answer;
 /* The refusal, or 0; 1 for a butterfly and 0 for a star; the partner of the smallest label, 0 for a star. */
 typedef struct { uint16_t refusal, butterfly, partner; } leskwyn_topology_answer;
 
-/* The refusal, or 0; the claim sums S, S', S2 and S3. */
+/* The refusal, or 0; the claim sums S, S', S2 and S3 of the kept tips. */
 typedef struct { uint16_t refusal; uint64_t first, second, same, different; } leskwyn_claim_sums_answer;
 
 /*
- * The refusal, or 0; how many sets of four tips are: a, the same butterfly in both trees; b, different butterflies;
- * c, a butterfly in the first tree only; d, in the second only; e, a star in both. The quartet distance is b + c + d.
+ * The refusal, or 0; how many sets of four kept tips are: a, the same butterfly in both trees; b, different
+ * butterflies; c, a butterfly in the first tree only; d, in the second only; e, a star in both. The quartet distance is
+ * b + c + d.
  */
 typedef struct { uint16_t refusal; uint64_t a, b, c, d, e, distance; } leskwyn_quartet_table_answer;
 
 /*
  * The refusal, or 0; the splits of the first tree, of the second, and of both; the Robinson-Foulds distance,
- * first + second - 2 common. A split is the pair of tip sets of an edge that has at least two tips on each side; a pair
- * that several edges have is one split.
+ * first + second - 2 common. A split is the pair of sets of kept tips of an edge that has at least two of them on each
+ * side; a pair that several edges have is one split.
  */
 typedef struct { uint16_t refusal; uint64_t first, second, common, distance; } leskwyn_split_counts_answer;
 
@@ -152,30 +163,37 @@ leskwyn_topology_answer leskwyn_topology(const uint16_t *table, size_t words,
                                          uint16_t a, uint16_t b, uint16_t c, uint16_t d);
 
 /*
- * The crossings of two trees: afterwards cell (i - 1)(m' - 1) + (j - 1) of the work holds how many labels lie beyond
- * both edge i of the first tree and edge j of the second; later cells stay. What the cells held before plays no part.
- * Answers 0, or the pair's refusal.
+ * The crossings of two trees: afterwards cell (i - 1)(m' - 1) + (j - 1) of the work holds how many kept labels lie
+ * beyond both edge i of the first tree and edge j of the second; later cells stay. What the cells held before plays no
+ * part. Answers 0, or the pair's refusal.
  */
 uint16_t leskwyn_crossings(const uint16_t *first, size_t first_words,
                            const uint16_t *second, size_t second_words,
+                           const uint8_t *marks, size_t marks_count,
                            uint16_t *work, size_t cells);
 
 /* The claim sums of two trees. Leaves the crossings in the work, as leskwyn_crossings does. */
 leskwyn_claim_sums_answer leskwyn_claim_sums(const uint16_t *first, size_t first_words,
                                              const uint16_t *second, size_t second_words,
+                                             const uint8_t *marks, size_t marks_count,
                                              uint16_t *work, size_t cells);
 
 /* The quartet table of two trees. Leaves the crossings in the work, as leskwyn_crossings does. */
 leskwyn_quartet_table_answer leskwyn_quartet_table(const uint16_t *first, size_t first_words,
                                                    const uint16_t *second, size_t second_words,
+                                                   const uint8_t *marks, size_t marks_count,
                                                    uint16_t *work, size_t cells);
 
 /* The split counts of two trees. Leaves the crossings in the work, as leskwyn_crossings does. */
 leskwyn_split_counts_answer leskwyn_split_counts(const uint16_t *first, size_t first_words,
                                                  const uint16_t *second, size_t second_words,
+                                                 const uint8_t *marks, size_t marks_count,
                                                  uint16_t *work, size_t cells);
 
-/* The triplet table of two trees. Leaves the crossings in the work, as leskwyn_crossings does. */
+/*
+ * The triplet table of two trees, over all labels. Leaves the crossings of all labels in the work, as leskwyn_crossings
+ * does where all are kept. Refuses by the pair's numbers without 32.
+ */
 leskwyn_triplet_table_answer leskwyn_triplet_table(const uint16_t *first, size_t first_words,
                                                    const uint16_t *second, size_t second_words,
                                                    uint16_t *work, size_t cells);
@@ -192,13 +210,14 @@ leskwyn_triplet_table_answer leskwyn_triplet_table(const uint16_t *first, size_t
  */
 leskwyn_weighted_distance_answer leskwyn_weighted_distance(const uint16_t *first, size_t first_words,
                                                            const uint16_t *second, size_t second_words,
+                                                           const uint8_t *marks, size_t marks_count,
                                                            uint16_t *work, size_t cells,
                                                            uint16_t kind, double fraction);
 
 /*
- * The evidence for four tips, whatever their order: the case in which the quartet table counts them, and the edge or
- * the node of each tree that shows it. It takes no work, so that 9 does not occur. Refuses by the pair's other numbers,
- * then 10, then 11.
+ * The evidence for four tips, whatever their order: the case in which the quartet table counts them if they are kept,
+ * and the edge or the node of each tree that shows it. It takes neither marks nor work, so that 32 and 9 do not occur.
+ * Refuses by the pair's other numbers, then 10, then 11.
  */
 leskwyn_evidence_answer leskwyn_evidence(const uint16_t *first, size_t first_words,
                                          const uint16_t *second, size_t second_words,

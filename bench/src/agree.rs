@@ -1,16 +1,19 @@
 //! The exported functions against figures that were counted some other way: every number, every figure, every lent
 //! cell before and after, and the cells on either side of those that are lent.
 
-use leskwyn::file::{compare_tables, Figures};
+use std::fmt::Debug;
+
 use leskwyn::raw::{
     self, BeyondAnswer, CentreAnswer, ClaimSumsAnswer, EvidenceAnswer, PairFunction, QuartetTableAnswer,
-    SplitCountsAnswer, TopologyAnswer, TripletTableAnswer,
+    SplitCountsAnswer, TopologyAnswer, TripletTableAnswer, WeightedDistanceAnswer,
 };
 use leskwyn::{Case, ClaimSums, Evidence, QuartetTable, Refusal, SplitCounts, TripletTable, Weight, Witness};
 
-use crate::enumerate::{self, Topology, Tree};
+use crate::enumerate::{self, Tips, Topology, Tree};
 use crate::evidence::{self, Climbs};
+use crate::generate::{any_marks, wrong_marks};
 use crate::pass_through::{taken_out, TakenOut};
+use crate::pruned::pruned;
 use crate::random::Random;
 use crate::reference::X;
 use crate::weights::{self, Weighing};
@@ -19,39 +22,62 @@ use crate::{common_ancestors, cubic};
 /// Pairs of claims that are summed one by one; for more, S2 and S3 are read from the cases.
 const MOST_CLAIM_PAIRS: usize = 500_000;
 
-/// What two accepted tables give.
+/// What two accepted tables give under marks. The triplets are those of all labels, whatever the marks, and so are the
+/// crossings that go with them.
 #[derive(Clone, Debug, Default, PartialEq, Eq)]
 pub struct Expected {
+    pub marks: Vec<u8>,
     pub crossings: Vec<u16>,
     pub claims: [u64; 4],
     pub quartets: [u64; 5],
     pub splits: [u64; 4],
     pub triplets: [u64; 5],
+    pub all_crossings: Vec<u16>,
 }
 
 impl Expected {
-    /// By the enumerator. Up to 64 tips.
+    /// By the enumerator, all labels kept. Up to 64 tips.
     pub fn enumerated(first: &[u16], second: &[u16]) -> Expected {
+        Expected::marked(first, second, &all_kept(first))
+    }
+
+    /// By the enumerator. Up to 64 tips.
+    pub fn marked(first: &[u16], second: &[u16], marks: &[u8]) -> Expected {
         let (ours, theirs) = (Tree::of(first), Tree::of(second));
         let triplets = enumerate::triplet_cases(&ours, &theirs);
-        Expected::with_cases(&ours, &theirs, enumerate::cases(&ours, &theirs), triplets)
+        let quartets = enumerate::kept_cases(&ours, &theirs, Tips::kept(marks));
+        Expected::with_cases(&ours, &theirs, marks, quartets, triplets)
     }
 
-    /// The cases of quartets and of triplets by O(n^3) methods, the rest by the enumerator.
+    /// The cases of quartets and of triplets by O(n^3) methods, the rest by the enumerator, all labels kept.
     pub fn by_triples(first: &[u16], second: &[u16]) -> Expected {
-        let triplets = common_ancestors::triplet_cases(first, second);
-        Expected::with_cases(&Tree::of(first), &Tree::of(second), cubic::cases(first, second), triplets)
+        let (quartets, triplets) = (cubic::cases(first, second), common_ancestors::triplet_cases(first, second));
+        Expected::with_cases(&Tree::of(first), &Tree::of(second), &all_kept(first), quartets, triplets)
     }
 
-    fn with_cases(first: &Tree, second: &Tree, quartets: [u64; 5], triplets: [u64; 5]) -> Expected {
-        let [same, different] =
-            enumerate::paired_claim_sums(first, second, MOST_CLAIM_PAIRS).unwrap_or([2 * quartets[0], 4 * quartets[1]]);
+    /// The cases of quartets and of triplets by O(n^3) methods, those of quartets from the trees without struck tips; the
+    /// rest by the enumerator.
+    pub fn by_pruning(first: &[u16], second: &[u16], marks: &[u8]) -> Expected {
+        let quartets = match (pruned(first, marks), pruned(second, marks)) {
+            (Some(ours), Some(theirs)) => cubic::cases(&ours, &theirs),
+            _ => [0; 5],
+        };
+        let triplets = common_ancestors::triplet_cases(first, second);
+        Expected::with_cases(&Tree::of(first), &Tree::of(second), marks, quartets, triplets)
+    }
+
+    fn with_cases(first: &Tree, second: &Tree, marks: &[u8], quartets: [u64; 5], triplets: [u64; 5]) -> Expected {
+        let kept = Tips::kept(marks);
+        let [same, different] = enumerate::paired_claim_sums(first, second, kept, MOST_CLAIM_PAIRS)
+            .unwrap_or([2 * quartets[0], 4 * quartets[1]]);
         Expected {
-            crossings: enumerate::crossings(first, second),
-            claims: [first.claim_sum(), second.claim_sum(), same, different],
+            marks: marks.to_vec(),
+            crossings: enumerate::crossings(first, second, kept),
+            claims: [first.claim_sum(kept), second.claim_sum(kept), same, different],
             quartets,
-            splits: enumerate::split_counts(first, second),
+            splits: enumerate::split_counts(first, second, kept),
             triplets,
+            all_crossings: enumerate::crossings(first, second, Tips::kept(&vec![1; marks.len()])),
         }
     }
 
@@ -71,6 +97,11 @@ impl Expected {
     }
 }
 
+/// A mark of 1 for each label of an accepted table.
+fn all_kept(table: &[u16]) -> Vec<u8> {
+    vec![1; usize::from(table[0])]
+}
+
 /// The refusal's number, or 0.
 fn number<T>(answer: &Result<T, Refusal>) -> u16 {
     answer.as_ref().err().map_or(0, |refusal| refusal.number())
@@ -88,11 +119,11 @@ fn lend<T>(cells: usize, random: &mut Random, call: impl Fn(&mut [u16]) -> T) ->
     (answer, before[lent.clone()].to_vec(), after[lent].to_vec())
 }
 
-/// A table is only read.
-fn unchanged<T>(table: &[u16], call: impl FnOnce(&[u16]) -> T) -> T {
-    let copy = table.to_vec();
-    let answer = call(table);
-    assert_eq!(copy, table, "words of a table");
+/// Tables and marks are only read.
+fn unchanged<W: Clone + Debug + PartialEq, T>(words: &[W], call: impl FnOnce(&[W]) -> T) -> T {
+    let copy = words.to_vec();
+    let answer = call(words);
+    assert_eq!(copy, words, "a table or marks");
     answer
 }
 
@@ -269,14 +300,107 @@ pub fn different_labels(n: usize, random: &mut Random) -> [u16; 4] {
     [labels[0], labels[1], labels[2], labels[3]]
 }
 
-/// The answers of the five functions of a pair that take work.
+/// What a function of a pair is asked: two tables, marks, and how many cells it is lent.
+#[derive(Clone, Copy, Debug)]
+pub struct Asked<'a> {
+    pub first: &'a [u16],
+    pub second: &'a [u16],
+    pub marks: &'a [u8],
+    pub cells: usize,
+}
+
+impl Asked<'_> {
+    /// The number, 0 for accepted.
+    pub fn refusal(&self) -> u16 {
+        enumerate::marked_refusal(self.first, self.second, self.marks, self.cells)
+    }
+
+    /// The number of a function that takes no marks.
+    fn refusal_without_marks(&self) -> u16 {
+        enumerate::pair_refusal(self.first, self.second, self.cells)
+    }
+
+    /// A call with that work: afterwards its first cells are the crossings, and later ones are as they were.
+    fn lent<T>(&self, crossings: &[u16], random: &mut Random, call: impl Fn(&mut [u16]) -> T) -> T {
+        let (answer, before, after) = lend(self.cells, random, call);
+        assert_eq!(after[..crossings.len()], *crossings, "crossings of {self:?}");
+        assert_eq!(after[crossings.len()..], before[crossings.len()..], "later cells of {self:?}");
+        answer
+    }
+
+    /// What one function answers.
+    fn of<T>(&self, function: PairFunction<T>, crossings: &[u16], random: &mut Random) -> T {
+        let Asked { first, second, marks, .. } = *self;
+        self.lent(crossings, random, |work| {
+            // SAFETY: each pointer and length are those of one slice, and the work overlaps nothing.
+            unsafe {
+                function(
+                    first.as_ptr(),
+                    first.len(),
+                    second.as_ptr(),
+                    second.len(),
+                    marks.as_ptr(),
+                    marks.len(),
+                    work.as_mut_ptr(),
+                    work.len(),
+                )
+            }
+        })
+    }
+
+    /// What the triplet table's function answers, which takes no marks.
+    fn triplets(&self, crossings: &[u16], random: &mut Random) -> TripletTableAnswer {
+        let Asked { first, second, .. } = *self;
+        self.lent(crossings, random, |work| {
+            // SAFETY: each pointer and length are those of one slice, and the work overlaps nothing.
+            unsafe {
+                raw::leskwyn_triplet_table(
+                    first.as_ptr(),
+                    first.len(),
+                    second.as_ptr(),
+                    second.len(),
+                    work.as_mut_ptr(),
+                    work.len(),
+                )
+            }
+        })
+    }
+
+    /// What the weighted distance's function answers.
+    fn weighted(
+        &self,
+        Weighing { kind, fraction }: Weighing,
+        crossings: &[u16],
+        random: &mut Random,
+    ) -> WeightedDistanceAnswer {
+        let Asked { first, second, marks, .. } = *self;
+        self.lent(crossings, random, |work| {
+            // SAFETY: each pointer and length are those of one slice, and the work overlaps nothing.
+            unsafe {
+                raw::leskwyn_weighted_distance(
+                    first.as_ptr(),
+                    first.len(),
+                    second.as_ptr(),
+                    second.len(),
+                    marks.as_ptr(),
+                    marks.len(),
+                    work.as_mut_ptr(),
+                    work.len(),
+                    kind,
+                    fraction,
+                )
+            }
+        })
+    }
+}
+
+/// The answers of the four functions of a pair that take marks and work, and nothing else.
 #[derive(Debug, PartialEq, Eq)]
 struct Answers {
     crossings: u16,
     claims: ClaimSumsAnswer,
     quartets: QuartetTableAnswer,
     splits: SplitCountsAnswer,
-    triplets: TripletTableAnswer,
 }
 
 impl Answers {
@@ -289,59 +413,41 @@ impl Answers {
         let quartets = QuartetTableAnswer { refusal, a, b, c, d, e, distance };
         let [first, second, common, distance] = figures.splits;
         let splits = SplitCountsAnswer { refusal, first, second, common, distance };
-        let TripletTable { a, b, c, d, e, distance } = figures.triplet_table();
-        let triplets = TripletTableAnswer { refusal, a, b, c, d, e, distance };
-        Answers { crossings: refusal, claims, quartets, splits, triplets }
+        Answers { crossings: refusal, claims, quartets, splits }
     }
 }
 
-/// One function of a pair, with so many cells: its answer, and its cells afterwards.
-fn ask<T>(
-    function: PairFunction<T>,
-    first: &[u16],
-    second: &[u16],
-    cells: usize,
-    crossings: &[u16],
-    random: &mut Random,
-) -> T {
-    let (answer, before, after) = lend(cells, random, |work| {
-        // SAFETY: each pointer and length are those of one slice, and the work overlaps nothing.
-        unsafe { function(first.as_ptr(), first.len(), second.as_ptr(), second.len(), work.as_mut_ptr(), work.len()) }
-    });
-    assert_eq!(after[..crossings.len()], *crossings, "crossings of {first:?} and {second:?}");
-    assert_eq!(after[crossings.len()..], before[crossings.len()..], "later cells of {first:?} and {second:?}");
-    answer
-}
-
-/// The five functions with so many cells. Without figures the pair is one that is refused.
-fn cells_agree(first: &[u16], second: &[u16], cells: usize, expected: Option<&Expected>, random: &mut Random) {
-    let refusal = enumerate::pair_refusal(first, second, cells);
+/// The functions that take marks. Without figures the pair or its marks are refused.
+fn marked_agrees(asked: &Asked, expected: Option<&Expected>, random: &mut Random) {
+    let refusal = asked.refusal();
     let expected = expected.filter(|_| refusal == 0);
-    assert_eq!(refusal == 0, expected.is_some(), "figures for {first:?} and {second:?}");
+    assert_eq!(refusal == 0, expected.is_some(), "figures for {asked:?}");
     let crossings = expected.map_or(&[][..], |figures| &figures.crossings);
     let answers = Answers {
-        crossings: ask(raw::leskwyn_crossings, first, second, cells, crossings, random),
-        claims: ask(raw::leskwyn_claim_sums, first, second, cells, crossings, random),
-        quartets: ask(raw::leskwyn_quartet_table, first, second, cells, crossings, random),
-        splits: ask(raw::leskwyn_split_counts, first, second, cells, crossings, random),
-        triplets: ask(raw::leskwyn_triplet_table, first, second, cells, crossings, random),
+        crossings: asked.of(raw::leskwyn_crossings, crossings, random),
+        claims: asked.of(raw::leskwyn_claim_sums, crossings, random),
+        quartets: asked.of(raw::leskwyn_quartet_table, crossings, random),
+        splits: asked.of(raw::leskwyn_split_counts, crossings, random),
     };
-    assert_eq!(answers, Answers::of(refusal, expected), "{first:?} and {second:?} with {cells} cells");
-    weighted_agrees(first, second, cells, Weighing::any(random), expected, random);
+    assert_eq!(answers, Answers::of(refusal, expected), "{asked:?}");
+    weighted_agrees(asked, Weighing::any(random), expected, random);
 }
 
-/// The weighted distance with so many cells, and its wrapper: the number, the bits of the answer and the cells. Without
-/// figures the pair is one that is refused.
-pub fn weighted_agrees(
-    first: &[u16],
-    second: &[u16],
-    cells: usize,
-    weighing: Weighing,
-    expected: Option<&Expected>,
-    random: &mut Random,
-) {
-    let Weighing { kind, fraction } = weighing;
-    let (refusal, distance, crossings) = match (enumerate::pair_refusal(first, second, cells), weighing.numerator()) {
+/// The triplet table, which counts all labels.
+fn triplets_agree(asked: &Asked, expected: Option<&Expected>, random: &mut Random) {
+    let refusal = asked.refusal_without_marks();
+    let expected = expected.filter(|_| refusal == 0);
+    assert_eq!(refusal == 0, expected.is_some(), "triplets of {asked:?}");
+    let crossings = expected.map_or(&[][..], |figures| &figures.all_crossings);
+    let [a, b, c, d, e] = expected.map_or([0; 5], |figures| figures.triplets);
+    let answer = asked.triplets(crossings, random);
+    assert_eq!(answer, TripletTableAnswer { refusal, a, b, c, d, e, distance: b + c + d }, "triplets of {asked:?}");
+}
+
+/// The weighted distance and its wrapper: the number, the bits of the answer and the cells. Without figures the pair or
+/// its marks are refused.
+pub fn weighted_agrees(asked: &Asked, weighing: Weighing, expected: Option<&Expected>, random: &mut Random) {
+    let (refusal, distance, crossings) = match (asked.refusal(), weighing.numerator()) {
         (0, Some(k)) => {
             let figures = expected.expect("figures for an accepted pair");
             (0, weights::weighted(figures.quartets, k), &figures.crossings[..])
@@ -349,45 +455,29 @@ pub fn weighted_agrees(
         (0, None) => (30, 0.0, &[][..]),
         (number, _) => (number, 0.0, &[][..]),
     };
-    let told = format!("{first:?} and {second:?} with {cells} cells, {kind} and {:#x}", fraction.to_bits());
-    let (answer, before, after) = lend(cells, random, |work| {
-        // SAFETY: each pointer and length are those of one slice, and the work overlaps nothing.
-        unsafe {
-            raw::leskwyn_weighted_distance(
-                first.as_ptr(),
-                first.len(),
-                second.as_ptr(),
-                second.len(),
-                work.as_mut_ptr(),
-                work.len(),
-                kind,
-                fraction,
-            )
-        }
-    });
+    let answer = asked.weighted(weighing, crossings, random);
+    let told = format!("{asked:?}, {} and {:#x}", weighing.kind, weighing.fraction.to_bits());
     assert_eq!((answer.refusal, answer.distance.to_bits()), (refusal, distance.to_bits()), "{told}");
-    assert_eq!(after[..crossings.len()], *crossings, "crossings of {told}");
-    assert_eq!(after[crossings.len()..], before[crossings.len()..], "later cells of {told}");
     if let Some(weight) = weighing.weight() {
-        let (wrapped, before, after) =
-            lend(cells, random, |work| leskwyn::weighted_distance(first, second, work, weight));
+        let Asked { first, second, marks, .. } = *asked;
+        let wrapped =
+            asked.lent(crossings, random, |work| leskwyn::weighted_distance(first, second, marks, work, weight));
         assert_eq!((number(&wrapped), wrapped.unwrap_or(0.0).to_bits()), (refusal, distance.to_bits()), "{told}");
-        assert_eq!(after[..crossings.len()], *crossings, "crossings of {told}");
-        assert_eq!(after[crossings.len()..], before[crossings.len()..], "later cells of {told}");
     }
 }
 
 /// The wrappers say what the functions say.
-fn wrappers_agree(first: &[u16], second: &[u16], cells: usize, expected: Option<&Expected>, random: &mut Random) {
-    let refusal = enumerate::pair_refusal(first, second, cells);
+fn wrappers_agree(asked: &Asked, expected: Option<&Expected>, random: &mut Random) {
+    let Asked { first, second, marks, cells } = *asked;
+    let (refusal, without_marks) = (asked.refusal(), asked.refusal_without_marks());
     let mut work = random.words(cells);
-    let claims = leskwyn::claim_sums(first, second, &mut work);
-    let quartets = leskwyn::quartet_table(first, second, &mut work);
-    let splits = leskwyn::split_counts(first, second, &mut work);
+    let claims = leskwyn::claim_sums(first, second, marks, &mut work);
+    let quartets = leskwyn::quartet_table(first, second, marks, &mut work);
+    let splits = leskwyn::split_counts(first, second, marks, &mut work);
     let triplets = leskwyn::triplet_table(first, second, &mut work);
-    let crossings = leskwyn::crossings(first, second, &mut work);
-    let numbers = [number(&claims), number(&quartets), number(&splits), number(&triplets), number(&crossings)];
-    assert_eq!(numbers, [refusal; 5]);
+    let crossings = leskwyn::crossings(first, second, marks, &mut work);
+    let numbers = [number(&claims), number(&quartets), number(&splits), number(&crossings)];
+    assert_eq!((numbers, number(&triplets)), ([refusal; 4], without_marks), "{asked:?}");
     let Some(figures) = expected.filter(|_| refusal == 0) else {
         return;
     };
@@ -401,33 +491,59 @@ fn wrappers_agree(first: &[u16], second: &[u16], cells: usize, expected: Option<
     assert_eq!(leskwyn::work_cells(first, second), Ok(figures.crossings.len()));
 }
 
-/// Two accepted tables with the same tips: enough cells, some to spare, one too few, none.
+/// Two accepted tables with the same tips under the marks of the figures: enough cells, some to spare, one too few, none.
 pub fn pair_agrees(first: &[u16], second: &[u16], expected: &Expected, random: &mut Random) {
     let cells = expected.crossings.len();
     let spare = cells + random.between(1, 40);
     unchanged(first, |first| {
         unchanged(second, |second| {
-            for lent in [cells, spare, cells - 1, 0] {
-                cells_agree(first, second, lent, Some(expected), random);
-            }
-            wrappers_agree(first, second, cells, Some(expected), random);
+            unchanged(&expected.marks, |marks| {
+                for cells in [cells, spare, cells - 1, 0] {
+                    let asked = Asked { first, second, marks, cells };
+                    marked_agrees(&asked, Some(expected), random);
+                    triplets_agree(&asked, Some(expected), random);
+                }
+                wrappers_agree(&Asked { first, second, marks, cells }, Some(expected), random);
+            });
             some_evidence_agrees(first, second, random);
         });
     });
 }
 
-/// The printed figures of two accepted tables, and the bits of some weighted distances.
-fn figures(first: &[u16], second: &[u16]) -> (Figures, [u64; 4]) {
-    let mut work = vec![0; leskwyn::work_cells(first, second).expect("accepted")];
-    let weights =
-        [Weight::None, Weight::Full, Weight::Part(weights::over_256(1)), Weight::Part(weights::over_256(128))];
-    let weighted =
-        weights.map(|weight| leskwyn::weighted_distance(first, second, &mut work, weight).expect("accepted"));
-    (compare_tables(first, second).expect("accepted"), weighted.map(f64::to_bits))
+/// The figures that depend on marks, and the bits of some weighted distances, as the library tells them.
+#[derive(Debug, PartialEq, Eq)]
+pub struct Told {
+    claims: ClaimSums,
+    quartets: QuartetTable,
+    splits: SplitCounts,
+    weighted: [u64; 4],
 }
 
-/// Two accepted tables, counted by `count`: the library agrees on them, and both have the same figures without the
-/// pass-through nodes of either table, or of both.
+impl Told {
+    /// Of two accepted tables.
+    pub fn of(first: &[u16], second: &[u16], marks: &[u8]) -> Told {
+        let mut work = vec![0; leskwyn::work_cells(first, second).expect("accepted")];
+        let weights =
+            [Weight::None, Weight::Full, Weight::Part(weights::over_256(1)), Weight::Part(weights::over_256(128))];
+        let weighted = weights
+            .map(|weight| leskwyn::weighted_distance(first, second, marks, &mut work, weight).expect("accepted"));
+        Told {
+            claims: leskwyn::claim_sums(first, second, marks, &mut work).expect("accepted"),
+            quartets: leskwyn::quartet_table(first, second, marks, &mut work).expect("accepted"),
+            splits: leskwyn::split_counts(first, second, marks, &mut work).expect("accepted"),
+            weighted: weighted.map(f64::to_bits),
+        }
+    }
+}
+
+/// The triplet table of two accepted tables.
+fn told_triplets(first: &[u16], second: &[u16]) -> TripletTable {
+    let mut work = vec![0; leskwyn::work_cells(first, second).expect("accepted")];
+    leskwyn::triplet_table(first, second, &mut work).expect("accepted")
+}
+
+/// Two accepted tables, counted by `count` under some marks: the library agrees on them, and both have the same figures
+/// without the pass-through nodes of either table, or of both.
 pub fn passing_through_agrees(
     first: &[u16],
     second: &[u16],
@@ -439,9 +555,10 @@ pub fn passing_through_agrees(
     let (ours, theirs) = (taken_out(first).table, taken_out(second).table);
     let counted = count(&ours, &theirs);
     assert_eq!(expected.figures(), counted.figures(), "{first:?} and {second:?}, counted");
-    let told = figures(first, second);
+    let (told, triplets) = (Told::of(first, second, &expected.marks), told_triplets(first, second));
     for (one, other) in [(&ours[..], second), (first, &theirs[..]), (&ours, &theirs)] {
-        assert_eq!(told, figures(one, other), "{first:?} and {second:?}, {one:?} and {other:?}");
+        let passed = (Told::of(one, other, &expected.marks), told_triplets(one, other));
+        assert_eq!((&told, &triplets), (&passed.0, &passed.1), "{first:?} and {second:?}, {one:?} and {other:?}");
     }
     expected
 }
@@ -462,10 +579,22 @@ pub fn tree_passes_through(table: &[u16], random: &mut Random) {
     }
 }
 
-/// Two tables of which one is refused, or which do not fit each other.
+/// Two tables of which one is refused, or which do not fit each other, or whose work is too short: with right marks, and
+/// with wrong ones.
 pub fn refusal_agrees(first: &[u16], second: &[u16], cells: usize, random: &mut Random) -> u16 {
-    cells_agree(first, second, cells, None, random);
-    wrappers_agree(first, second, cells, None, random);
+    let n = first.first().map_or(2, |&n| usize::from(n).clamp(2, 300));
+    let marks = any_marks(n, random);
+    let asked = Asked { first, second, marks: &marks, cells };
+    refused_agrees(&asked, random);
+    triplets_agree(&asked, None, random);
+    refused_agrees(&Asked { first, second, marks: &wrong_marks(n, random), cells }, random);
     some_evidence_agrees(first, second, random);
-    enumerate::pair_refusal(first, second, cells)
+    asked.refusal()
+}
+
+/// Two tables, marks and a number of cells that are refused, for whatever reason: the functions that take marks.
+pub fn refused_agrees(asked: &Asked, random: &mut Random) -> u16 {
+    marked_agrees(asked, None, random);
+    wrappers_agree(asked, None, random);
+    asked.refusal()
 }

@@ -1,6 +1,6 @@
 //! The enumerator, written from docs/SPECIFICATION.md alone. Every figure is counted as its sentence there says it:
 //! crossings from sets of labels, topologies by looking at every edge, claims one by one, splits as pairs of tip sets,
-//! triplets by lowest common ancestors. It is slow and means to be.
+//! triplets by lowest common ancestors. Struck labels are left out of the sets. It is slow and means to be.
 
 use std::collections::BTreeSet;
 use std::ops::Range;
@@ -50,8 +50,8 @@ pub fn tree_refusal(table: &[u16]) -> u16 {
     0
 }
 
-/// The number of a pair with so many work cells, 0 for accepted.
-pub fn pair_refusal(first: &[u16], second: &[u16], cells: usize) -> u16 {
+/// The number of two tables, 0 for accepted.
+fn tables_refusal(first: &[u16], second: &[u16]) -> u16 {
     let of_first = tree_refusal(first);
     if of_first != 0 {
         return of_first;
@@ -63,10 +63,36 @@ pub fn pair_refusal(first: &[u16], second: &[u16], cells: usize) -> u16 {
     if first[0] != second[0] {
         return 8;
     }
+    0
+}
+
+/// The number of so many work cells for two accepted tables, 0 for accepted.
+fn cells_refusal(first: &[u16], second: &[u16], cells: usize) -> u16 {
     if cells < (usize::from(first[1]) - 1) * (usize::from(second[1]) - 1) {
         return 9;
     }
     0
+}
+
+/// The number of a pair with so many work cells, 0 for accepted.
+pub fn pair_refusal(first: &[u16], second: &[u16], cells: usize) -> u16 {
+    let of_tables = tables_refusal(first, second);
+    if of_tables != 0 {
+        return of_tables;
+    }
+    cells_refusal(first, second, cells)
+}
+
+/// The number of a pair with marks and so many work cells, 0 for accepted.
+pub fn marked_refusal(first: &[u16], second: &[u16], marks: &[u8], cells: usize) -> u16 {
+    let of_tables = tables_refusal(first, second);
+    if of_tables != 0 {
+        return of_tables;
+    }
+    if marks.len() != usize::from(first[0]) || marks.iter().any(|&mark| mark > 1) {
+        return 32;
+    }
+    cells_refusal(first, second, cells)
 }
 
 /// The number of a question about labels, 0 for accepted.
@@ -89,9 +115,10 @@ pub fn label_refusal(table: &[u16], labels: &[u16]) -> u16 {
 pub struct Tips([u64; 4]);
 
 impl Tips {
-    fn below(n: usize) -> Tips {
+    /// The labels that are marked as kept.
+    pub fn kept(marks: &[u8]) -> Tips {
         let mut tips = Tips::default();
-        (0..n).for_each(|label| tips.insert(label));
+        (0..marks.len()).filter(|&label| marks[label] == 1).for_each(|label| tips.insert(label));
         tips
     }
 
@@ -173,11 +200,12 @@ impl Tree {
         1..self.m
     }
 
-    fn tips(&self, side: Side) -> Tips {
+    /// The kept labels on a side.
+    fn tips(&self, side: Side, kept: Tips) -> Tips {
         if side.beyond {
-            self.beyond[side.edge]
+            kept.both(self.beyond[side.edge])
         } else {
-            Tips::below(self.n).without(self.beyond[side.edge])
+            kept.without(self.beyond[side.edge])
         }
     }
 
@@ -322,9 +350,9 @@ impl Tree {
         claims
     }
 
-    /// S: the sum over the claims of |T1|(|T1| - 1)/2 |T2| |T3|.
-    pub fn claim_sum(&self) -> u64 {
-        let size = |side: Side| self.tips(side).count();
+    /// S: the sum over the claims of |T1|(|T1| - 1)/2 |T2| |T3|, of kept labels.
+    pub fn claim_sum(&self, kept: Tips) -> u64 {
+        let size = |side: Side| self.tips(side, kept).count();
         let sizes: Vec<u64> =
             (0..2 * self.m).map(|index| size(Side { edge: index / 2, beyond: index % 2 == 1 })).collect();
         let mut sum = 0;
@@ -335,10 +363,11 @@ impl Tree {
         sum
     }
 
-    /// The splits, each as its two tip sets in order. Edges with the same tip sets have one split.
-    fn splits(&self) -> BTreeSet<[Tips; 2]> {
+    /// The splits, each as its two sets of kept labels in order. Edges with the same two sets have one split, whichever
+    /// set lies beyond them.
+    fn splits(&self, kept: Tips) -> BTreeSet<[Tips; 2]> {
         let sides = |edge| {
-            let mut sides = [true, false].map(|beyond| self.tips(Side { edge, beyond }));
+            let mut sides = [true, false].map(|beyond| self.tips(Side { edge, beyond }, kept));
             sides.sort_unstable();
             sides
         };
@@ -350,21 +379,21 @@ fn pairs_of(k: u64) -> u64 {
     k * k.saturating_sub(1) / 2
 }
 
-/// How many labels lie beyond both edges, row by row.
-pub fn crossings(first: &Tree, second: &Tree) -> Vec<u16> {
-    let crossing = |i: usize, j: usize| first.beyond[i].both(second.beyond[j]).count() as u16;
+/// How many kept labels lie beyond both edges, row by row.
+pub fn crossings(first: &Tree, second: &Tree, kept: Tips) -> Vec<u16> {
+    let crossing = |i: usize, j: usize| kept.both(first.beyond[i]).both(second.beyond[j]).count() as u16;
     first.edges().flat_map(|i| second.edges().map(move |j| crossing(i, j))).collect()
 }
 
 /// The splits of the first tree, of the second, of both, and the Robinson-Foulds distance.
-pub fn split_counts(first: &Tree, second: &Tree) -> [u64; 4] {
-    let (ours, theirs) = (first.splits(), second.splits());
+pub fn split_counts(first: &Tree, second: &Tree, kept: Tips) -> [u64; 4] {
+    let (ours, theirs) = (first.splits(kept), second.splits(kept));
     let common = ours.intersection(&theirs).count();
     [ours.len(), theirs.len(), common, ours.len() + theirs.len() - 2 * common].map(|count| count as u64)
 }
 
-/// S2 and S3, over all pairs of claims; or none if there are more pairs than `most`.
-pub fn paired_claim_sums(first: &Tree, second: &Tree, most: usize) -> Option<[u64; 2]> {
+/// S2 and S3 of kept labels, over all pairs of claims; or none if there are more pairs than `most`.
+pub fn paired_claim_sums(first: &Tree, second: &Tree, kept: Tips, most: usize) -> Option<[u64; 2]> {
     if first.claim_count() * second.claim_count() > most {
         return None;
     }
@@ -373,7 +402,7 @@ pub fn paired_claim_sums(first: &Tree, second: &Tree, most: usize) -> Option<[u6
     let mut shared = vec![0; 2 * first.m * width];
     for (i, j) in (2..2 * first.m).flat_map(|i| (2..width).map(move |j| (i, j))) {
         let side = |index: usize| Side { edge: index / 2, beyond: index % 2 == 1 };
-        shared[i * width + j] = first.tips(side(i)).both(second.tips(side(j))).count();
+        shared[i * width + j] = first.tips(side(i), kept).both(second.tips(side(j), kept)).count();
     }
     let mut sums = [0, 0];
     for our in &ours {
@@ -394,16 +423,21 @@ pub fn paired_claim_sums(first: &Tree, second: &Tree, most: usize) -> Option<[u6
 
 /// The five cases A to E, over all sets of four. Up to 64 tips.
 pub fn cases(first: &Tree, second: &Tree) -> [u64; 5] {
-    cases_from(first, second, |_| true)
+    cases_of(first, second, |_| true)
+}
+
+/// The five cases A to E, over the sets of four kept labels. Up to 64 tips.
+pub fn kept_cases(first: &Tree, second: &Tree, kept: Tips) -> [u64; 5] {
+    cases_of(first, second, |four| four & !kept.0[0] == 0)
 }
 
 /// The five cases A to E, over the sets of four that hold tip 0. Up to 64 tips.
 pub fn cases_with_outgroup(first: &Tree, second: &Tree) -> [u64; 5] {
-    cases_from(first, second, |smallest| smallest == 0)
+    cases_of(first, second, |four| four & 1 == 1)
 }
 
-/// The five cases over the sets of four whose smallest label is wanted.
-fn cases_from(first: &Tree, second: &Tree, is_wanted: impl Fn(usize) -> bool) -> [u64; 5] {
+/// The five cases over the sets of four that are wanted, each told by its bits.
+fn cases_of(first: &Tree, second: &Tree, is_wanted: impl Fn(u64) -> bool) -> [u64; 5] {
     assert!(first.n == second.n && first.n <= 64);
     let masks = |tree: &Tree| -> Vec<u64> { tree.edges().map(|edge| tree.beyond[edge].0[0]).collect() };
     let (ours, theirs) = (masks(first), masks(second));
@@ -411,9 +445,11 @@ fn cases_from(first: &Tree, second: &Tree, is_wanted: impl Fn(usize) -> bool) ->
     for d in 3..first.n {
         for c in 2..d {
             for b in 1..c {
-                for a in (0..b).filter(|&a| is_wanted(a)) {
+                for a in 0..b {
                     let four = 1 << a | 1 << b | 1 << c | 1 << d;
-                    counts[case_of(half_with(&ours, four, 1 << a), half_with(&theirs, four, 1 << a))] += 1;
+                    if is_wanted(four) {
+                        counts[case_of(half_with(&ours, four, 1 << a), half_with(&theirs, four, 1 << a))] += 1;
+                    }
                 }
             }
         }

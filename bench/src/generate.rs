@@ -385,6 +385,56 @@ impl Graph {
     }
 }
 
+/// How many labels marks keep, whichever they are.
+#[derive(Clone, Copy, Debug, PartialEq, Eq)]
+pub enum Kept {
+    None,
+    One,
+    /// Up to seven.
+    Few,
+    /// Each by chance.
+    Half,
+    AllButOne,
+    All,
+}
+
+impl Kept {
+    pub const ALL: [Kept; 6] = [Kept::None, Kept::One, Kept::Few, Kept::Half, Kept::AllButOne, Kept::All];
+}
+
+/// Marks of n labels that keep so many of them.
+pub fn marks(kept: Kept, n: usize, random: &mut Random) -> Vec<u8> {
+    let count = match kept {
+        Kept::None => 0,
+        Kept::One => 1,
+        Kept::Few => random.between(2, 7).min(n),
+        Kept::Half => (0..n).filter(|_| random.chance(50)).count(),
+        Kept::AllButOne => n - 1,
+        Kept::All => n,
+    };
+    let mut marks: Vec<u8> = (0..n).map(|label| u8::from(label < count)).collect();
+    random.shuffle(&mut marks);
+    marks
+}
+
+/// Marks of n labels that keep any of them.
+pub fn any_marks(n: usize, random: &mut Random) -> Vec<u8> {
+    let kept = *random.pick(&Kept::ALL);
+    marks(kept, n, random)
+}
+
+/// Bytes that are no marks of n labels: too few, too many, or one above 1.
+pub fn wrong_marks(n: usize, random: &mut Random) -> Vec<u8> {
+    let mut marks = any_marks(n, random);
+    match random.below(4) {
+        0 => marks.truncate(random.below(n)),
+        1 => marks.extend((0..random.between(1, 300)).map(|_| 1)),
+        2 => marks[random.below(n)] = random.between(2, 255) as u8,
+        _ => marks[random.below(n)] = *random.pick(&[2, 3, 128, 254, 255]),
+    }
+    marks
+}
+
 /// How a pair's second tree comes about.
 #[derive(Clone, Copy, Debug, PartialEq, Eq)]
 pub enum Partner {

@@ -2,8 +2,8 @@
 //!
 //! `enumerate` is written from docs/SPECIFICATION.md alone: topologies by looking at every edge, claims one by one,
 //! splits as a set of pairs of tip sets, triplets by climbing to lowest common ancestors. `evidence` looks at every
-//! edge and every node, `weights` has the weighted distance in whole numbers, and `pass_through` takes pass-through
-//! nodes out. Nothing in these, in `cubic` and `expanded`, which follow document 001, or in `common_ancestors` comes
+//! edge and every node, `weights` has the weighted distance in whole numbers, `pass_through` takes pass-through nodes
+//! out, and `pruned` the tips of struck labels. Nothing in these, in `cubic` and `expanded`, which follow document 001, or in `common_ancestors` comes
 //! from the library. `straight` is the library's own algorithm as a Rust programmer would write it, and is there to be
 //! timed.
 
@@ -16,6 +16,7 @@ pub mod evidence;
 pub mod expanded;
 pub mod generate;
 pub mod pass_through;
+pub mod pruned;
 pub mod random;
 pub mod reference;
 mod sides;

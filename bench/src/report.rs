@@ -126,7 +126,8 @@ Each line is one pair of trees with n tips, labelled and numbered at random from
 all five cases of the pair before they are timed. A time is that of the fastest of several batches of calls, taken in turns
 within one run, in microseconds: what else the machine does only adds to a time.
 
-- *this library*: `leskwyn_quartet_table`, with the check of both tables and the crossings in the lent work.
+- *this library*: `leskwyn_quartet_table` with all labels kept, with the check of both tables and of the marks, and the
+  crossings in the lent work.
 - *straight Rust*: the same algorithm in plain Rust with 64-bit sums (`bench/src/straight.rs`), compiled by `rustc` with
   optimisation.
 - *O(n²d²)*: document 001, section 2.3, with expanded trees and extended claims (`bench/src/expanded.rs`). Pairs of edges

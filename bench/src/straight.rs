@@ -5,23 +5,26 @@ use leskwyn::QuartetTable;
 
 use crate::reference::X;
 
-/// The quartet table. Leaves the crossings in the work.
+/// The quartet table of the kept labels. Leaves their crossings in the work.
 ///
 /// # Errors
 ///
 /// The pair's number.
-pub fn quartet_table(first: &[u16], second: &[u16], work: &mut [u16]) -> Result<QuartetTable, u16> {
+pub fn quartet_table(first: &[u16], second: &[u16], marks: &[u8], work: &mut [u16]) -> Result<QuartetTable, u16> {
     check(first)?;
     check(second).map_err(|number| 100 + number)?;
     if first[0] != second[0] {
         return Err(8);
     }
+    if marks.len() != usize::from(first[0]) || marks.iter().any(|&mark| mark > 1) {
+        return Err(32);
+    }
     let (rows, width) = (usize::from(first[1]) - 1, usize::from(second[1]) - 1);
     let Some(work) = work.get_mut(..rows * width) else {
         return Err(9);
     };
-    crossings(first, second, work);
-    let n = first[0];
+    crossings(first, second, marks, work);
+    let n = marks.iter().map(|&mark| u16::from(mark)).sum();
     let (ours, theirs) = (Nodes::of(parents(first)), Nodes::of(parents(second)));
     let mine = ours.claim_sum(n, |edge| work[edge * width]) / 2;
     let yours = theirs.claim_sum(n, |edge| work[edge]) / 2;
@@ -29,7 +32,7 @@ pub fn quartet_table(first: &[u16], second: &[u16], work: &mut [u16]) -> Result<
     let (a, b) = (sums.same / 4, sums.different / 4);
     let (c, d) = (mine / 2 - a - b, yours / 2 - a - b);
     let n = u64::from(n);
-    let all = n * (n - 1) * (n - 2) * n.saturating_sub(3) / 24;
+    let all = if n < 4 { 0 } else { n * (n - 1) * (n - 2) * (n - 3) / 24 };
     Ok(QuartetTable { a, b, c, d, e: all - a - b - c - d, distance: b + c + d })
 }
 
@@ -84,8 +87,8 @@ fn check(table: &[u16]) -> Result<(), u16> {
     Ok(())
 }
 
-/// A tip's row is marked and added up the second tree, then each row is added to its parent's.
-fn crossings(first: &[u16], second: &[u16], work: &mut [u16]) {
+/// A kept tip's row is marked and added up the second tree, then each row is added to its parent's.
+fn crossings(first: &[u16], second: &[u16], marks: &[u8], work: &mut [u16]) {
     let others = parents(second);
     let width = others.len() - 1;
     let mut node_of = [0; 256];
@@ -94,7 +97,7 @@ fn crossings(first: &[u16], second: &[u16], work: &mut [u16]) {
     }
     work.fill(0);
     for (row, &label) in work.chunks_exact_mut(width).zip(&labels(first)[1..]) {
-        if label == X {
+        if label == X || marks[usize::from(label)] == 0 {
             continue;
         }
         row[node_of[usize::from(label)] - 1] = 1;
@@ -153,7 +156,7 @@ impl Nodes {
             sizes.extend(edges[1..].iter().map(|&edge| u64::from(size(edge))));
             let squares: u64 = sizes.iter().map(|s| s * s).sum();
             let whole = u64::from(n);
-            for s in &sizes {
+            for &s in sizes.iter().filter(|&&s| s > 1) {
                 sum += s * (s - 1) / 2 * ((whole - s) * (whole - s) + s * s - squares);
             }
         }

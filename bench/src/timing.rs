@@ -67,12 +67,13 @@ type Method<'a> = Box<dyn FnMut() -> [u64; 5] + 'a>;
 
 fn methods<'a>(first: &'a [u16], second: &'a [u16]) -> [Method<'a>; TIMED] {
     let cells = leskwyn::work_cells(first, second).expect("accepted tables");
+    let marks = leskwyn::all_kept(first);
     let [mut lent, mut work, mut other] = [0; 3].map(|_| vec![0; cells]);
     let cases = |table: leskwyn::QuartetTable| [table.a, table.b, table.c, table.d, table.e];
     let triplet_cases = |table: leskwyn::TripletTable| [table.a, table.b, table.c, table.d, table.e];
     [
-        Box::new(move || cases(leskwyn::quartet_table(first, second, &mut lent).expect("accepted"))),
-        Box::new(move || cases(straight::quartet_table(first, second, &mut work).expect("accepted"))),
+        Box::new(move || cases(leskwyn::quartet_table(first, second, marks, &mut lent).expect("accepted"))),
+        Box::new(move || cases(straight::quartet_table(first, second, marks, &mut work).expect("accepted"))),
         Box::new(move || expanded::cases(first, second)),
         Box::new(move || cubic::cases(first, second)),
         Box::new(move || triplet_cases(leskwyn::triplet_table(first, second, &mut other).expect("accepted"))),

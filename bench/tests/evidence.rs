@@ -41,7 +41,7 @@ fn sums_agree(first: &[u16], second: &[u16]) {
     let sets = every_set_agrees(first, second);
     let (ours, theirs) = (Tree::of(first), Tree::of(second));
     let mut work = vec![0; leskwyn::work_cells(first, second).expect("accepted")];
-    let told = leskwyn::quartet_table(first, second, &mut work).expect("accepted");
+    let told = leskwyn::quartet_table(first, second, leskwyn::all_kept(first), &mut work).expect("accepted");
     assert_eq!(counted(&sets), [told.a, told.b, told.c, told.d, told.e], "{first:?} and {second:?}");
     assert_eq!(counted(&sets), cases(&ours, &theirs), "{first:?} and {second:?}");
     for (four, shown) in sets {

@@ -49,7 +49,7 @@ fn one_slice() {
 fn the_largest_sums() {
     let mut random = Random::seeded(430);
     let table = table(Shape::Binary, 256, &mut random);
-    let sums = leskwyn::claim_sums(&table, &table, &mut vec![0; leskwyn::WORK_CELLS]).expect("accepted");
+    let sums = leskwyn::claim_sums(&table, &table, &[1; 256], &mut vec![0; leskwyn::WORK_CELLS]).expect("accepted");
     assert_eq!((sums.first, sums.second, sums.same, sums.different), (349_585_280, 349_585_280, 349_585_280, 0));
     let triplets = leskwyn::triplet_table(&table, &table, &mut vec![0; leskwyn::WORK_CELLS]).expect("accepted");
     assert_eq!((triplets.a, triplets.e, triplets.distance), (255 * 254 * 253 / 6, 0, 0));

@@ -53,7 +53,8 @@ fn far() {
 fn methods_agree(first: &[u16], second: &[u16], expected: &Expected) {
     assert_eq!(cubic::cases(first, second), expected.quartets, "{first:?} and {second:?} by triples");
     assert_eq!(expanded::cases(first, second), expected.quartets, "{first:?} and {second:?} by expansion");
-    let table = straight::quartet_table(first, second, &mut vec![0; expected.crossings.len()]).expect("accepted");
+    let mut work = vec![0; expected.crossings.len()];
+    let table = straight::quartet_table(first, second, &expected.marks, &mut work).expect("accepted");
     assert_eq!([table.a, table.b, table.c, table.d, table.e], expected.quartets, "{first:?} and {second:?} straight");
     assert_eq!(common_ancestors::triplet_cases(first, second), expected.triplets, "{first:?} and {second:?}");
 }

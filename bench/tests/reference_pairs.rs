@@ -58,7 +58,8 @@ fn the_other_methods_have_their_figures() {
         let by_expansion = expanded::cases(pair.first, pair.second);
         assert_eq!(with_distance(by_expansion), pair.quartets, "{} by expansion", pair.name);
         let mut work = vec![0; 1000];
-        let table = straight::quartet_table(pair.first, pair.second, &mut work).expect("accepted");
+        let table = straight::quartet_table(pair.first, pair.second, leskwyn::all_kept(pair.first), &mut work)
+            .expect("accepted");
         let figures = [table.a, table.b, table.c, table.d, table.e, table.distance];
         assert_eq!(figures, pair.quartets, "{} straight", pair.name);
         let triplets = common_ancestors::triplet_cases(pair.first, pair.second);
@@ -112,7 +113,8 @@ fn the_edges_of_acceptance() {
     assert_eq!(number(&[P, &[0]].concat()), 4);
     assert_eq!(number(TWO), 0);
     assert_eq!(number(THREE), 0);
-    let refused = |cells| leskwyn::quartet_table(P, Q, &mut vec![0; cells]).err().map(leskwyn::Refusal::number);
+    let refused =
+        |cells| leskwyn::quartet_table(P, Q, &[1; 5], &mut vec![0; cells]).err().map(leskwyn::Refusal::number);
     assert_eq!([41, 42].map(refused), [Some(9), None]);
     let mut random = Random::seeded(2);
     for table in TABLES {

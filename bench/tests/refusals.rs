@@ -58,7 +58,7 @@ fn damaged_pairs() {
         let lent = *random.pick(&[cells, cells, cells + 3, cells - 1, 0]);
         let number = pair_refusal(&first, &second, lent);
         met.meet(number);
-        let straight = straight::quartet_table(&first, &second, &mut vec![0; lent]);
+        let straight = straight::quartet_table(&first, &second, leskwyn::all_kept(&first), &mut vec![0; lent]);
         assert_eq!(straight.err().unwrap_or(0), number, "straight, of {first:?} and {second:?}");
         if number == 0 && n <= 14 {
             pair_agrees(&first, &second, &Expected::enumerated(&first, &second), &mut random);

@@ -1,14 +1,13 @@
 //! The weighted distance under every weight: the bits of each answer, the order of the numbers, and the cells of each
 //! refusal. One random weight besides goes with each pair of the other tests.
 
-use bench::agree::{weighted_agrees, Expected};
+use bench::agree::{weighted_agrees, Asked, Expected};
 use bench::damage::damaged;
-use bench::enumerate::pair_refusal;
-use bench::generate::{any_chained, chained, pair, table, Chains, Partner, Shape};
+use bench::generate::{any_chained, any_marks, chained, pair, table, Chains, Partner, Shape};
 use bench::random::Random;
 use bench::reference::PAIRS;
 use bench::weights::{every_kind, numerator, over_256, right_fractions, weighted, wrong_fractions, Weighing};
-use leskwyn::{quartet_table, weighted_distance, work_cells, Weight, WORK_CELLS};
+use leskwyn::{all_kept, quartet_table, weighted_distance, work_cells, Weight, WORK_CELLS};
 
 /// Every fraction of both lists.
 fn fractions() -> Vec<f64> {
@@ -49,8 +48,9 @@ fn reference_pairs() {
         let expected = Expected::enumerated(first, second);
         let cells = expected.crossings.len();
         for &weighing in &weighings {
-            for lent in [cells, cells + 3, cells - 1, 0] {
-                weighted_agrees(first, second, lent, weighing, Some(&expected), &mut random);
+            for cells in [cells, cells + 3, cells - 1, 0] {
+                let asked = Asked { first, second, marks: &expected.marks, cells };
+                weighted_agrees(&asked, weighing, Some(&expected), &mut random);
             }
         }
     }
@@ -65,9 +65,15 @@ fn small_pairs() {
         if at % 4 == 0 {
             first = any_chained(&first, &mut random);
         }
-        let expected = Expected::enumerated(&first, &second);
+        // Labels are struck in every third pair.
+        let expected = match at % 3 {
+            0 => Expected::marked(&first, &second, &any_marks(4 + at % 9, &mut random)),
+            _ => Expected::enumerated(&first, &second),
+        };
+        let (marks, cells) = (&expected.marks[..], expected.crossings.len());
         for &weighing in &weighings {
-            weighted_agrees(&first, &second, expected.crossings.len(), weighing, Some(&expected), &mut random);
+            let asked = Asked { first: &first, second: &second, marks, cells };
+            weighted_agrees(&asked, weighing, Some(&expected), &mut random);
         }
     }
 }
@@ -81,17 +87,20 @@ fn the_most_tips() {
         let expected = Expected::by_triples(&first, &second);
         let mut work = vec![0; WORK_CELLS];
         for fraction in right_fractions() {
-            let answer = weighted_distance(&first, &second, &mut work, Weight::Part(fraction)).expect("accepted");
+            let weight = Weight::Part(fraction);
+            let answer = weighted_distance(&first, &second, &[1; 256], &mut work, weight).expect("accepted");
             let k = numerator(fraction).expect("a k/256");
             assert_eq!(answer.to_bits(), weighted(expected.quartets, k).to_bits(), "{k}/256");
         }
         let cells = expected.crossings.len();
         for weighing in every_kind(&[0.5, -0.0, 1.0 / 512.0, f64::NAN]) {
-            weighted_agrees(&first, &second, cells, weighing, Some(&expected), &mut random);
+            let asked = Asked { first: &first, second: &second, marks: &expected.marks, cells };
+            weighted_agrees(&asked, weighing, Some(&expected), &mut random);
         }
         let [first, second] = [first, second].map(|table| chained(&table, Chains::Anywhere, 1024, &mut random));
         for k in [0, 1, 128, 255, 256] {
-            let answer = weighted_distance(&first, &second, &mut work, Weight::Part(over_256(k))).expect("accepted");
+            let weight = Weight::Part(over_256(k));
+            let answer = weighted_distance(&first, &second, &[1; 256], &mut work, weight).expect("accepted");
             assert_eq!(answer.to_bits(), weighted(expected.quartets, k).to_bits(), "{k}/256 with 1024 nodes");
         }
     }
@@ -116,12 +125,14 @@ fn thirty_comes_last() {
             2 => second = table(*random.pick(&Shape::ALL), n - 1, &mut random),
             _ => cells -= 1,
         }
-        let number = pair_refusal(&first, &second, cells);
+        let marks = any_marks(n, &mut random);
+        let asked = Asked { first: &first, second: &second, marks: &marks, cells };
+        let number = asked.refusal();
         met[usize::from(number)] += 1;
         // Some damage leaves a tree.
-        let expected = (number == 0).then(|| Expected::enumerated(&first, &second));
+        let expected = (number == 0).then(|| Expected::marked(&first, &second, &marks));
         for weighing in every_kind(&fractions) {
-            weighted_agrees(&first, &second, cells, weighing, expected.as_ref(), &mut random);
+            weighted_agrees(&asked, weighing, expected.as_ref(), &mut random);
         }
     }
     for number in (1..=9).chain(101..=107) {
@@ -136,8 +147,9 @@ fn from_nothing_to_full() {
     for at in 0..200 {
         let (first, second) = pair(Shape::ALL[at % Shape::ALL.len()], 4 + at % 40, Partner::Far, &mut random);
         let mut work = vec![0; work_cells(&first, &second).expect("accepted")];
-        let table = quartet_table(&first, &second, &mut work).expect("accepted");
-        let mut weigh = |weight| weighted_distance(&first, &second, &mut work, weight).expect("accepted");
+        let marks = if at % 2 == 0 { all_kept(&first).to_vec() } else { any_marks(4 + at % 40, &mut random) };
+        let table = quartet_table(&first, &second, &marks, &mut work).expect("accepted");
+        let mut weigh = |weight| weighted_distance(&first, &second, &marks, &mut work, weight).expect("accepted");
         assert_eq!((weigh(Weight::None), weigh(Weight::Full)), (table.b as f64, table.distance as f64));
         let distances: Vec<f64> = (0..=256).map(|k| weigh(Weight::Part(over_256(k)))).collect();
         assert!(distances.windows(2).all(|two| two[0] <= two[1]));

@@ -1,10 +1,10 @@
 //! The quartet distance of two trees, (0,1,(2,(3,4))) and (0,1,(2,3,4)).
 
-use leskwyn::{quartet_table, work_cells, Refusal, INNER as X};
+use leskwyn::{all_kept, quartet_table, work_cells, Refusal, INNER as X};
 
 fn distance(first: &[u16], second: &[u16]) -> Result<u64, Refusal> {
     let mut work = vec![0; work_cells(first, second)?];
-    let table = quartet_table(first, second, &mut work)?;
+    let table = quartet_table(first, second, all_kept(first), &mut work)?;
     Ok(table.distance)
 }
 

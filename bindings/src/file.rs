@@ -2,7 +2,7 @@
 
 use std::fmt;
 
-use crate::{claim_sums, quartet_table, split_counts, triplet_table, work_cells};
+use crate::{all_kept, claim_sums, quartet_table, split_counts, triplet_table, work_cells};
 use crate::{ClaimSums, QuartetTable, Refusal, SplitCounts, TripletTable};
 
 /// What is printed of a comparison: six lines, or `refused N` for an error, by [`listing`].
@@ -71,16 +71,17 @@ pub fn cut(words: &[u16]) -> (&[u16], &[u16]) {
     words.split_at(whole.min(words.len()))
 }
 
-/// Compares two tree tables, with as many work cells as they take.
+/// Compares two tree tables, all labels kept, with as many work cells as they take.
 ///
 /// # Errors
 ///
 /// By the pair's order. The work is lent from here, so that 9 does not occur.
 pub fn compare_tables(first: &[u16], second: &[u16]) -> Result<Figures, Refusal> {
     let mut work = vec![0; work_cells(first, second)?];
-    let claims = claim_sums(first, second, &mut work)?;
-    let quartets = quartet_table(first, second, &mut work)?;
-    let splits = split_counts(first, second, &mut work)?;
+    let marks = all_kept(first);
+    let claims = claim_sums(first, second, marks, &mut work)?;
+    let quartets = quartet_table(first, second, marks, &mut work)?;
+    let splits = split_counts(first, second, marks, &mut work)?;
     let triplets = triplet_table(first, second, &mut work)?;
     Ok(Figures { leaves: first[0], claims, quartets, splits, triplets })
 }

@@ -7,20 +7,27 @@
 //! than node 0 has no child, an inner node one or more. An inner node with one child is a pass-through node, which
 //! changes no count and no distance.
 //!
+//! The calls that count two trees take *marks*, a byte for each label: [`KEPT`] or [`STRUCK`]. Kept labels alone are
+//! counted, as if the tips of the others were not there; [`all_kept`] are the marks that strike none. Any labels may be
+//! struck, label 0 and all of them too. [`triplet_table`] and [`evidence`] take no marks and know all labels.
+//!
 //! Any words in slices of any length may be passed. The answer is the whole answer or a [`Refusal`]; a refused call
 //! changes no lent cell. No call allocates, keeps a slice, or touches anything global, so all may be made from several
 //! threads at once. [`claim_sums`], [`quartet_table`] and [`weighted_distance`] take up to 240 kB of stack, the others up
 //! to 40 kB.
 //!
 //! ```
-//! use leskwyn::{quartet_table, work_cells, INNER as X};
+//! use leskwyn::{all_kept, quartet_table, work_cells, INNER as X};
 //!
 //! let p = [5, 8, 0, 0, 1, 1, 3, 3, 5, 5, 0, X, 1, X, 2, X, 3, 4];
 //! let q = [5, 7, 0, 0, 1, 1, 3, 3, 3, 0, X, 1, X, 2, 3, 4];
 //! let mut work = vec![0; work_cells(&p, &q)?];
-//! let table = quartet_table(&p, &q, &mut work)?;
+//! let table = quartet_table(&p, &q, all_kept(&p), &mut work)?;
 //! assert_eq!((table.a, table.b, table.c, table.d, table.e), (3, 0, 2, 0, 0));
 //! assert_eq!(table.distance, 2);
+//! // Without label 1 there is one set of four: (0,2,(3,4)) has a butterfly, (0,2,3,4) none.
+//! let table = quartet_table(&p, &q, &[1, 0, 1, 1, 1], &mut work)?;
+//! assert_eq!((table.c, table.distance), (1, 1));
 //! # Ok::<(), leskwyn::Refusal>(())
 //! ```
 
@@ -35,6 +42,12 @@ pub use version::{version, Version};
 /// The label word of an inner node.
 pub const INNER: u16 = 65535;
 
+/// The mark of a label that is struck from the count.
+pub const STRUCK: u8 = 0;
+
+/// The mark of a label that is kept in the count.
+pub const KEPT: u8 = 1;
+
 /// Cells that are enough for the work of every pair: (1024 - 1)(1024 - 1), for two trees of 256 tips and 1024 nodes.
 pub const WORK_CELLS: usize = 1023 * 1023;
 
@@ -47,7 +60,7 @@ pub enum Topology {
     Star,
 }
 
-/// The claim sums of two trees.
+/// The claim sums of two trees, over kept tips.
 #[derive(Clone, Copy, Debug, PartialEq, Eq, Hash)]
 pub struct ClaimSums {
     /// S, over the claims of the first tree.
@@ -60,7 +73,7 @@ pub struct ClaimSums {
     pub different: u64,
 }
 
-/// How many sets of four tips fall into each of five cases.
+/// How many sets of four kept tips fall into each of five cases.
 #[derive(Clone, Copy, Debug, PartialEq, Eq, Hash)]
 pub struct QuartetTable {
     /// The same butterfly in both trees.
@@ -77,8 +90,8 @@ pub struct QuartetTable {
     pub distance: u64,
 }
 
-/// The splits of two trees. A split is the pair of tip sets of an edge that has at least two tips on each side; a pair
-/// that several edges have is one split.
+/// The splits of two trees. A split is the pair of sets of kept tips of an edge that has at least two of them on each
+/// side; a pair that several edges have is one split.
 #[derive(Clone, Copy, Debug, PartialEq, Eq, Hash)]
 pub struct SplitCounts {
     /// The first tree's.
@@ -92,7 +105,7 @@ pub struct SplitCounts {
 }
 
 /// How many sets of three tips fall into each of five cases, with tip 0 as the outgroup: it is in none of the sets, and a
-/// tree hangs from it. A tree resolves three tips if two of them have a lowest common ancestor that is not an ancestor of
+/// tree hangs from it. All other tips count, for no label is struck here. A tree resolves three tips if two of them have a lowest common ancestor that is not an ancestor of
 /// the third.
 #[derive(Clone, Copy, Debug, PartialEq, Eq, Hash)]
 pub struct TripletTable {
@@ -291,10 +304,39 @@ pub fn topology(table: &[u16], a: u16, b: u16, c: u16, d: u16) -> Result<Topolog
     Refusal::or(answer.refusal, topology)
 }
 
+/// Marks that keep all n labels of a table. A copy of them can have labels struck.
+///
+/// ```
+/// use leskwyn::{all_kept, INNER, STRUCK};
+/// let star = [3, 4, 0, 0, 1, 1, 0, INNER, 1, 2];
+/// assert_eq!(all_kept(&star), [1, 1, 1]);
+/// let mut marks = all_kept(&star).to_vec();
+/// marks[2] = STRUCK;
+/// assert_eq!(marks, [1, 1, 0]);
+/// ```
+#[must_use]
+pub fn all_kept(table: &[u16]) -> &'static [u8] {
+    static MARKS: [u8; 256] = [KEPT; 256];
+    // Words that are no tree table are refused before their marks are looked at.
+    let n = table.first().map_or(0, |&n| usize::from(n));
+    &MARKS[..n.min(MARKS.len())]
+}
+
 /// What a function of a pair answers.
-fn asked<T>(function: raw::PairFunction<T>, first: &[u16], second: &[u16], work: &mut [u16]) -> T {
+fn asked<T>(function: raw::PairFunction<T>, first: &[u16], second: &[u16], marks: &[u8], work: &mut [u16]) -> T {
     // SAFETY: each pointer and length are those of one live slice, and `work` is borrowed alone.
-    unsafe { function(first.as_ptr(), first.len(), second.as_ptr(), second.len(), work.as_mut_ptr(), work.len()) }
+    unsafe {
+        function(
+            first.as_ptr(),
+            first.len(),
+            second.as_ptr(),
+            second.len(),
+            marks.as_ptr(),
+            marks.len(),
+            work.as_mut_ptr(),
+            work.len(),
+        )
+    }
 }
 
 /// How many work cells a pair of tree tables takes, (m - 1)(m' - 1).
@@ -308,28 +350,32 @@ fn asked<T>(function: raw::PairFunction<T>, first: &[u16], second: &[u16], work:
 ///
 /// 1 to 6, 31 and 7 for the first tree, 101 to 106, 131 and 107 for the second, then 8.
 pub fn work_cells(first: &[u16], second: &[u16]) -> Result<usize, Refusal> {
-    match crossings(first, second, &mut []) {
+    match triplet_table(first, second, &mut []) {
         Err(refusal) if refusal != Refusal::FEW_CELLS => Err(refusal),
         _ => Ok((usize::from(first[1]) - 1) * (usize::from(second[1]) - 1)),
     }
 }
 
-/// The crossings of two trees: afterwards cell (i - 1)(m' - 1) + (j - 1) holds how many labels lie beyond both edge i
-/// of the first tree and edge j of the second; later cells stay. The two trees may be one slice.
+/// The crossings of two trees: afterwards cell (i - 1)(m' - 1) + (j - 1) holds how many kept labels lie beyond both edge
+/// i of the first tree and edge j of the second; later cells stay. The two trees may be one slice.
 ///
 /// ```
-/// let star = [3, 4, 0, 0, 1, 1, 0, leskwyn::INNER, 1, 2];
+/// use leskwyn::{all_kept, crossings, INNER};
+/// let star = [3, 4, 0, 0, 1, 1, 0, INNER, 1, 2];
 /// let mut work = [7; 10];
-/// leskwyn::crossings(&star, &star, &mut work)?;
+/// crossings(&star, &star, all_kept(&star), &mut work)?;
 /// assert_eq!(work, [2, 1, 1, 1, 1, 0, 1, 0, 1, 7]);
+/// crossings(&star, &star, &[1, 1, 0], &mut work)?;
+/// assert_eq!(work, [1, 1, 0, 1, 1, 0, 0, 0, 0, 7]);
+/// assert_eq!(crossings(&star, &star, &[1, 1], &mut work).unwrap_err().number(), 32);
 /// # Ok::<(), leskwyn::Refusal>(())
 /// ```
 ///
 /// # Errors
 ///
-/// 1 to 6, 31 and 7 for the first tree, 101 to 106, 131 and 107 for the second, then 8, then 9.
-pub fn crossings(first: &[u16], second: &[u16], work: &mut [u16]) -> Result<(), Refusal> {
-    Refusal::or(asked(raw::leskwyn_crossings, first, second, work), ())
+/// 1 to 6, 31 and 7 for the first tree, 101 to 106, 131 and 107 for the second, then 8, 32 and 9.
+pub fn crossings(first: &[u16], second: &[u16], marks: &[u8], work: &mut [u16]) -> Result<(), Refusal> {
+    Refusal::or(asked(raw::leskwyn_crossings, first, second, marks, work), ())
 }
 
 /// The claim sums of two trees. Takes and leaves in the work what [`crossings`] does.
@@ -337,53 +383,59 @@ pub fn crossings(first: &[u16], second: &[u16], work: &mut [u16]) -> Result<(), 
 /// # Errors
 ///
 /// Those of [`crossings`].
-pub fn claim_sums(first: &[u16], second: &[u16], work: &mut [u16]) -> Result<ClaimSums, Refusal> {
+pub fn claim_sums(first: &[u16], second: &[u16], marks: &[u8], work: &mut [u16]) -> Result<ClaimSums, Refusal> {
     let raw::ClaimSumsAnswer { refusal, first, second, same, different } =
-        asked(raw::leskwyn_claim_sums, first, second, work);
+        asked(raw::leskwyn_claim_sums, first, second, marks, work);
     Refusal::or(refusal, ClaimSums { first, second, same, different })
 }
 
 /// The quartet table of two trees. Takes and leaves in the work what [`crossings`] does.
 ///
 /// ```
-/// use leskwyn::{quartet_table, INNER as X};
+/// use leskwyn::{all_kept, quartet_table, INNER as X};
 /// let w = [5, 6, 0, 0, 1, 1, 1, 1, 0, X, 1, 2, 3, 4];
-/// let table = quartet_table(&w, &w, &mut [0; 25])?;
+/// let table = quartet_table(&w, &w, all_kept(&w), &mut [0; 25])?;
 /// assert_eq!((table.e, table.distance), (5, 0));
-/// assert_eq!(quartet_table(&w, &w, &mut [0; 24]).unwrap_err().number(), 9);
+/// assert_eq!(quartet_table(&w, &w, &[0, 1, 1, 1, 1], &mut [0; 25])?.e, 1);
+/// assert_eq!(quartet_table(&w, &w, all_kept(&w), &mut [0; 24]).unwrap_err().number(), 9);
 /// # Ok::<(), leskwyn::Refusal>(())
 /// ```
 ///
 /// # Errors
 ///
 /// Those of [`crossings`].
-pub fn quartet_table(first: &[u16], second: &[u16], work: &mut [u16]) -> Result<QuartetTable, Refusal> {
+pub fn quartet_table(first: &[u16], second: &[u16], marks: &[u8], work: &mut [u16]) -> Result<QuartetTable, Refusal> {
     let raw::QuartetTableAnswer { refusal, a, b, c, d, e, distance } =
-        asked(raw::leskwyn_quartet_table, first, second, work);
+        asked(raw::leskwyn_quartet_table, first, second, marks, work);
     Refusal::or(refusal, QuartetTable { a, b, c, d, e, distance })
 }
 
 /// The split counts of two trees. Takes and leaves in the work what [`crossings`] does.
 ///
 /// ```
-/// use leskwyn::{split_counts, work_cells, INNER as X};
+/// use leskwyn::{all_kept, split_counts, work_cells, INNER as X};
 /// // Below tip 0: ((1,2),3), with a pass-through node above (1,2). Edges 2 and 3 have the same tip sets.
 /// let table = [4, 7, 0, 0, 1, 2, 3, 3, 1, 0, X, X, X, 1, 2, 3];
-/// let splits = split_counts(&table, &table, &mut vec![0; work_cells(&table, &table)?])?;
+/// let splits = split_counts(&table, &table, all_kept(&table), &mut vec![0; work_cells(&table, &table)?])?;
 /// assert_eq!((splits.first, splits.second, splits.common, splits.distance), (1, 1, 1, 0));
+/// // Below tip 0: ((1,2),(3,4)). Without tip 0 the edges 2 and 5 have the same pair of sets.
+/// let table = [5, 8, 0, 0, 1, 2, 2, 1, 5, 5, 0, X, X, 1, 2, X, 3, 4];
+/// let mut work = vec![0; work_cells(&table, &table)?];
+/// assert_eq!(split_counts(&table, &table, all_kept(&table), &mut work)?.first, 2);
+/// assert_eq!(split_counts(&table, &table, &[0, 1, 1, 1, 1], &mut work)?.first, 1);
 /// # Ok::<(), leskwyn::Refusal>(())
 /// ```
 ///
 /// # Errors
 ///
 /// Those of [`crossings`].
-pub fn split_counts(first: &[u16], second: &[u16], work: &mut [u16]) -> Result<SplitCounts, Refusal> {
+pub fn split_counts(first: &[u16], second: &[u16], marks: &[u8], work: &mut [u16]) -> Result<SplitCounts, Refusal> {
     let raw::SplitCountsAnswer { refusal, first, second, common, distance } =
-        asked(raw::leskwyn_split_counts, first, second, work);
+        asked(raw::leskwyn_split_counts, first, second, marks, work);
     Refusal::or(refusal, SplitCounts { first, second, common, distance })
 }
 
-/// The triplet table of two trees. Takes and leaves in the work what [`crossings`] does.
+/// The triplet table of two trees, over all labels. Leaves in the work what [`crossings`] does where all are kept.
 ///
 /// ```
 /// use leskwyn::{triplet_table, work_cells, INNER as X};
@@ -399,10 +451,20 @@ pub fn split_counts(first: &[u16], second: &[u16], work: &mut [u16]) -> Result<S
 ///
 /// # Errors
 ///
-/// Those of [`crossings`].
+/// Those of [`crossings`] without 32.
 pub fn triplet_table(first: &[u16], second: &[u16], work: &mut [u16]) -> Result<TripletTable, Refusal> {
-    let raw::TripletTableAnswer { refusal, a, b, c, d, e, distance } =
-        asked(raw::leskwyn_triplet_table, first, second, work);
+    // SAFETY: each pointer and length are those of one live slice, and `work` is borrowed alone.
+    let answer = unsafe {
+        raw::leskwyn_triplet_table(
+            first.as_ptr(),
+            first.len(),
+            second.as_ptr(),
+            second.len(),
+            work.as_mut_ptr(),
+            work.len(),
+        )
+    };
+    let raw::TripletTableAnswer { refusal, a, b, c, d, e, distance } = answer;
     Refusal::or(refusal, TripletTable { a, b, c, d, e, distance })
 }
 
@@ -410,21 +472,28 @@ pub fn triplet_table(first: &[u16], second: &[u16], work: &mut [u16]) -> Result<
 /// 256 B + k(C + D), where p is k/256. It is never minus zero. Takes and leaves in the work what [`crossings`] does.
 ///
 /// ```
-/// use leskwyn::{weighted_distance, work_cells, Weight, INNER as X};
+/// use leskwyn::{all_kept, weighted_distance, work_cells, Weight, INNER as X};
 /// let q = [5, 7, 0, 0, 1, 1, 3, 3, 3, 0, X, 1, X, 2, 3, 4];
 /// let r = [5, 8, 0, 0, 1, 1, 3, 3, 5, 5, 0, X, 2, X, 1, X, 3, 4];
 /// let mut work = vec![0; work_cells(&q, &r)?];
-/// assert_eq!(weighted_distance(&q, &r, &mut work, Weight::None)?, 2.0);
-/// assert_eq!(weighted_distance(&q, &r, &mut work, Weight::Full)?, 4.0);
-/// assert_eq!(weighted_distance(&q, &r, &mut work, Weight::Part(0.25))?, 2.5);
-/// assert_eq!(weighted_distance(&q, &r, &mut work, Weight::Part(0.3)).unwrap_err().number(), 30);
+/// let mut distance = |weight| weighted_distance(&q, &r, all_kept(&q), &mut work, weight);
+/// assert_eq!(distance(Weight::None)?, 2.0);
+/// assert_eq!(distance(Weight::Full)?, 4.0);
+/// assert_eq!(distance(Weight::Part(0.25))?, 2.5);
+/// assert_eq!(distance(Weight::Part(0.3)).unwrap_err().number(), 30);
 /// # Ok::<(), leskwyn::Refusal>(())
 /// ```
 ///
 /// # Errors
 ///
 /// Those of [`crossings`], then 30.
-pub fn weighted_distance(first: &[u16], second: &[u16], work: &mut [u16], weight: Weight) -> Result<f64, Refusal> {
+pub fn weighted_distance(
+    first: &[u16],
+    second: &[u16],
+    marks: &[u8],
+    work: &mut [u16],
+    weight: Weight,
+) -> Result<f64, Refusal> {
     let (kind, fraction) = weight.kind_and_fraction();
     // SAFETY: each pointer and length are those of one live slice, and `work` is borrowed alone.
     let answer = unsafe {
@@ -433,6 +502,8 @@ pub fn weighted_distance(first: &[u16], second: &[u16], work: &mut [u16], weight
             first.len(),
             second.as_ptr(),
             second.len(),
+            marks.as_ptr(),
+            marks.len(),
             work.as_mut_ptr(),
             work.len(),
             kind,
@@ -442,8 +513,8 @@ pub fn weighted_distance(first: &[u16], second: &[u16], work: &mut [u16], weight
     Refusal::or(answer.refusal, answer.distance)
 }
 
-/// The evidence for four tips in two trees, whatever their order: the case in which [`quartet_table`] counts them, and
-/// the edge or the node of each tree that shows it. It takes no work.
+/// The evidence for four tips in two trees, whatever their order: the case in which [`quartet_table`] counts them if they
+/// are kept, and the edge or the node of each tree that shows it. It takes neither marks nor work.
 ///
 /// ```
 /// use leskwyn::{evidence, Case, Evidence, Witness, INNER as X};

@@ -107,11 +107,12 @@ pub struct EvidenceAnswer {
     pub second_number: u16,
 }
 
-/// A function of two tables and the work: each as a pointer and a number of elements.
-pub type PairFunction<T> = unsafe extern "C" fn(*const u16, usize, *const u16, usize, *mut u16, usize) -> T;
+/// A function of two tables, the marks and the work: each as a pointer and a number of elements.
+pub type PairFunction<T> =
+    unsafe extern "C" fn(*const u16, usize, *const u16, usize, *const u8, usize, *mut u16, usize) -> T;
 
 // Every function is safe to call with pointers to that many elements, aligned and live for the call, where the lent
-// cells overlap no table. The library holds no global and keeps no pointer.
+// cells overlap no table and no marks. The library holds no global and keeps no pointer.
 extern "C" {
     pub fn leskwyn_version() -> u32;
 
@@ -130,6 +131,8 @@ extern "C" {
         first_words: usize,
         second: *const u16,
         second_words: usize,
+        marks: *const u8,
+        marks_count: usize,
         work: *mut u16,
         cells: usize,
     ) -> u16;
@@ -139,6 +142,8 @@ extern "C" {
         first_words: usize,
         second: *const u16,
         second_words: usize,
+        marks: *const u8,
+        marks_count: usize,
         work: *mut u16,
         cells: usize,
     ) -> ClaimSumsAnswer;
@@ -148,6 +153,8 @@ extern "C" {
         first_words: usize,
         second: *const u16,
         second_words: usize,
+        marks: *const u8,
+        marks_count: usize,
         work: *mut u16,
         cells: usize,
     ) -> QuartetTableAnswer;
@@ -157,6 +164,8 @@ extern "C" {
         first_words: usize,
         second: *const u16,
         second_words: usize,
+        marks: *const u8,
+        marks_count: usize,
         work: *mut u16,
         cells: usize,
     ) -> SplitCountsAnswer;
@@ -175,6 +184,8 @@ extern "C" {
         first_words: usize,
         second: *const u16,
         second_words: usize,
+        marks: *const u8,
+        marks_count: usize,
         work: *mut u16,
         cells: usize,
         kind: u16,

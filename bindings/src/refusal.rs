@@ -32,7 +32,8 @@ impl Refusal {
     }
 
     /// The number: 1 to 7 or 31 of a table or of the first of two; 101 to 107 or 131 of the second; 8 to 13; 15 of a file;
-    /// 30 of a weight. 31 stands between 6 and 7 where several rules are broken, 131 between 106 and 107.
+    /// 30 of a weight; 32 of marks. Where several rules are broken, 31 stands between 6 and 7, 131 between 106 and 107, and
+    /// 32 between 8 and 9.
     #[must_use]
     pub fn number(self) -> u16 {
         self.0.get()
@@ -58,6 +59,7 @@ impl Refusal {
             13 => "the edge is 0, or m or more",
             15 => "an odd number of bytes",
             30 => "the weight's fraction is not k/256 with a k from 0 to 256",
+            32 => "there are not n marks, or a mark is above 1",
             _ => "a rule is broken",
         }
     }
