@@ -37,8 +37,8 @@ from cases.tables import LABEL_TROUBLE, P, Q, THREE, W, X, damaged
 from cases.triplets import triplet_table
 
 import leskwyn
-from leskwyn import usage
-from leskwyn.figures import KEYS, WEIGHTED_KEYS
+from leskwyn import commands, usage
+from leskwyn.figures import KEYS, STRUCK_KEYS, WEIGHTED_KEYS
 from leskwyn.tables import newick_text
 
 FEATHERS, WINGS = "(Azores,(Bute,Coll),Foula,(Lundy,Texel));\n", "(Azores,Bute,(Coll,Foula),(Lundy,Texel));\n"
@@ -277,6 +277,265 @@ class Compare(TreesTest):
         done = self.here("compare", "-", "--common", "--listing", stdin="(M\u00f6we,B,C);(Mo\u0308we,B,C);")
         self.assertEqual(done.returncode, 0)
         self.assertIn("'M\u00f6we' differs only in Unicode form", done.stderr.decode())
+
+
+NAMES = ["Azores", "Bute", "Coll", "Foula", "Lundy", "Texel"]
+# By hand, of feathers and wings without these names: A to E, the splits of the first tree, of the second and of both.
+# Without Foula feathers still pair Bute with Coll and Lundy with Texel, wings Lundy with Texel alone; without Coll both pair only
+# Lundy with Texel; without Azores both have their two pairs, and Bute, Coll, Foula with Lundy or Texel are parted differently;
+# without both Azores and Foula the edges to Bute and Coll and to Lundy and Texel are one split of feathers; without Lundy and Texel
+# one set of four is left, and parted differently. Three names or fewer are in no set of four.
+KEPT = {"": ([6, 3, 2, 2, 2], [2, 2, 1]), "Foula": ([3, 0, 2, 0, 0], [2, 1, 1]), "Coll": ([3, 0, 0, 0, 2], [1, 1, 1]),
+        "Azores": ([3, 2, 0, 0, 0], [2, 2, 1]), "Azores Foula": ([1, 0, 0, 0, 0], [1, 1, 1]),
+        "Lundy Texel": ([0, 1, 0, 0, 0], [1, 1, 0]), "Azores Bute Coll": ([0] * 5, [0] * 3),
+        "Bute Coll Foula Lundy Texel": ([0] * 5, [0] * 3), " ".join(NAMES): ([0] * 5, [0] * 3)}
+
+
+def figures_without(struck: list[str]) -> dict[str, object]:
+    """What follows from the cases and the splits."""
+    (a, b, c, d, e), (first, second, common) = KEPT[" ".join(struck)]
+    whole, apart = a + b + c + d + e, first + second - 2 * common
+    return {"tips": 6, "sets_of_four": whole, "same": a, "different": b, "first_only": c, "second_only": d, "neither": e,
+            "distance": b + c + d, "normalised_distance": (b + c + d) / (whole or 1), "first_splits": first,
+            "second_splits": second, "common_splits": common, "robinson_foulds": apart,
+            "normalised_robinson_foulds": apart / (first + second or 1), "first_claims": 2 * (a + b + c),
+            "second_claims": 2 * (a + b + d), "same_claims": 2 * a, "different_claims": 4 * b, "names": NAMES,
+            "sets_of_three": 10, **UNDER_AZORES, "kept": 6 - len(struck), "struck": struck}
+
+
+class Strike(TreesTest):
+    """Populations struck from the count, by --strike and by --strike-file."""
+
+    NOTE = "leskwyn: note: the triplets count all 6 populations, struck ones too\n"
+
+    def options(self, words: str) -> list[str]:
+        return [part for name in words.split() for part in ("--strike", name)]
+
+    def test_figures(self) -> None:
+        """Of none, one, few, all but one and all, in any order; the triplets are those of all."""
+        for words in KEPT:
+            for order in (words.split(), words.split()[::-1], words.split() * 2):
+                name = self.file("struck.txt", "".join(f"{one}\n" for one in order))
+                for options in ([self.options(" ".join(order))] if words else []) + [["--strike-file", name]]:
+                    told = self.figures("feathers.nwk", "wings.nwk", *options)
+                    self.assertEqual(told, {"first": "feathers.nwk", "second": "wings.nwk", **figures_without(words.split())})
+                    self.assertEqual(list(told), [*KEYS, *STRUCK_KEYS])
+
+    def test_text(self) -> None:
+        done = self.here("compare", "feathers.nwk", "wings.nwk", "--strike", "Foula")
+        self.assertEqual((done.returncode, done.stderr), (0, b""))
+        lines = [" ".join(line.split()) for line in done.stdout.decode().split("\n")]
+        plain = [" ".join(line.split()) for line in self.here("compare", "feathers.nwk", "wings.nwk").stdout.decode().split("\n")]
+        at = plain.index("outgroup: Azores, the first of the sorted names; --outgroup NAME takes another")
+        self.assertEqual(lines, [
+            "first tree: feathers.nwk", "second tree: wings.nwk", "struck: Foula", "", "populations 6",
+            "kept 5 of 6; sets of four and splits count these alone", "sets of four 5", "A parted alike by both trees 3 60.0 %",
+            "B parted differently 0 0.0 %", "C parted by the first tree only 2 40.0 %", "D parted by the second tree only 0 0.0 %",
+            "E left open by both trees 0 0.0 %", "distance 2 B + C + D", "normalised distance 0.4000 distance / sets of four", "",
+            "splits of the first tree 2", "splits of the second tree 1", "splits of both 1",
+            "Robinson-Foulds distance 1 splits of one tree only",
+            "normalised Robinson-Foulds 0.3333 distance / splits of the first and the second", "", plain[at],
+            "the triplets count all 6 populations, struck ones too", *plain[at + 1:]])
+
+    def test_text_of_few(self) -> None:
+        """All struck names stand there, in the order of their labels; without sets of four and splits the text says so."""
+        options = self.options("Foula Azores Texel Coll Bute")
+        text = self.here("compare", "both.nwk", "--outgroup", "Texel", *options, "--weight", "1/2").stdout.decode()
+        self.assertIn("\nstruck: Texel, Azores, Bute, Coll, Foula\n\n", text)
+        self.assertIn("\noutgroup: Texel\nthe triplets count all 6 populations, struck ones too\nsets of three", text)
+        text = " ".join(text.split())
+        for words in ("kept 1 of 6; ", "sets of four 0 A parted alike by both trees 0 none", "0.0000 neither tree has a split",
+                      "normalised distance 0.0000 there are no sets of four",
+                      "normalised weighted distance 0.0000 there are no sets of four"):
+            self.assertIn(words, text)
+
+    def test_nothing_struck(self) -> None:
+        """A file without names strikes nothing, and the output says so: the figures are those without it."""
+        name = self.file("none.txt", "# no season without recoveries\n\n")
+        plain = self.here("compare", "both.nwk").stdout.decode()
+        done = self.here("compare", "both.nwk", "--strike-file", name)
+        kept = f"{'kept':36} {6:>10}   of 6; sets of four and splits count these alone\n"
+        self.assertEqual(done.stdout.decode(), plain.replace("sets of four  ", kept + "sets of four  ", 1))
+        self.assertEqual(done.stderr, b"")
+        for command, *words in (["compare", "both.nwk"], ["against", "feathers.nwk", "wings.nwk"]):
+            plain, done = (self.here(command, *words, *more, "--format", "tsv").stdout.decode().splitlines()
+                           for more in ([], ["--strike-file", name]))
+            self.assertEqual(done, [plain[0] + "\tkept\tstruck", plain[1] + "\t6\t"])
+        plain, done = (self.here("matrix", "both.nwk", *more) for more in ([], ["--strike-file", name]))
+        self.assertEqual((done.stdout, done.stderr), (plain.stdout, b"leskwyn: kept 6 of 6 populations\n"))
+
+    def test_for_programs(self) -> None:
+        """Two keys more, after those of a weight; standard error says what the triplets count."""
+        for command, *words in (["compare", "both.nwk"], ["against", "feathers.nwk", "wings.nwk"]):
+            done = self.here(command, *words, "--format", "tsv", *self.options("Texel Foula Azores"))
+            header, row = [line.split("\t") for line in done.stdout.decode().removesuffix("\n").split("\n")]
+            self.assertEqual(header, [key for key in (*KEYS, *STRUCK_KEYS) if key != "names"])
+            self.assertEqual((len(row), row[-2:], done.stderr.decode()), (len(header), ["3", "Azores,Foula,Texel"], self.NOTE))
+            done = self.here(command, *words, "--format", "json", "--strike", "Foula", "--weight", "1/2")
+            told = json.loads(done.stdout)
+            self.assertEqual(list(told), [*KEYS, *WEIGHTED_KEYS, *STRUCK_KEYS])
+            self.assertEqual([told[key] for key in WEIGHTED_KEYS], [0.5, 1.0, 1.0 / 5])
+            self.assertEqual((told["kept"], told["struck"], done.stderr.decode()), (5, ["Foula"], self.NOTE))
+
+    def test_names_as_they_are_written(self) -> None:
+        """In the text a name that could be read as several stands in quotes; in tsv all are written as in Newick text."""
+        self.file("names.nwk", "(('a, b',Parus_major),('c + d','e\nf',\"it's\",' g'),M\u00f6we);" * 2)
+        words = ["a, b", "Parus_major", "e\nf", "'it''s'", "' g'", "c + d", "M\u00f6we"]
+        options = [part for word in words for part in ("--strike", word)]
+        told = "struck: ' g', M\u00f6we, Parus major, 'a, b', 'c + d', e\\nf, it's\n"
+        self.assertIn(f"\n{told}", self.here("compare", "names.nwk", *options).stdout.decode())
+        row = self.here("compare", "names.nwk", *options, "--format", "tsv").stdout.decode().splitlines()[1]
+        self.assertEqual(row.split("\t")[-1], "' g','M\u00f6we','Parus major','a, b','c + d','e\\nf','it''s'")
+        self.assertEqual(self.figures("names.nwk", *options)["struck"],
+                         [" g", "M\u00f6we", "Parus major", "a, b", "c + d", "e\nf", "it's"])
+        done = self.here("matrix", "names.nwk", *options)
+        self.assertEqual(done.stderr.decode(), f"leskwyn: kept 0 of 7 populations; {told}")
+
+    def test_many_names(self) -> None:
+        """All of them are told."""
+        names = [f"t{i:03}" for i in range(256)]
+        self.file("many.nwk", star_text(names) * 2)
+        done = self.here("compare", "many.nwk", "--strike-file", self.file("struck.txt", "\n".join(names[:0:-1])))
+        self.assertIn(f"\nstruck: {', '.join(names[1:])}\n", done.stdout.decode())
+
+    def test_both_options(self) -> None:
+        """What both tell is struck, and what stands twice once; files add up."""
+        self.file("some.txt", "Azores\nFoula\n")
+        self.file("more.txt", "Foula\n")
+        expected = {"first": "feathers.nwk", "second": "wings.nwk"}
+        for options, words in ((["--strike", "Azores", "--strike-file", "more.txt"], "Azores Foula"),
+                               (["--strike-file", "some.txt", "--strike", "Foula", "--strike", "'Foula'"], "Azores Foula"),
+                               (["--strike-file", "more.txt", "--strike-file", "some.txt"], "Azores Foula"),
+                               (["--strike-file", "more.txt", "--strike-file", "more.txt"], "Foula"),
+                               (["--strike=Foula"], "Foula"), (["--strike-file=some.txt"], "Azores Foula")):
+            told = self.figures("feathers.nwk", "wings.nwk", *options)
+            self.assertEqual(told, {**expected, **figures_without(words.split())}, options)
+
+    def test_files(self) -> None:
+        """Comments, blank lines, Windows line ends, a byte order mark, no line end at the end; - is standard input."""
+        texts = ["Foula\nAzores", "# season 3\n\nFoula\n \t\n#Bute\nAzores\n\n", "Azores\r\n\r\n# x\r\nFoula\r\n",
+                 "Foula\n'Azores'\nFoula"]
+        expected = figures_without(["Azores", "Foula"])
+        for text in texts:
+            for content in (text.encode(), b"\xef\xbb\xbf" + text.encode(), text.encode("utf-16")):
+                told = self.figures("both.nwk", "--strike-file", self.file("struck.txt", content))
+                self.assertEqual(told | expected, told, text)
+                told = self.figures("both.nwk", "--strike-file", "-", stdin=content)
+                self.assertEqual(told | expected, told, text)
+        told = self.figures("-", "--strike-file", "struck.txt", stdin=FEATHERS + WINGS)
+        self.assertEqual(told | expected, told)
+        # what begins with # is a name in quotes, and blanks are of the name
+        self.file("signs.nwk", "('#a',' b',(c_d,e));" * 2)
+        told = self.figures("signs.nwk", "--strike-file", self.file("signs.txt", "#a\n'#a'\n b\nc_d\n"))
+        self.assertEqual((told["struck"], told["kept"]), ([" b", "#a", "c d"], 1))
+
+    def test_names_that_are_refused(self) -> None:
+        self.file("struck.txt", "Foula\nZeist\n")
+        self.file("more.nwk", "((Azores,Zeist),Bute,(Coll,Foula),(Lundy,Texel));")
+        for command, options in itertools.product(("compare", "against", "matrix"),
+                                                  (["--strike", "Zeist"], ["--strike-file", "struck.txt"])):
+            done = self.here(command, "feathers.nwk", "wings.nwk", *options)
+            self.assert_message(done, 1, "leskwyn: cannot strike 'Zeist': not a tip of every tree\n")
+            done = self.here(command, "feathers.nwk", "wings.nwk", "--strike", "Yell", *options)
+            self.assert_message(done, 1, "cannot strike 'Yell', 'Zeist': not tips of every tree\n")
+            done = self.here(command, "feathers.nwk", "more.nwk", "--common", *options)
+            self.assertEqual((done.returncode, done.stdout), (1, b""))
+            self.assertEqual(done.stderr.decode(), "leskwyn: left out of more.nwk: 'Zeist'\n"
+                                                   "leskwyn: cannot strike 'Zeist': not a tip of every tree\n")
+        for name, words in (("", "cannot strike '': not a tip"), ("foula", "cannot strike 'foula': not a tip"),
+                            ("a\nb", "cannot strike 'a\\nb': not a tip"), ("Foula ", "cannot strike 'Foula ': not a tip")):
+            self.assert_message(self.here("compare", "both.nwk", "--strike", name), 1, words)
+        done = self.here("compare", "-", "--strike", "Mo\u0308we", stdin="(M\u00f6we,B,C);" * 2)
+        self.assert_message(done, 1, "cannot strike 'Mo\u0308we'", "'M\u00f6we' differs only in Unicode form")
+
+    def test_common(self) -> None:
+        self.file("more.nwk", "((Azores,Zeist),Bute,(Coll,Foula),(Lundy,Texel));")
+        done = self.here("compare", "feathers.nwk", "more.nwk", "--common", "--strike", "Foula", "--format", "json")
+        self.assertEqual((done.returncode, done.stderr.decode()), (0, "leskwyn: left out of more.nwk: 'Zeist'\n" + self.NOTE))
+        told = json.loads(done.stdout)
+        self.assertEqual(told | figures_without(["Foula"]), told)
+
+    def test_comparison_files(self) -> None:
+        """By labels: Azores has 0 and Foula 3. A label that is not there is told with 32, after what is wrong with the tables."""
+        self.assertEqual(self.here("table", "both.nwk", "-o", "pair.bin", "--quiet").returncode, 0)
+        self.file("labels.txt", "# Foula\n3\n")
+        for options, words, labels in ((["--strike", "3"], "Foula", ["3"]), (["--strike-file", "labels.txt"], "Foula", ["3"]),
+                                       (["--strike-file", "labels.txt", "--strike", "0", "--tables"], "Azores Foula", ["0", "3"])):
+            told = self.figures("pair.bin", *options)
+            self.assertEqual(told | figures_without(words.split()) | {"names": [], "outgroup": "", "struck": labels}, told)
+        self.assertIn("\nstruck: 0, 3\n", self.here("compare", "pair.bin", *self.options("3 0")).stdout.decode())
+        for label, words in (("6", "refused 32: pair.bin: there is no label 6 to strike: the labels are 0 to 5"),
+                             ("Foula", "pair.bin: 'Foula' is no label: a comparison file has no names")):
+            self.assert_message(self.here("compare", "pair.bin", "--strike", label), 1, words)
+        for content, number in ((packed(P), 101), (packed(P, THREE), 8), (packed(P[:16] + [5] + P[17:], Q), 6), (packed(P, Q), 32)):
+            done = self.here("compare", "-", "--tables", "--strike", "9", stdin=content)
+            self.assert_message(done, 1, f"leskwyn: refused {number}: standard input: ")
+
+    def test_example_trees(self) -> None:
+        done = run_leskwyn("compare", "--strike", "Coll", cwd=self.folder)
+        self.assertIn(b"these are the example trees", done.stderr)
+        self.assertRegex(done.stdout, rb"(?s)\nstruck: Coll\n.*\ndistance +0   B \+ C \+ D\n")
+
+    def test_many(self) -> None:
+        """Feathers, wings and a star, without Foula: feathers part all five sets of four, wings three of them, and alike."""
+        star = self.file("star.nwk", star_text(NAMES))
+        trees = ["feathers.nwk", "wings.nwk", star]
+        for arguments, near, far, other, over in (([], 2, 5, 3, 5), (["--measure", "splits"], 1, 2, 1, None),
+                                                  (["--measure", "weighted", "--weight", "1/4"], 0.5, 1.25, 0.75, 5)):
+            square = [[0, near, far], [near, 0, other], [far, other, 0]]
+            for jobs, normalised in itertools.product(("1", "3"), (False, True)):
+                done = self.here("matrix", *trees, *arguments, "--strike", "Foula", "--jobs", jobs, *["--normalised"] * normalised)
+                self.assertEqual((done.returncode, done.stderr), (0, b"leskwyn: kept 5 of 6 populations; struck: Foula\n"))
+                told = [line.split("\t")[1:] for line in done.stdout.decode().removesuffix("\n").split("\n")[1:]]
+                # of splits: two of feathers, one of wings, none of the star
+                whole = [[over or (s + t or 1) for t in (2, 1, 0)] for s in (2, 1, 0)]
+                expected = [[a / b if normalised else a for a, b in zip(*rows)] for rows in zip(square, whole)]
+                self.assertEqual([[float(number) for number in row] for row in told], expected, arguments)
+        done = self.here("against", *trees, "--format", "json", "--strike", "Foula")
+        rows = [json.loads(line) for line in done.stdout.decode().removesuffix("\n").split("\n")]
+        keys = ["second", "distance", "normalised_distance", "robinson_foulds", "kept", "struck"]
+        self.assertEqual([[row[key] for key in keys] for row in rows],
+                         [["wings.nwk", 2, 2 / 5, 1, 5, ["Foula"]], [star, 5, 1.0, 2, 5, ["Foula"]]])
+        self.assertEqual(done.stderr.decode(), self.NOTE)
+
+    def test_a_square_of_triplets(self) -> None:
+        """It counts all populations, and standard error says so."""
+        plain, done = (self.here("matrix", "both.nwk", "--measure", "triplets", "--outgroup", "Azores", *options)
+                       for options in ([], self.options("Azores Coll")))
+        self.assertEqual((done.returncode, done.stdout, plain.stderr), (0, plain.stdout, b""))
+        self.assertEqual(done.stderr.decode(), "leskwyn: kept 4 of 6 populations; struck: Azores, Coll\n" + self.NOTE)
+
+    def test_wrong_usage(self) -> None:
+        self.file("struck.txt", "Foula\n")
+        for option in (["--strike", "Foula"], ["--strike-file", "struck.txt"], ["--strike-file", "absent"]):
+            for arguments in (["both.nwk", "--listing", *option], [*option, "--listing"]):
+                words = f"--listing and {option[0]} exclude each other: the proved program keeps all populations"
+                self.assert_message(self.here("compare", *arguments), 2, words, "leskwyn compare --help tells the usage")
+            for command, *words in (["why", "both.nwk", "Azores", "Bute", "Coll", "Lundy"], ["table", "both.nwk"], ["show", "x"]):
+                self.assert_message(self.here(command, *words, *option), 2, f"unrecognized arguments: {option[0]}",
+                                    f"leskwyn {command} --help tells the usage")
+        for command in ("compare", "matrix", "against"):
+            words = ["feathers.nwk", "wings.nwk"]
+            for arguments, told in ((["--strike"], "--strike: expected one argument"),
+                                    (["--strike-file", ""], "an empty file name"),
+                                    (["-", "--strike-file", "-"], "standard input can be read only once"),
+                                    (["--strike-file", "-", "--strike-file", "-"], "standard input can be read only once"),
+                                    (["--struck", "Foula"], "unrecognized arguments: --struck")):
+                done = self.here(command, *(words[:1] if "-" in arguments[:1] else words), *arguments)
+                self.assert_message(done, 2, told, f"leskwyn {command} --help tells the usage")
+            self.assert_message(self.here(command, *words, "--strike-file", "absent"), 2, "cannot read absent: No such file")
+            self.assert_message(self.here(command, *words, "--strike-file", "."), 2, "cannot read .: Is a directory")
+            done = self.here(command, *words, "--strike-file", self.file("latin", "M\u00f6we\n".encode("latin-1")))
+            self.assert_message(done, 1, "latin: not UTF-8 text, at byte 1 (line 1), 0xf6; save the file as UTF-8")
+
+    def test_before_there_is_a_library(self) -> None:
+        """A file that is not there is told, before the library is built."""
+        self.file("struck.txt", "Zeist\n")
+        for arguments, status in ((["--strike-file", "absent"], 2), (["--strike-file", "struck.txt", "--strike", "Yell"], 3)):
+            for command in ("compare", "matrix", "against"):
+                with inside(self.folder), contextlib.redirect_stderr(io.StringIO()) as said:
+                    done = commands.main([command, "feathers.nwk", "wings.nwk", *arguments], has_library=False)
+                self.assertEqual((done, "cannot read absent: " in said.getvalue()), (status, status == 2))
 
 
 class Refusals(TreesTest):
@@ -831,14 +1090,21 @@ class Pages(unittest.TestCase):
         self.assertEqual([line[4:] for line in shown], [line for line in done.stdout.decode().split("\n") if "weighted" in line])
 
     def test_refusals_on_the_commands_page(self) -> None:
-        """The lines of 6 and 31 for P with another label at node 6."""
+        """The lines of 6 and 31 for P with another label at node 6, and that of 32 for P and Q."""
         page = " ".join((ROOT / "docs/COMMANDS.md").read_text(encoding="utf-8").split())
         with tempfile.TemporaryDirectory() as folder:
-            for label, number in ((5, 6), (4, 31)):
+            for label, struck, told in ((5, "0", "refused 6: pair.bin: first tree: "),
+                                        (4, "0", "refused 31: pair.bin: first tree: "), (3, "7", "refused 32: pair.bin: ")):
                 (pathlib.Path(folder) / "pair.bin").write_bytes(packed(P[:16] + [label] + P[17:], Q))
-                message = run_leskwyn("compare", "pair.bin", cwd=folder).stderr.decode()
-                self.assertTrue(message.startswith(f"leskwyn: refused {number}: pair.bin: first tree: "), message)
+                message = run_leskwyn("compare", "pair.bin", "--strike", struck, cwd=folder).stderr.decode()
+                self.assertTrue(message.startswith(f"leskwyn: {told}"), message)
                 self.assertIn(f"`{message.rstrip()}`", page)
+
+    def test_struck_names_on_the_commands_page(self) -> None:
+        """What matrix says of them."""
+        page = (ROOT / "docs/COMMANDS.md").read_text(encoding="utf-8")
+        message = run_leskwyn("matrix", "examples/feathers.nwk", "examples/wings.nwk", "--strike", "Foula").stderr.decode()
+        self.assertIn(f"`{message.rstrip()}`", page)
 
     def test_pass_through_notes_on_the_commands_page(self) -> None:
         """What table says of a tree with one pass-through node, and of one with too many."""
@@ -868,7 +1134,7 @@ class Pages(unittest.TestCase):
     def test_every_key_is_told(self) -> None:
         text = (ROOT / "docs" / "COMMANDS.md").read_text(encoding="utf-8")
         self.assertEqual(re.findall(r"^\| `(\w+)` \|(?:.*\|){2}$", text.split("## Keys\n")[1].split("\n## ")[0], re.M),
-                         [*KEYS, *WEIGHTED_KEYS])
+                         [*KEYS, *WEIGHTED_KEYS, *STRUCK_KEYS])
 
     def test_every_key_of_why_is_told(self) -> None:
         text = (ROOT / "docs" / "COMMANDS.md").read_text(encoding="utf-8")

@@ -6,9 +6,10 @@
 
 Needs target/libleskwyn.so, or what LESKWYN_LIBRARY names, and the proved program. Figures are held to the program's listing,
 to a brute force over sets of four that looks at the edges of named trees, and to one over sets of three that climbs to their
-lowest common ancestors; the evidence for four tips to a search over all edges and all nodes; Robinson-Foulds distances to
-DendroPy and to ETE where they are installed.
+lowest common ancestors; where names are struck, over sets of four of trees that are cut down here; the evidence for four tips to a
+search over all edges and all nodes; Robinson-Foulds distances to DendroPy and to ETE where they are installed.
 """
+import ctypes
 import dataclasses
 import decimal
 import fractions
@@ -21,6 +22,7 @@ import os
 import pathlib
 import pickle
 import random
+import re
 import subprocess
 import sys
 import tempfile
@@ -36,7 +38,7 @@ from command_runs import CommandTest
 from cases import skips
 from cases.evidence import Witness, evidence, parted
 from cases.newick import Tree, random_names, random_tree, star_text, with_pass_through, written_tree
-from cases.pairs import split_counts
+from cases.pairs import climb, needed, split_counts
 from cases.quartets import OUTSIDE_PAIRS, REFERENCE_PAIRS, cases_by_pairs
 from cases.shapes import balanced, caterpillar, chained, randomly_chained, related_pair, star, unrelated_pair
 from cases.tables import LABEL_TROUBLE, NUMBERS, OUTSIDE, PASS_THROUGH, P, Q, REFERENCE, THREE, TWO, W, X, Table, damaged
@@ -54,6 +56,9 @@ FEATHERS, WINGS = ROOT / "examples" / "feathers.nwk", ROOT / "examples" / "wings
 TRIPLET_KEYS = ["same_triplets", "different_triplets", "first_only_triplets", "second_only_triplets", "neither_triplets"]
 
 WEIGHTED_KEYS = ["weight", "weighted_distance", "normalised_weighted_distance"]
+
+CASE_KEYS = ["same", "different", "first_only", "second_only", "neither"]
+SPLIT_KEYS = ["first_splits", "second_splits", "common_splits", "robinson_foulds"]
 
 
 def triplets_of(found: leskwyn.Comparison) -> list[int]:
@@ -81,6 +86,24 @@ def parting(sides: list[frozenset[str]], four: frozenset[str]) -> frozenset[froz
 
 def split_sets(sides: list[frozenset[str]], names: frozenset[str]) -> set[frozenset[frozenset[str]]]:
     return {frozenset([side, names - side]) for side in sides if 2 <= len(side) <= len(names) - 2}
+
+
+def cut_down(tree: Tree, kept: frozenset[str]) -> Tree:
+    """The tree with these names only: ends without one of them go, one after the other, and then nodes that join two others."""
+    left = Tree([])
+    left.name = {node: name for node, name in tree.name.items() if name in kept}
+    left.joined = {node: set(others) for node, others in tree.joined.items()}
+    todo = list(left.joined)
+    while todo:
+        node = todo.pop()
+        if node in left.joined and node not in left.name and len(left.joined[node]) <= 2:
+            ends = left.joined.pop(node)
+            for end in ends:
+                left.joined[end].remove(node)
+            if len(ends) == 2:
+                left.join(*ends)
+            todo += ends
+    return left
 
 
 def nodes_above(tree: Tree, outgroup: str) -> dict[str, list[int]]:
@@ -124,33 +147,36 @@ def weighted_figures(cases: list[int], of_four: int, weight: fractions.Fraction 
     return dict(zip(WEIGHTED_KEYS, [float(weight), distance, distance / of_four if of_four else 0.0]))
 
 
-def expected_figures(first: Tree, second: Tree, outgroup: str | None = None,
-                     weight: fractions.Fraction | None = None) -> dict[str, typing.Any]:
-    """All figures of the pair, by looking at every set of four and every set of three."""
+def expected_figures(first: Tree, second: Tree, outgroup: str | None = None, weight: fractions.Fraction | None = None,
+                     struck: typing.Collection[str] | None = None) -> dict[str, typing.Any]:
+    """All figures of the pair, by looking at every set of four and every set of three; sets of four and splits are those of the
+    trees without the struck names."""
     names = frozenset(first.name.values())
-    one, other = sides_of(first), sides_of(second)
+    kept = names - frozenset(struck or ())
+    one, other = (sides_of(cut_down(tree, kept) if struck else tree) for tree in (first, second))
     cases = [0] * 5
-    for four in map(frozenset, itertools.combinations(sorted(names), 4)):
+    for four in map(frozenset, itertools.combinations(sorted(kept), 4)):
         a, b = parting(one, four), parting(other, four)
         cases[(0 if a == b else 1) if a and b else 2 if a else 3 if b else 4] += 1
     same, different, first_only, second_only, neither = cases
     outgroup = min(names) if outgroup is None else outgroup
     triplets = triplet_cases(first, second, outgroup)
     of_three, triplet_distance = math.comb(len(names) - 1, 3), sum(triplets[1:4])
-    splits, others = split_sets(one, names), split_sets(other, names)
-    of_four, of_both = math.comb(len(names), 4), len(splits) + len(others)
+    splits, others = split_sets(one, kept), split_sets(other, kept)
+    of_four, of_both = math.comb(len(kept), 4), len(splits) + len(others)
     distance, robinson_foulds = different + first_only + second_only, len(splits ^ others)
+    order = [outgroup, *sorted(names - {outgroup})]
+    of_struck = {} if struck is None else {"kept": len(kept), "struck": [name for name in order if name in struck]}
     return {"tips": len(names), "sets_of_four": of_four, "same": same, "different": different, "first_only": first_only,
             "second_only": second_only, "neither": neither, "distance": distance,
             "normalised_distance": distance / of_four if of_four else 0.0, "first_splits": len(splits),
             "second_splits": len(others), "common_splits": len(splits & others), "robinson_foulds": robinson_foulds,
             "normalised_robinson_foulds": robinson_foulds / of_both if of_both else 0.0,
             "first_claims": 2 * (same + different + first_only), "second_claims": 2 * (same + different + second_only),
-            "same_claims": 2 * same, "different_claims": 4 * different, "names": [outgroup, *sorted(names - {outgroup})],
-            "outgroup": outgroup, "sets_of_three": of_three, **dict(zip(TRIPLET_KEYS, triplets)),
-            "triplet_distance": triplet_distance,
+            "same_claims": 2 * same, "different_claims": 4 * different, "names": order, "outgroup": outgroup,
+            "sets_of_three": of_three, **dict(zip(TRIPLET_KEYS, triplets)), "triplet_distance": triplet_distance,
             "normalised_triplet_distance": triplet_distance / of_three if of_three else 0.0,
-            **weighted_figures(cases, of_four, weight)}
+            **weighted_figures(cases, of_four, weight), **of_struck}
 
 
 def random_named_trees(rng: random.Random, n: int, count: int = 2) -> list[Tree]:
@@ -191,14 +217,16 @@ def in_ete(tree: Tree) -> typing.Any:
     return nodes_of(tree, lambda name: ete3.TreeNode(name=name or ""))
 
 
-class Figures(unittest.TestCase):
-    """The figures of named trees, by an enumeration that knows nothing of tables."""
-
+class FiguresTest(unittest.TestCase):
     def assert_figures(self, found: leskwyn.Comparison, first: Tree, second: Tree, outgroup: str | None = None,
-                       weight: fractions.Fraction | None = None) -> None:
+                       weight: fractions.Fraction | None = None, struck: typing.Collection[str] | None = None) -> None:
         told = found.as_dict()
         self.assertEqual({key: told[key] for key in told if key not in ("first", "second")},
-                         expected_figures(first, second, outgroup, weight))
+                         expected_figures(first, second, outgroup, weight, struck))
+
+
+class Figures(FiguresTest):
+    """The figures of named trees, by an enumeration that knows nothing of tables."""
 
     def test_random_trees(self) -> None:
         rng = random.Random(1)
@@ -1019,6 +1047,323 @@ class Why(unittest.TestCase):
         for text in ("(a,b);", "(a,(b,c));"):
             with self.assertRaisesRegex(leskwyn.Refusal, "'d' is not a tip of both trees|'c', 'd' are not tips"):
                 leskwyn.why(text, text, ["a", "b", "c", "d"])
+
+
+def tree_of(t: Table) -> Tree:
+    """The tree of a table, with labels for names."""
+    tree, m = Tree([]), t[1]
+    tree.name = {node: str(label) for node, label in enumerate(t[2 + m:]) if label != X}
+    for node in range(1, m):
+        tree.join(node, t[2 + node])
+    return tree
+
+
+class Struck(FiguresTest):
+    """Sets of four, splits and claims of kept tips are those of the trees that have only these; the triplets are those of all."""
+
+    def test_none_one_few_and_all(self) -> None:
+        """Of each pair none, one, few, all but three, all but one and all; by their names and by quoted words, in any order, twice;
+        in texts and in objects, with an outgroup and a weight or without."""
+        rng, kept = random.Random(30), set()
+        for case in range(48):
+            plain = random_named_trees(rng, 3 + case % 9)
+            trees = [with_pass_through(rng, tree, rng.randint(1, 8)) if case % 3 == 0 else tree for tree in plain]
+            texts, names = [written_tree(rng, tree) for tree in trees], sorted(plain[0].name.values())
+            for count in {0, 1, 2, len(names) // 2, len(names) - 3, len(names) - 1, len(names)}:
+                struck = rng.sample(names, count)
+                outgroup = rng.choice([None, *names])
+                with self.subTest(case=case, struck=struck, outgroup=outgroup, texts=texts):
+                    found = leskwyn.compare(*texts, struck=struck, outgroup=outgroup, weight="1/2")
+                    self.assert_figures(found, *trees, outgroup, fractions.Fraction(1, 2), struck)
+                    words = [rng.choice([name, "'" + name.replace("'", "''") + "'"]) for name in struck * 2]
+                    again = leskwyn.compare(*texts, struck=iter(words), outgroup=outgroup, weight="1/2")
+                    self.assertEqual(again, found)
+                    self.assert_figures(leskwyn.compare(*map(in_nodes, trees), struck=set(struck)), *trees, struck=struck)
+                    kept.add(found.kept)
+        self.assertEqual(kept, set(range(12)))
+
+    def test_every_set_of_names(self) -> None:
+        """With the first name, the outgroup at label 0, struck in half of them."""
+        rng, partings = random.Random(31), set()
+        for n in (4, 5, 6, 7):
+            trees = random_named_trees(rng, n)
+            texts, names = [written_tree(rng, tree) for tree in trees], sorted(trees[0].name.values())
+            for count in range(n + 1):
+                for struck in itertools.combinations(names, count):
+                    found = leskwyn.compare(*texts, struck=struck)
+                    self.assert_figures(found, *trees, struck=struck)
+                    partings.add((found.kept, names[0] in struck))
+        self.assertEqual(partings, {(k, at) for k in range(8) for at in (False, True)} - {(0, False), (7, True)})
+
+    def test_nothing_struck(self) -> None:
+        """All figures are those without marks, and only then is there a listing."""
+        rng = random.Random(32)
+        for case in range(20):
+            texts = [written_tree(rng, tree) for tree in random_named_trees(rng, 3 + case)]
+            found, plain = leskwyn.compare(*texts, struck=[]), leskwyn.compare(*texts)
+            self.assertEqual((found.struck, found.kept, plain.struck, plain.kept), ((), 3 + case, None, 3 + case))
+            self.assertEqual(dataclasses.replace(found, struck=None), plain)
+            self.assertEqual(found.as_dict(), plain.as_dict() | {"kept": 3 + case, "struck": []})
+            self.assertEqual(found.listing(), plain.listing())
+        for t, u in itertools.product((P, Q, W), repeat=2):
+            found = api.compare_file("file", packed(t, u), struck=[])
+            self.assertEqual(dataclasses.replace(found, struck=None), api.compare_file("file", packed(t, u)))
+        with self.assertRaisesRegex(ValueError, "^there is no listing of struck tips: the proved program keeps all$"):
+            leskwyn.compare(FEATHERS, WINGS, struck=["Foula"]).listing()
+
+    def test_fewer_than_four(self) -> None:
+        """Zero to three kept tips are accepted, with all counts 0."""
+        rng = random.Random(33)
+        trees = random_named_trees(rng, 9)
+        texts, names = [written_tree(rng, tree) for tree in trees], list(trees[0].name.values())
+        plain = leskwyn.compare(*texts)
+        for kept in range(4):
+            found = leskwyn.compare(*texts, struck=names[kept:], weight="full")
+            self.assertEqual((found.kept, len(found.struck), found.tips, found.sets_of_four), (kept, 9 - kept, 9, 0))
+            self.assertEqual({getattr(found, key) for key in (*CASE_KEYS, *SPLIT_KEYS, "distance", "first_claims", "second_claims",
+                                                              "same_claims", "different_claims", "weighted_distance",
+                                                              "normalised_distance", "normalised_robinson_foulds",
+                                                              "normalised_weighted_distance")}, {0})
+            self.assertEqual((triplets_of(found), found.sets_of_three), (triplets_of(plain), 56))
+        for text, struck in (("(a,b);", "a"), ("(a,b);", "ab"), ("(a,(b,c));", "b"), ("(a,(b,c));", "abc")):
+            found = leskwyn.compare(text, text, struck=list(struck))
+            self.assertEqual((found.kept, found.distance, found.first_splits), (found.tips - len(struck), 0, 0))
+
+    def test_splits_by_halves(self) -> None:
+        """By hand. With the outgroup x struck, two edges of one node may have all kept tips beyond them, parted alike: one split.
+        Each pair has its splits of the first tree, of the second, and of both."""
+        halves, comb, fork = "(x,(a,b),(c,d));", "(x,(a,(b,(c,d))));", "(x,((a,c),(b,d)));"
+        beyond_ab, beyond_cd = "((x,c,d),(a,b));", "((x,a,b),(c,d));"
+        for first, second, struck, counts in (
+                (halves, halves, "x", [1, 1, 1]), (halves, comb, "x", [1, 1, 1]), (halves, fork, "x", [1, 1, 0]),
+                (halves, star_text("xabcd"), "x", [1, 0, 0]), (beyond_ab, beyond_cd, "x", [1, 1, 1]),
+                (beyond_ab, halves, "x", [1, 1, 1]), (fork, comb, "x", [1, 1, 0]),
+                # with x kept the halves are two splits
+                (halves, halves, "", [2, 2, 2]), (beyond_ab, beyond_cd, "", [1, 1, 0]), (halves, comb, "", [2, 2, 1]),
+                # three edges or more at the node, of which two are left; further down; with pass-through nodes on both sides
+                ("(x,(a,b),(c,d),(y,z));", "(x,y,z,a,b,c,d);", "xyz", [1, 0, 0]),
+                ("(x,(a,b),(c,d),(y,z));", "(x,(y,((a,b),(z,(c,d)))));", "xyz", [1, 1, 1]),
+                ("(x,(y,(z,((((a,b))),(((c),d))))));", "(x,y,z,((a,c),(b,d)));", "xyz", [1, 1, 0]),
+                # halves of three and three, each with a split inside, and halves of two and three
+                ("(x,((a,b),c),((d,e),f));", "(x,(a,b),c,(d,e),f);", "x", [3, 2, 2]),
+                ("(x,((a,b),c),((d,e),f));", "((x,d,e,f),(a,b,c));", "x", [3, 1, 1]),
+                ("(x,(a,b),((c,d),e));", "(x,((a,b),(c,d,e)));", "x", [2, 1, 1]),
+                # no halves: three parts; two tips beside a part; one tip beside all others
+                ("(x,(a,b),(c,d),(e,f));", "(x,(a,b),(c,d,e,f));", "x", [3, 1, 1]),
+                ("(x,a,b,(c,d));", "(x,(a,b),c,d);", "x", [1, 1, 1]), ("(x,a,(b,c,d));", "(x,a,(b,(c,d)));", "x", [0, 1, 0])):
+            for pair, expected in (((first, second), counts), ((second, first), [counts[1], counts[0], counts[2]])):
+                with self.subTest(pair=pair, struck=struck):
+                    found = leskwyn.compare(*pair, outgroup="x", struck=list(struck))
+                    self.assertEqual([getattr(found, key) for key in SPLIT_KEYS],
+                                     [*expected, expected[0] + expected[1] - 2 * expected[2]])
+                    whole = expected[0] + expected[1]
+                    self.assertEqual(found.normalised_robinson_foulds, found.robinson_foulds / whole if whole else 0.0)
+                    self.assertEqual(found.distance == 0, found.robinson_foulds == 0)
+
+    def test_no_distance_means_the_same_splits(self) -> None:
+        """Of kept tips: a caterpillar with tips moved, as these are struck."""
+        names = [f"t{i:02}" for i in range(30)]
+        moved = [names[7], *names[:7], *names[8:19], *names[20:], names[19]]
+        texts = ["".join(f"({name}," for name in order[:-1]) + order[-1] + ")" * 29 + ";" for order in (names, moved)]
+        for words, is_same in (("", False), ("t07", False), ("t19", False), ("t07 t19", True), ("t07 t19 t00", True)):
+            struck = words.split()
+            found = leskwyn.compare(*texts, struck=struck)
+            self.assertEqual((found.distance == 0, found.robinson_foulds == 0), (is_same, is_same))
+            self.assertEqual((found.first_splits, found.sets_of_four), (27 - len(struck), math.comb(30 - len(struck), 4)))
+
+    def test_large_trees(self) -> None:
+        """The figures of the texts without the struck names, where those are counted with all kept; by hand at 256 tips."""
+        rng = random.Random(34)
+        for n, count in ((40, 1), (60, 25), (120, 60), (120, 116), (256, 1), (256, 128)):
+            names = [f"t{i:03}" for i in range(n)]
+            trees = [random_tree(rng, names, polytomies) for polytomies in (0.1, 0.5)]
+            struck = rng.sample(names, count)
+            kept = frozenset(names) - set(struck)
+            found = leskwyn.compare(*(written_tree(rng, tree) for tree in trees), struck=struck)
+            plain = leskwyn.compare(*(written_tree(rng, cut_down(tree, kept)) for tree in trees))
+            for key in (*CASE_KEYS, *SPLIT_KEYS, "distance", "sets_of_four", "normalised_distance", "normalised_robinson_foulds",
+                        "first_claims", "second_claims", "same_claims", "different_claims"):
+                self.assertEqual(getattr(found, key), getattr(plain, key), (n, count, key))
+            self.assertEqual((found.kept, found.tips, found.sets_of_three), (plain.tips, n, math.comb(n - 1, 3)))
+        worm, fan = caterpillar(256), star(256)
+        for struck in ([0], [255], range(0, 256, 2), range(3, 256), range(128)):
+            k, labels = 256 - len(struck), list(map(str, struck))
+            same = api.compare_file("file", packed(worm, worm), struck=labels)
+            self.assertEqual((same.same, same.distance, same.common_splits), (math.comb(k, 4), 0, max(0, k - 3)))
+            other = api.compare_file("file", packed(worm, fan), struck=labels)
+            self.assertEqual((other.first_only, other.distance, other.robinson_foulds, triplets_of(other)),
+                             (math.comb(k, 4), math.comb(k, 4), max(0, k - 3), [0, 0, math.comb(255, 3), 0, 0]))
+
+    def test_squares_and_rows(self) -> None:
+        """With each measure, on any number of threads; the triplet distance is that of all tips."""
+        rng = random.Random(35)
+        trees = random_named_trees(rng, 10, 6)
+        texts, names = [written_tree(rng, tree) for tree in trees], sorted(trees[0].name.values())
+        for struck in ([], names[:1], names[2:5], names[3:], names[1:], names):
+            figures = [[expected_figures(t, u, weight=fractions.Fraction(1, 4), struck=struck) for u in trees] for t in trees]
+            for measure, key in (("quartet", "distance"), ("splits", "robinson_foulds"), ("triplets", "triplet_distance"),
+                                 ("weighted", "weighted_distance")):
+                for normalised, jobs in itertools.product((False, True), (1, 3)):
+                    expected = [[pair[f"normalised_{key}" if normalised else key] for pair in row] for row in figures]
+                    found = leskwyn.matrix(texts, measure=measure, normalised=normalised, jobs=jobs, struck=struck,
+                                           weight=0.25 if measure == "weighted" else None)
+                    self.assertEqual(found, expected, (measure, normalised, struck))
+            for jobs in (1, 3):
+                rows = leskwyn.against(texts[0], texts[1:], struck=reversed(struck), weight="1/4", jobs=jobs)
+                self.assertEqual([{**row.as_dict(), "first": "", "second": ""} for row in rows],
+                                 [{"first": "", "second": "", **pair} for pair in figures[0][1:]])
+
+    def test_names(self) -> None:
+        """By the name, or as the word that stands for it in Newick text; the name goes first. They are told in the order of labels.
+        """
+        text = "((a_b,'a_b'),('it''s',(c,M\u00f6we)));"
+        for struck, told in ((["c", "a_b"], ("a_b", "c")), (["'a_b'", "c", "c"], ("a_b", "c")), (["a b"], ("a b",)),
+                             (["'it''s'", "'a b'", "a b"], ("a b", "it's")), ((), ()), ({"c": 1}, ("c",))):
+            self.assertEqual(leskwyn.compare(text, text, struck=struck).struck, told)
+        self.assertEqual(leskwyn.compare(text, text, struck=["a_b", "c"], outgroup="c").struck, ("c", "a_b"))
+        self.assertEqual(leskwyn.compare("((1,2),(3,4));", "(1,2,3,4);", struck=(4, 2)).struck, ("2", "4"))
+
+    def test_names_that_are_no_tips(self) -> None:
+        text = "((a_b,'a_b'),('it''s',(c,M\u00f6we)));"
+        calls = [lambda struck: leskwyn.compare(text, text, struck=struck),
+                 lambda struck: leskwyn.against(text, [text], struck=struck),
+                 lambda struck: leskwyn.matrix([text, text], struck=struck)]
+        for names, words in ((["x"], "^cannot strike 'x': not a tip of every tree$"),
+                             (["c", "x", "'y'", "x"], "^cannot strike 'x', ''y'': not tips of every tree$"),
+                             (["C"], "^cannot strike 'C': not a tip"), ([""], "^cannot strike '': not a tip"),
+                             (["c "], "^cannot strike 'c ': not a tip"), ([7], "^cannot strike '7': not a tip"),
+                             ([f"x{i:02}" for i in range(23)], "'x00', .*'x19' and 3 more: not tips of every tree$"),
+                             (["Mo\u0308we"], "every tree; 'M\u00f6we' differs only in Unicode form: save both files in one form")):
+            for call in calls:
+                with self.subTest(names=names), self.assertRaisesRegex(leskwyn.Refusal, words) as raised:
+                    call(names)
+                self.assertIsNone(raised.exception.number)
+        for call in calls:
+            with self.assertRaisesRegex(TypeError, "^struck is a str; names are needed, as a list$"):
+                call("abc")
+            with self.assertRaises(TypeError):
+                call(7)
+
+    def test_common(self) -> None:
+        """What --common leaves out is no tip that can be struck."""
+        pair = ["((a,b),(c,d),(e,x));", "((a,c),(b,d),(e,(y,z)));"]
+        found = leskwyn.compare(*pair, common=True, struck=["e"])
+        self.assertEqual((found.names, found.struck, found.kept, found.different), (("a", "b", "c", "d", "e"), ("e",), 4, 1))
+        with self.assertRaisesRegex(leskwyn.Refusal, "^cannot strike 'x': not a tip of every tree$"):
+            leskwyn.compare(*pair, common=True, struck=["e", "x"])
+        with self.assertRaisesRegex(leskwyn.Refusal, "the trees have different tips"):
+            leskwyn.compare(*pair, struck=["x", "y", "z"])
+
+    def test_comparison_files(self) -> None:
+        """Labels are struck, and told in their order; the figures are those of trees with labels for names."""
+        rng = random.Random(36)
+        for case in range(40):
+            t, u = rng.choice([related_pair, unrelated_pair])(rng, 4 + case % 9)
+            t, u = (randomly_chained(rng, t), u) if case % 2 else (t, randomly_chained(rng, u))
+            labels = rng.sample(range(t[0]), rng.randint(0, t[0]))
+            found = api.compare_file("file", packed(t, u), struck=[f"{label:02}" for label in labels * 2])
+            expected = expected_figures(tree_of(t), tree_of(u), outgroup="0", struck=list(map(str, labels)))
+            expected |= {"names": [], "outgroup": "", "struck": [str(label) for label in sorted(labels)]}
+            self.assertEqual(found.as_dict(), {"first": "file, first tree", "second": "file, second tree", **expected})
+        path = ROOT / "examples" / "p-q.bin"
+        # P and Q without label 0: (1,(2,(3,4))) and (1,(2,3,4)), of which P alone parts the four
+        found = leskwyn.compare(path, struck=[0])
+        self.assertEqual((found.struck, found.kept, found.first_only), (("0",), 4, 1))
+        self.assertEqual((found.first_splits, found.second_splits), (1, 0))
+        self.assertEqual(leskwyn.compare(path, struck=["1", 0, "01"]).struck, ("0", "1"))
+        for labels, number, words in (([5], 32, "there is no label 5 to strike: the labels are 0 to 4"),
+                                      ([1, 9, 5, 9], 32, "there is no label 5, 9 to strike: the labels are 0 to 4"),
+                                      ([99999], 32, "there is no label 99999 to strike: the labels are 0 to 4"),
+                                      (range(30), 32, "label 5, 6, .*, 24 and 5 more to strike: the labels are 0 to 4"),
+                                      ([-1], None, "'-1' is no label: a comparison file has no names"),
+                                      (["P", 100000], None, "'P', '100000' are no labels: a comparison file has no names")):
+            with self.subTest(labels=labels), self.assertRaises(leskwyn.Refusal) as raised:
+                leskwyn.compare(path, struck=labels)
+            self.assertEqual(raised.exception.number, number)
+            self.assertRegex(raised.exception.reason, f"^{re.escape(str(path))}: .*{words}")
+
+    def test_broken_tables(self) -> None:
+        """The number of the pair comes before 32."""
+        for content, number in ((packed(P[:-1]), 4), (packed(P), 101), (b"", 1), (packed(P, THREE), 8), (packed(P, Q), 32),
+                                *((packed(t, Q), number) for t, number in LABEL_TROUBLE),
+                                *((packed(Q, t), 100 + number) for t, number in LABEL_TROUBLE)):
+            with self.assertRaises(leskwyn.Refusal) as raised:
+                api.compare_file("file", content, struck=["9"])
+            self.assertEqual(raised.exception.number, number)
+
+
+def marked(*marks: int) -> _library.Marks:
+    return _library.Marks((ctypes.c_uint8 * max(1, len(marks)))(*marks), len(marks))
+
+
+def kept_crossings(t: Table, u: Table, marks: typing.Sequence[int]) -> list[int]:
+    """How many kept labels lie beyond two edges, for all pairs of them."""
+    cells = [0] * needed(t, u)
+    for label, mark in enumerate(marks):
+        for i, j in itertools.product(climb(t, label), climb(u, label)):
+            cells[(i - 1) * (u[1] - 1) + j - 1] += mark
+    return cells
+
+
+class LibraryMarks(unittest.TestCase):
+    """What the library does with marks: the cells, the order of refusals, and what a refused call leaves."""
+
+    CALLS = {"claims": _library.claim_sums, "quartets": _library.quartet_table, "splits": _library.split_counts,
+             "weighted": lambda *given: _library.weighted_distance(*given, weights.PART, 0.5),
+             "wrong weight": lambda *given: _library.weighted_distance(*given, weights.PART, 0.3)}
+
+    def asked(self, name: str, t: Table, u: Table, marks: _library.Marks, cells: int) -> tuple[list[typing.Any], list[int]]:
+        """All fields of an answer, and the cells, which hold 9000, 9001, .. before."""
+        lent = (ctypes.c_uint16 * cells)(*range(9000, 9000 + cells))
+        answer = self.CALLS[name](_library.words(t), _library.words(u), marks, lent)
+        return [getattr(answer, field) for field, _ in answer._fields_], list(lent)
+
+    def test_cells(self) -> None:
+        """They hold the kept labels beyond both edges, and later cells stay; after the triplet table they hold all labels."""
+        rng = random.Random(37)
+        for case in range(60):
+            t, u = rng.choice([related_pair, unrelated_pair])(rng, 2 + case % 12)
+            marks = [1] * t[0] if case % 5 == 0 else [0] * t[0] if case % 5 == 1 else [rng.randint(0, 1) for _ in range(t[0])]
+            size = needed(t, u)
+            for name in ("claims", "quartets", "splits", "weighted"):
+                answer, cells = self.asked(name, t, u, marked(*marks), size + 2)
+                self.assertEqual((answer[0], cells), (0, [*kept_crossings(t, u, marks), 9000 + size, 9001 + size]), name)
+            lent = _library.work(size)
+            self.assertEqual(_library.triplet_table(_library.words(t), _library.words(u), lent).refusal, 0)
+            self.assertEqual(list(lent), kept_crossings(t, u, [1] * t[0]))
+
+    def test_refusals(self) -> None:
+        """Those of the pair, then 32, then 9, then 30: a refused call answers zeros, and every cell stays."""
+        good, numbers = [marked(1, 1, 1, 1, 1), marked(0, 0, 0, 0, 0), marked(1, 0, 1, 0, 1)], set()
+        wrong = [marked(), marked(1), marked(1, 1, 1, 1), marked(1, 1, 1, 1, 1, 1), marked(*[1] * 256), marked(2, 1, 1, 1, 1),
+                 marked(1, 1, 1, 1, 2), marked(0, 0, 255, 0, 0), marked(1, 1, 128, 1, 1)]
+        pairs = [(P, Q, 0), (P, THREE, 8), (THREE, P, 8), (P[:-1], Q, 4), (P, Q[:-1], 104), ([], P, 1), (P, [], 101)]
+        for (t, u, number), marks, cells, name in itertools.product(pairs, good + wrong, (1, 41, 42, 43), self.CALLS):
+            expected = number or (32 if marks in wrong else 9 if cells < 42 else 30 if name == "wrong weight" else 0)
+            answer, left = self.asked(name, t, u, marks, cells)
+            self.assertEqual(answer[0], expected, (t, u, marks.count, cells, name))
+            if expected:
+                self.assertEqual((set(answer[1:]), left), ({0}, list(range(9000, 9000 + cells))))
+            numbers.add(expected)
+        self.assertEqual(numbers, {0, 1, 4, 8, 9, 30, 32, 101, 104})
+
+    def test_reasons(self) -> None:
+        for marks, words in ((marked(), "0 marks for 5 labels; each label has one"),
+                             (marked(1), "1 mark for 5 labels; each label has one"),
+                             (marked(1, 1, 1, 1, 1, 1), "6 marks for 5 labels; each label has one"),
+                             (marked(1, 0, 1, 1, 1, 0), "there is no label 5 to strike: the labels are 0 to 4"),
+                             (marked(1, 0, 3, 2, 1), "the mark of label 2 is 3, neither 1, kept, nor 0, struck")):
+            for measure in (counting.quartet_distance, counting.splits_distance, counting.weighted_by(weights.Weight(1, 1.0))):
+                with self.assertRaises(leskwyn.Refusal) as raised:
+                    measure(_library.words(P), _library.words(Q), marks, _library.work(42), False)
+                self.assertEqual(str(raised.exception), f"refused 32: {words}")
+
+    def test_marks_of_labels(self) -> None:
+        for tips, struck, expected in ((3, (), [1, 1, 1]), (3, [0], [0, 1, 1]), (3, [2, 0, 2], [0, 1, 0]), (0, (), []),
+                                       (2, [3], [1, 1, 1, 0]), (2, range(2), [0, 0])):
+            marks = _library.marks(tips, struck)
+            self.assertEqual((marks.cells[:marks.count], marks.kept()), (expected, sum(expected)))
+            self.assertGreaterEqual(len(marks.cells), 1)
 
 
 class Weights(unittest.TestCase):

@@ -7,7 +7,7 @@ import ctypes
 import functools
 import os
 import typing
-from collections.abc import Sequence
+from collections.abc import Collection, Sequence
 
 from leskwyn.errors import Trouble
 
@@ -44,15 +44,16 @@ class Evidence(ctypes.Structure):
 
 
 class PairCall(typing.NamedTuple):
-    """A call of two tables and the work: its answer, and what it takes besides."""
+    """A call of two tables and the work: its answer, whether it takes marks between them, and what it takes besides."""
     answer: type[ctypes.Structure]
+    is_marked: bool = True
     besides: list[typing.Any] = []
 
 
 Answer = typing.TypeVar("Answer", ClaimSums, QuartetTable, SplitCounts, TripletTable, WeightedDistance)
 PAIR_CALLS = {"leskwyn_claim_sums": PairCall(ClaimSums), "leskwyn_quartet_table": PairCall(QuartetTable),
-              "leskwyn_split_counts": PairCall(SplitCounts), "leskwyn_triplet_table": PairCall(TripletTable),
-              "leskwyn_weighted_distance": PairCall(WeightedDistance, [ctypes.c_uint16, ctypes.c_double])}
+              "leskwyn_split_counts": PairCall(SplitCounts), "leskwyn_triplet_table": PairCall(TripletTable, is_marked=False),
+              "leskwyn_weighted_distance": PairCall(WeightedDistance, besides=[ctypes.c_uint16, ctypes.c_double])}
 
 
 class Words(typing.NamedTuple):
@@ -63,6 +64,22 @@ class Words(typing.NamedTuple):
 
 def words(table: Sequence[int]) -> Words:
     return Words((ctypes.c_uint16 * max(1, len(table)))(*table), len(table))
+
+
+class Marks(typing.NamedTuple):
+    """A mark for each label, 1 kept and 0 struck, where the library can read them; there is a cell even where there is no mark."""
+    cells: ctypes.Array[ctypes.c_uint8]
+    count: int
+
+    def kept(self) -> int:
+        return sum(self.cells[:self.count])
+
+
+def marks(tips: int, struck: Collection[int] = ()) -> Marks:
+    """The marks of so many labels, of which some are struck. A struck label that is not there gets a mark too, so that the library
+    refuses it."""
+    count, held = max([tips, *(label + 1 for label in struck)]), set(struck)
+    return Marks((ctypes.c_uint8 * max(1, count))(*(label not in held for label in range(count))), count)
 
 
 def work_cells(first: Words, second: Words) -> int:
@@ -94,11 +111,14 @@ def library() -> ctypes.CDLL:
                       "name another")
     try:
         found = ctypes.CDLL(os.path.abspath(path))
-        slices = [ctypes.POINTER(ctypes.c_uint16), ctypes.c_size_t] * 3
-        for name, (answer, besides) in PAIR_CALLS.items():
+        slice_of_words = [ctypes.POINTER(ctypes.c_uint16), ctypes.c_size_t]
+        slice_of_marks = [ctypes.POINTER(ctypes.c_uint8), ctypes.c_size_t]
+        for name, (answer, is_marked, besides) in PAIR_CALLS.items():
             call = getattr(found, name)
-            call.argtypes, call.restype = slices + besides, answer
-        found.leskwyn_evidence.argtypes, found.leskwyn_evidence.restype = slices[:4] + [ctypes.c_uint16] * 4, Evidence
+            call.argtypes = slice_of_words * 2 + slice_of_marks * is_marked + slice_of_words + besides
+            call.restype = answer
+        found.leskwyn_evidence.argtypes = slice_of_words * 2 + [ctypes.c_uint16] * 4
+        found.leskwyn_evidence.restype = Evidence
         found.leskwyn_version.argtypes, found.leskwyn_version.restype = [], ctypes.c_uint32
     except (OSError, AttributeError) as error:
         raise Trouble(f"cannot load the library {path}: {error}") from None
@@ -109,34 +129,36 @@ def library() -> ctypes.CDLL:
     return found
 
 
-def ask(name: str, answer: type[Answer], first: Words, second: Words, lent: Cells, *besides: object) -> Answer:
+def ask(name: str, answer: type[Answer], first: Words, second: Words, marked: Marks | None, lent: Cells,
+        *besides: object) -> Answer:
     call: typing.Callable[..., Answer] = getattr(library(), name)
-    return call(first.cells, first.count, second.cells, second.count, lent, len(lent), *besides)
+    return call(*first, *second, *(marked or ()), lent, len(lent), *besides)
 
 
-def claim_sums(first: Words, second: Words, lent: Cells) -> ClaimSums:
-    """The claim sums S, S', S2 and S3, or a refusal."""
-    return ask("leskwyn_claim_sums", ClaimSums, first, second, lent)
+def claim_sums(first: Words, second: Words, marked: Marks, lent: Cells) -> ClaimSums:
+    """The claim sums S, S', S2 and S3 of kept labels, or a refusal."""
+    return ask("leskwyn_claim_sums", ClaimSums, first, second, marked, lent)
 
 
-def quartet_table(first: Words, second: Words, lent: Cells) -> QuartetTable:
-    """The five counts A to E and the distance, or a refusal."""
-    return ask("leskwyn_quartet_table", QuartetTable, first, second, lent)
+def quartet_table(first: Words, second: Words, marked: Marks, lent: Cells) -> QuartetTable:
+    """The five counts A to E of sets of four kept labels and the distance, or a refusal."""
+    return ask("leskwyn_quartet_table", QuartetTable, first, second, marked, lent)
 
 
-def split_counts(first: Words, second: Words, lent: Cells) -> SplitCounts:
-    """The splits of each tree, those of both, and the Robinson-Foulds distance, or a refusal."""
-    return ask("leskwyn_split_counts", SplitCounts, first, second, lent)
+def split_counts(first: Words, second: Words, marked: Marks, lent: Cells) -> SplitCounts:
+    """The splits of kept labels of each tree, those of both, and the Robinson-Foulds distance, or a refusal."""
+    return ask("leskwyn_split_counts", SplitCounts, first, second, marked, lent)
 
 
 def triplet_table(first: Words, second: Words, lent: Cells) -> TripletTable:
-    """The five counts A to E of sets of three without the outgroup, label 0, and the triplet distance, or a refusal."""
-    return ask("leskwyn_triplet_table", TripletTable, first, second, lent)
+    """The five counts A to E of sets of three without the outgroup, label 0, and the triplet distance, or a refusal. All labels
+    count."""
+    return ask("leskwyn_triplet_table", TripletTable, first, second, None, lent)
 
 
-def weighted_distance(first: Words, second: Words, lent: Cells, kind: int, fraction: float) -> WeightedDistance:
-    """The weighted distance B + p (C + D) under the weight of that kind and fraction, or a refusal."""
-    return ask("leskwyn_weighted_distance", WeightedDistance, first, second, lent, kind, fraction)
+def weighted_distance(first: Words, second: Words, marked: Marks, lent: Cells, kind: int, fraction: float) -> WeightedDistance:
+    """The weighted distance B + p (C + D) of sets of four kept labels under the weight of that kind and fraction, or a refusal."""
+    return ask("leskwyn_weighted_distance", WeightedDistance, first, second, marked, lent, kind, fraction)
 
 
 def evidence(first: Words, second: Words, labels: Sequence[int]) -> Evidence:

@@ -6,15 +6,15 @@ from leskwyn.counting import Number
 from leskwyn.errors import Refusal
 from leskwyn.evidence import Evidence
 from leskwyn.figures import Comparison
-from leskwyn.labels import labels_given, labels_of_tips, outgroup_first
+from leskwyn.labels import labels_given, labels_of_tips, labels_struck, outgroup_first
 from leskwyn.sources import ComparisonFile, Given, is_comparison_file, named_file, trees_given, trees_of_bytes
 from leskwyn.tables import tables_of_file
 from leskwyn.trees import Placed, checked, labels_of_names, pruned, table_of
 from leskwyn.weights import GivenWeight, Weight, weight_of
 
 
-def compare(a: Given, b: Given = None, *, common: bool = False, outgroup: str | None = None,
-            weight: GivenWeight = None) -> Comparison:
+def compare(a: Given, b: Given = None, *, common: bool = False, outgroup: str | None = None, weight: GivenWeight = None,
+            struck: Iterable[str | int] | None = None) -> Comparison:
     """The figures of two trees, as a Comparison.
 
     Each of `a` and `b` is Newick text, the path of a Newick or NEXUS file (an os.PathLike, or a str that names a file that
@@ -26,6 +26,10 @@ def compare(a: Given, b: Given = None, *, common: bool = False, outgroup: str | 
     weighted distance B + p (C + D) is told: 'none', 'full', or a number or text that is k/256 with a k from 0 to 256, as 0.5
     and '1/2'.
 
+    The names in `struck` are struck from the count, for a comparison file the labels: sets of four and splits are those of the
+    kept tips, as if the struck ones were cut off both trees. A name that stands twice is struck once, and any number of tips may
+    be struck. The triplets count all tips.
+
     Raises Refusal for trees that are turned away, and Trouble for a file that cannot be read; both have `number` and
     `reason`. Raises ValueError for a weight that is none of these.
 
@@ -33,50 +37,54 @@ def compare(a: Given, b: Given = None, *, common: bool = False, outgroup: str | 
         1
         >>> leskwyn.compare("((a,b),(c,d));", "(a,b,c,d);", weight="1/2").weighted_distance
         0.5
+        >>> leskwyn.compare("((a,b),(c,(d,e)));", "((a,b),(d,(c,e)));", struck=["e"]).distance
+        0
     """
-    given, pair = optional_weight(weight), pair_given(a, b, outgroup)
+    given, words, pair = optional_weight(weight), struck_words(struck), pair_given(a, b, outgroup)
     if isinstance(pair, ComparisonFile):
-        return compare_file(*pair, given)
-    return compare_trees(*pair, common=common, outgroup=outgroup, weight=given)
+        return compare_file(*pair, given, words)
+    return compare_trees(*pair, common=common, outgroup=outgroup, weight=given, struck=words)
 
 
 def against(reference: Given, trees: Iterable[Given], *, common: bool = False, jobs: int | None = None,
-            outgroup: str | None = None, weight: GivenWeight = None) -> list[Comparison]:
+            outgroup: str | None = None, weight: GivenWeight = None,
+            struck: Iterable[str | int] | None = None) -> list[Comparison]:
     """The figures of one tree against each of many, in their order; the reference is the first tree of each Comparison.
 
     A tree is given as to compare; a file or a text may hold several. `jobs` is the number of threads, by default one for
-    each processor. `outgroup` and `weight` are as for compare.
+    each processor. `outgroup`, `weight` and `struck` are as for compare.
     """
-    given = optional_weight(weight)
+    given, words = optional_weight(weight), struck_words(struck)
     held = trees_given(reference, "the reference", 1) + all_trees(trees)
     held, names = same_names(held, common, outgroup)
     labels = labels_of_names(names)
     placed = [(tree.place, table_of(tree.tree, labels)) for tree in held]
-    return counting.compared_to_one(placed[0], placed[1:], names, threads(jobs), weight=given)
+    return counting.compared_to_one(placed[0], placed[1:], names, threads(jobs), weight=given, struck=optional_struck(words, names))
 
 
 def matrix(trees: Iterable[Given], *, measure: str = "quartet", normalised: bool = False, common: bool = False,
-           jobs: int | None = None, outgroup: str | None = None, weight: GivenWeight = None) -> list[list[Number]]:
+           jobs: int | None = None, outgroup: str | None = None, weight: GivenWeight = None,
+           struck: Iterable[str | int] | None = None) -> list[list[Number]]:
     """The distances of all pairs of trees: a square of numbers, row i and column j for the trees i and j.
 
     A tree is given as to compare; a file or a text may hold several. `measure` is 'quartet' for the quartet distance,
     'splits' for the Robinson-Foulds distance, 'triplets' for the triplet distance or 'weighted' for the weighted quartet
     distance, which takes a `weight`; with `normalised` it is divided by all sets of four, by the splits of both trees, or by
-    all sets of three without the outgroup. `jobs` is the number of threads, by default one for each processor. `outgroup`
-    and `weight` are as for compare.
+    all sets of three without the outgroup. `jobs` is the number of threads, by default one for each processor. `outgroup`,
+    `weight` and `struck` are as for compare; the triplet distance counts all tips.
 
         >>> leskwyn.matrix(["((a,b),(c,d));", "((a,c),(b,d));", "(a,b,c,d);"])
         [[0, 1, 1], [1, 0, 1], [1, 1, 0]]
     """
     if measure not in counting.MEASURES:
         raise ValueError(f"measure is {measure!r}, not one of {', '.join(map(repr, counting.MEASURES))}")
-    given, fault = optional_weight(weight), counting.wrong_weight(measure, weight)
+    given, fault, words = optional_weight(weight), counting.wrong_weight(measure, weight), struck_words(struck)
     if fault:
         raise ValueError(fault)
     held, names = same_names(all_trees(trees), common, outgroup)
     labels = labels_of_names(names)
     tables = [table_of(tree.tree, labels) for tree in held]
-    return counting.distances(tables, measure, normalised, threads(jobs), weight=given)
+    return counting.distances(tables, measure, normalised, threads(jobs), weight=given, struck=optional_struck(words, names))
 
 
 def why(a: Given, b: Given, names: Iterable[str | int], *, common: bool = False, outgroup: str | None = None) -> Evidence:
@@ -120,20 +128,32 @@ def optional_weight(weight: GivenWeight) -> Weight | None:
     return None if weight is None else weight_of(weight)
 
 
+def struck_words(struck: Iterable[str | int] | None) -> list[str] | None:
+    """The names or labels that are struck, as text."""
+    if isinstance(struck, str):
+        raise TypeError("struck is a str; names are needed, as a list")
+    return None if struck is None else [str(name) for name in struck]
+
+
+def optional_struck(words: Sequence[str] | None, names: list[str]) -> list[int] | None:
+    return None if words is None else labels_struck(words, names)
+
+
 def compare_trees(first: Placed, second: Placed, *, common: bool = False, outgroup: str | None = None,
-                  weight: Weight | None = None) -> Comparison:
+                  weight: Weight | None = None, struck: Sequence[str] | None = None) -> Comparison:
     (first, second), names = same_names([first, second], common, outgroup)
     labels = labels_of_names(names)
     tables = [_library.words(table_of(placed.tree, labels)) for placed in (first, second)]
-    return counting.compared((first.place, second.place), tables[0], tables[1], names, weight)
+    return counting.compared((first.place, second.place), tables[0], tables[1], names, weight, optional_struck(struck, names))
 
 
-def compare_file(place: str, content: bytes, weight: Weight | None = None) -> Comparison:
-    """The figures of a comparison file of any length."""
+def compare_file(place: str, content: bytes, weight: Weight | None = None, struck: Sequence[str] | None = None) -> Comparison:
+    """The figures of a comparison file of any length, without the labels that are struck."""
     first, second = tables_of_file(place, content)
     try:
+        labels = None if struck is None else sorted(set(labels_given(struck)))
         return counting.compared((f"{place}, first tree", f"{place}, second tree"), _library.words(first),
-                                 _library.words(second), (), weight)
+                                 _library.words(second), (), weight, labels)
     except Refusal as refusal:
         raise Refusal(f"{place}: {refusal.reason}", refusal.number) from None
 

@@ -12,14 +12,14 @@ from collections.abc import Callable
 
 from leskwyn import __version__, counting, files, text
 from leskwyn._library import TOP
-from leskwyn.api import compare_file, compare_trees, why_file, why_trees
+from leskwyn.api import compare_file, compare_trees, optional_struck, why_file, why_trees
 from leskwyn.errors import LeskwynError, Refusal, Trouble, counted, quoted
 from leskwyn.figures import Comparison
 from leskwyn.labels import outgroup_first
 from leskwyn.sources import ComparisonFile, is_comparison_file, trees_of_bytes, trees_of_path
 from leskwyn.trees import Placed, checked, labels_of_names, table_of
-from leskwyn.usage import Parser, ProgressLine, Usage, add_common, add_jobs, add_outgroup, add_weight, with_common
-from leskwyn.weights import Weight
+from leskwyn.usage import (Parser, ProgressLine, Usage, add_common, add_jobs, add_outgroup, add_strike, add_weight, struck_names,
+                           with_common)
 
 HELP = """\
 usage: leskwyn COMMAND [OPTION...] [FILE...]
@@ -72,7 +72,7 @@ def pair_read(parser: Parser, options: argparse.Namespace) -> list[Placed] | Com
 
 def compare_parser() -> Parser:
     parser = Parser("compare", usage="leskwyn compare [A [B]] [--format text|tsv|json | --listing] [--weight W] "
-                                     "[--outgroup NAME] [--common] [--tables]",
+                                     "[--strike NAME]... [--strike-file FILE]... [--outgroup NAME] [--common] [--tables]",
                     description="Compares two trees: each in a Newick file, both in one, or as one comparison file.",
                     epilog="Without a file the two example trees are compared. docs/COMMANDS.md has the keys of tsv and json.\n"
                            + STATUS)
@@ -82,38 +82,40 @@ def compare_parser() -> Parser:
     forms.add_argument("--listing", dest="format", action="store_const", const="listing",
                        help="the six lines of the proved program compare, or 'refused N'")
     add_weight(parser)
+    add_strike(parser)
     add_outgroup(parser)
     add_common(parser)
     add_tables(parser)
     return parser
 
 
-def example_trees(outgroup: str | None, weight: Weight | None) -> Comparison:
+def example_trees() -> list[Placed]:
     paths = [os.path.join(TOP, name) for name in EXAMPLES]
     if not all(map(os.path.isfile, paths)):
         raise Trouble(f"the example trees {' and '.join(EXAMPLES)} are not in {TOP}: name two files")
     files.say_line(f"these are the example trees {' and '.join(EXAMPLES)}; `leskwyn compare A B` compares your own")
-    trees = [Placed(name, placed.tree) for name, path in zip(EXAMPLES, paths) for placed in trees_of_path(path, 1)]
-    return compare_trees(*trees, outgroup=outgroup, weight=weight)
+    return [Placed(name, placed.tree) for name, path in zip(EXAMPLES, paths) for placed in trees_of_path(path, 1)]
 
 
 def compared(options: argparse.Namespace) -> Comparison:
-    if not options.trees:
-        return example_trees(options.outgroup, options.weight)
-    pair = pair_read(compare_parser(), options)
+    pair = pair_read(compare_parser(), options) if options.trees else example_trees()
+    struck = struck_names(options)
     if isinstance(pair, ComparisonFile):
-        return compare_file(*pair, options.weight)
-    return compare_trees(*pair, outgroup=options.outgroup, weight=options.weight)
+        return compare_file(*pair, options.weight, struck)
+    return compare_trees(*pair, outgroup=options.outgroup, weight=options.weight, struck=struck)
 
 
 def compare_options(arguments: list[str]) -> argparse.Namespace:
     parser = compare_parser()
-    options = parser.parsed(arguments, "trees")
+    options = parser.parsed(arguments, "trees", "strike_file")
     if len(options.trees) > 2 or options.tables and len(options.trees) != 1:
         parser.error(f"{len(options.trees)} files; " + ("one comparison file is needed" if options.tables else
                                                         "one or two are needed (leskwyn matrix takes more)"))
     if options.weight is not None and options.format == "listing":
         parser.error("--listing and --weight exclude each other: the six lines have no weighted distance")
+    if options.format == "listing" and (options.strike or options.strike_file):
+        parser.error(f"--listing and {'--strike' if options.strike else '--strike-file'} exclude each other: the proved program "
+                     "keeps all populations")
     return options
 
 
@@ -125,7 +127,15 @@ def compare_command(options: argparse.Namespace) -> int:
             files.print_text(f"refused {refusal.number}\n")
         raise
     files.print_text(text.FORMATS[options.format]([found]))
+    if options.format != "text":
+        say_triplets(found)
     return 0
+
+
+def say_triplets(found: Comparison) -> None:
+    """Tells of figures for programs that the triplets count all populations, if some are struck."""
+    if found.struck:
+        files.say_line(f"note: {text.told_triplets(found.tips)}")
 
 
 # ---- why
@@ -195,7 +205,8 @@ def told_apart(places: list[str]) -> list[str]:
 
 def matrix_parser() -> Parser:
     parser = Parser("matrix", usage="leskwyn matrix FILE... [--measure quartet|splits|triplets|weighted] [--weight W] "
-                                    "[--normalised] [--format tsv|phylip] [--jobs N] [--outgroup NAME] [--common]",
+                                    "[--normalised] [--format tsv|phylip] [--jobs N] [--strike NAME]... [--strike-file FILE]... "
+                                    "[--outgroup NAME] [--common]",
                     description="Compares all pairs of trees; a file may hold several.",
                     epilog="A tree is told by its file, and as FILE#K where a file holds several.\n" + STATUS)
     parser.add_argument("trees", nargs="*", metavar="FILE", help="Newick files; - is standard input")
@@ -207,6 +218,7 @@ def matrix_parser() -> Parser:
                                                                   "over all sets of three without the outgroup")
     parser.add_argument("--format", choices=sorted(text.SQUARES), default="tsv", help="a table, or PHYLIP's square")
     add_jobs(parser)
+    add_strike(parser)
     add_outgroup(parser)
     add_common(parser)
     return parser
@@ -214,7 +226,7 @@ def matrix_parser() -> Parser:
 
 def matrix_options(arguments: list[str]) -> argparse.Namespace:
     parser = matrix_parser()
-    options = parser.parsed(arguments, "trees")
+    options = parser.parsed(arguments, "trees", "strike_file")
     if not options.trees:
         parser.error("no files; one or more are needed")
     fault = counting.wrong_weight(options.measure, options.weight)
@@ -228,24 +240,30 @@ def matrix_command(options: argparse.Namespace) -> int:
     names = outgroup_first(checked(trees), options.outgroup)
     labels = labels_of_names(names)
     tables = [table_of(placed.tree, labels) for placed in trees]
+    struck = optional_struck(struck_names(options), names)
+    if struck is not None:
+        files.say_line(text.told_struck([names[label] for label in struck], len(names)))
+    if options.measure == "triplets" and struck:
+        files.say_line(f"note: {text.told_triplets(len(names))}")
     if options.measure == "triplets" and options.outgroup is None:
         files.say_line(f"the outgroup is {text.told_outgroup(names)}")
     with ProgressLine(len(trees) * (len(trees) - 1) // 2) as progress:
         square = counting.distances(tables, options.measure, options.normalised, options.jobs or counting.default_jobs(),
-                                    progress, options.weight)
+                                    progress, options.weight, struck)
     files.print_text(text.SQUARES[options.format](told_apart([placed.place for placed in trees]), square))
     return 0
 
 
 def against_parser() -> Parser:
-    parser = Parser("against", usage="leskwyn against REF FILE... [--format tsv|json] [--weight W] [--jobs N] [--outgroup NAME] "
-                                     "[--common]",
+    parser = Parser("against", usage="leskwyn against REF FILE... [--format tsv|json] [--weight W] [--jobs N] [--strike NAME]... "
+                                     "[--strike-file FILE]... [--outgroup NAME] [--common]",
                     description="Compares one tree with each of many; a file may hold several, but REF holds one.",
                     epilog="REF is the first tree of each row. docs/COMMANDS.md has the keys of tsv and json.\n" + STATUS)
     parser.add_argument("trees", nargs="*", metavar="FILE", help="REF, then Newick files; - is standard input")
     parser.add_argument("--format", choices=["tsv", "json"], default="tsv", help="rows, or an object on each line")
     add_weight(parser)
     add_jobs(parser)
+    add_strike(parser)
     add_outgroup(parser)
     add_common(parser)
     return parser
@@ -253,7 +271,7 @@ def against_parser() -> Parser:
 
 def against_options(arguments: list[str]) -> argparse.Namespace:
     parser = against_parser()
-    options = parser.parsed(arguments, "trees")
+    options = parser.parsed(arguments, "trees", "strike_file")
     if len(options.trees) < 2:
         parser.error("REF and one file or more are needed")
     return options
@@ -264,10 +282,12 @@ def against_command(options: argparse.Namespace) -> int:
     names = outgroup_first(checked(trees), options.outgroup)
     labels = labels_of_names(names)
     tables = [(placed.place, table_of(placed.tree, labels)) for placed in trees]
+    struck = optional_struck(struck_names(options), names)
     with ProgressLine(len(trees) - 1) as progress:
         rows = counting.compared_to_one(tables[0], tables[1:], names, options.jobs or counting.default_jobs(), progress,
-                                        options.weight)
+                                        options.weight, struck)
     files.print_text(text.FORMATS[options.format](rows))
+    say_triplets(rows[0])
     return 0
 
 
@@ -296,7 +316,7 @@ OTHERS = {"table": table_command, "show": show_command}
 
 def counted_later(options: argparse.Namespace) -> int:
     """In the place of a command that has no library yet: a file that is not there is told."""
-    for path in options.trees:
+    for path in [*options.trees, *getattr(options, "strike_file", [])]:
         files.check_there(path)
     return LIBRARY_WANTED
 

@@ -7,14 +7,14 @@ from math import comb
 @dataclasses.dataclass(frozen=True)
 class Comparison:
     """Two trees on the same tips, counted against each other by every set of four tips, and by every set of three under an
-    outgroup.
+    outgroup. If tips are struck, sets of four and splits are of kept tips alone; the triplets count all tips.
 
     A tree parts four tips two and two if one of its edges has two of them on each side; else it leaves them open. It parts
     three tips two and one if one of its edges has two of them on one side, and the third with the outgroup on the other: if
     the lowest common ancestor of the two is not an ancestor of the third. The letters are those of the field.
 
     first, second          where the trees come from, in words
-    tips                   n, how many populations the trees have
+    tips                   n, how many populations the trees have, struck ones too
     same                   A: sets of four that both trees part in the same way
     different              B: that the two trees part in different ways
     first_only             C: that only the first tree parts
@@ -38,9 +38,11 @@ class Comparison:
     triplet_distance       the triplet distance, B + C + D of these
     weight                 p, what a set of four of C or D weighs, from 0.0 to 1.0; None if no weight is given
     weighted_distance      the weighted quartet distance, B + p (C + D), exactly; None if no weight is given
+    struck                 the names that are struck, in the order of their labels, and for a comparison file their labels; None if
+                           none are given
 
-    sets_of_four, normalised_distance, normalised_robinson_foulds, outgroup, sets_of_three, normalised_triplet_distance and
-    normalised_weighted_distance follow from these.
+    sets_of_four, normalised_distance, normalised_robinson_foulds, outgroup, sets_of_three, normalised_triplet_distance,
+    normalised_weighted_distance and kept follow from these.
     """
 
     first: str
@@ -69,11 +71,17 @@ class Comparison:
     triplet_distance: int = dataclasses.field(kw_only=True)
     weight: float | None = dataclasses.field(default=None, kw_only=True)
     weighted_distance: float | None = dataclasses.field(default=None, kw_only=True)
+    struck: tuple[str, ...] | None = dataclasses.field(default=None, kw_only=True)
+
+    @property
+    def kept(self) -> int:
+        """How many tips are kept: all that are not struck."""
+        return self.tips - len(self.struck or ())
 
     @property
     def sets_of_four(self) -> int:
-        """All sets of four tips: A + B + C + D + E."""
-        return comb(self.tips, 4)
+        """All sets of four kept tips: A + B + C + D + E."""
+        return comb(self.kept, 4)
 
     @property
     def normalised_distance(self) -> float:
@@ -106,7 +114,9 @@ class Comparison:
         return None if self.weighted_distance is None else normalised(self.weighted_distance, self.sets_of_four)
 
     def listing(self) -> str:
-        """The six lines that the proved program compare prints."""
+        """The six lines that the proved program compare prints. Raises ValueError if tips are struck: the program keeps all."""
+        if self.struck:
+            raise ValueError("there is no listing of struck tips: the proved program keeps all")
         return (f"leaves {self.tips}\n"
                 f"claims {self.first_claims} {self.second_claims} {self.same_claims} {self.different_claims}\n"
                 f"quartets {self.same} {self.different} {self.first_only} {self.second_only} {self.neither}\n"
@@ -116,9 +126,10 @@ class Comparison:
                 f"{self.second_only_triplets} {self.neither_triplets}\n")
 
     def as_dict(self) -> dict[str, typing.Any]:
-        """All figures under their names, in the order of docs/COMMANDS.md; the names of the tips are a list. Those of a weight
-        are there if one is given."""
-        return {key: getattr(self, key) for key in keys_of(self)} | {"names": list(self.names)}
+        """All figures under their names, in the order of docs/COMMANDS.md; names stand in lists. Those of a weight are there if one
+        is given, and those of struck names if such are given."""
+        figures = ((key, getattr(self, key)) for key in keys_of(self))
+        return {key: list(value) if isinstance(value, tuple) else value for key, value in figures}
 
 
 def normalised(part: int | float, whole: int) -> float:
@@ -133,8 +144,9 @@ KEYS = ("first", "second", "tips", "sets_of_four", "same", "different", "first_o
         "sets_of_three", "same_triplets", "different_triplets", "first_only_triplets", "second_only_triplets",
         "neither_triplets", "triplet_distance", "normalised_triplet_distance")
 WEIGHTED_KEYS = ("weight", "weighted_distance", "normalised_weighted_distance")
+STRUCK_KEYS = ("kept", "struck")
 
 
 def keys_of(comparison: Comparison) -> tuple[str, ...]:
-    """The keys of a comparison in their order; those of a weight only if one is given."""
-    return KEYS if comparison.weight is None else KEYS + WEIGHTED_KEYS
+    """The keys of a comparison in their order; those of a weight and of struck names only if such are given."""
+    return KEYS + WEIGHTED_KEYS * (comparison.weight is not None) + STRUCK_KEYS * (comparison.struck is not None)

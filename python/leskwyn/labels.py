@@ -1,5 +1,5 @@
-"""Labels of names: which name is the outgroup, which four are asked about, and lists of labels, 'label TAB name' lines, that are
-read back."""
+"""Labels of names: which name is the outgroup, which four are asked about, which are struck, and lists of labels, 'label TAB name'
+lines, that are read back."""
 import re
 from collections.abc import Sequence
 
@@ -45,6 +45,18 @@ def labels_of_tips(words: Sequence[str], names: list[str]) -> list[int]:
     return [names.index(name) for name in tips]
 
 
+def labels_struck(words: Sequence[str], names: list[str]) -> list[int]:
+    """The labels of the tips that are struck, in their order, of the names in the order of their labels. A tip may stand more than
+    once."""
+    found = {word: tip_named(word, names) for word in words}
+    strange = [word for word, name in found.items() if name is None]
+    if strange:
+        raise Refusal(f"cannot strike {some_of(strange)}: not {'a tip' if len(strange) == 1 else 'tips'} of every tree"
+                      + form_hint(strange, names))
+    tips = set(found.values())
+    return [label for label, name in enumerate(names) if name in tips]
+
+
 def labels_given(words: Sequence[str]) -> list[int]:
     """Labels as they are given for a comparison file. The library judges whether it has them."""
     strange = [word for word in words if not LABEL.fullmatch(word)]
@@ -73,6 +85,11 @@ def labelled(lines: list[str]) -> list[str] | None:
     if not lines or sorted(names) != list(range(len(lines))):
         return None
     return [ESCAPED.sub(lambda escape: PLAIN[escape[1]], names[label]) for label in range(len(lines))]
+
+
+def names_struck(path: str) -> list[str]:
+    """The names of a file, one a line; blank lines and those that begin with # are passed over."""
+    return [line for line in lines_of(path) if line.strip() and not line.startswith("#")]
 
 
 def names_in_order(path: str) -> list[str]:

@@ -7,7 +7,7 @@ import struct
 import typing
 from collections.abc import Sequence
 
-from leskwyn.errors import NAMED_AT_MOST, Refusal
+from leskwyn.errors import NAMED_AT_MOST, Refusal, counted
 from leskwyn.trees import FEWEST_TIPS, INNER, MOST_TIPS, NODES_FOR_A_TIP, Table
 
 COMPARE_BYTES = 1016
@@ -141,10 +141,24 @@ def broken_rule(table: Table) -> Broken | None:
     return None
 
 
-def pair_refusal(number: int, first: Table, second: Table) -> Refusal:
+def wrong_marks(marks: Sequence[int], tips: int) -> str:
+    """What is wrong with marks: a label that is not there is struck, they are not as many as the labels, or one is above 1."""
+    beyond = [str(label) for label, mark in enumerate(marks) if label >= tips and mark == 0]
+    if beyond:
+        more = f" and {len(beyond) - NAMED_AT_MOST} more" if len(beyond) > NAMED_AT_MOST else ""
+        return f"there is no label {', '.join(beyond[:NAMED_AT_MOST])}{more} to strike: the labels are 0 to {tips - 1}"
+    if len(marks) != tips:
+        return f"{counted(len(marks), 'mark')} for {tips} labels; each label has one"
+    label = next(label for label, mark in enumerate(marks) if mark > 1)
+    return f"the mark of label {label} is {marks[label]}, neither 1, kept, nor 0, struck"
+
+
+def pair_refusal(number: int, first: Table, second: Table, marks: Sequence[int] = ()) -> Refusal:
     """A refusal of two tables by the library's number, with the reason that the rules give."""
     if number == 8:
         return Refusal(f"the first tree has {first[0]} tips, the second {second[0]}; {DIFFERENT_TIPS}", number)
+    if number == 32:
+        return Refusal(wrong_marks(marks, first[0]), number)
     if number == 30:
         return Refusal("the weight is not k/256 with a k from 0 to 256", number)
     which = number // 100

@@ -5,6 +5,7 @@ from leskwyn.counting import Number
 from leskwyn.errors import one_line
 from leskwyn.evidence import Evidence, Witness
 from leskwyn.figures import KEYS, Comparison, keys_of
+from leskwyn.tables import written_name
 from leskwyn.weights import told_fraction
 
 CASES = [("A", "parted alike by both trees"), ("B", "parted differently"), ("C", "parted by the first tree only"),
@@ -67,8 +68,13 @@ def told_outgroup(names: Sequence[str]) -> str:
     return one_line(names[0]) + (hint if names[0] == min(names) else "")
 
 
+def told_triplets(tips: int) -> str:
+    return f"the triplets count all {tips} populations, struck ones too"
+
+
 def triplets_for_people(c: Comparison) -> str:
     return (f"outgroup: {told_outgroup(c.names)}\n"
+            + (f"{told_triplets(c.tips)}\n" if c.struck else "")
             + row("sets of three without the outgroup", str(c.sets_of_three))
             + case_rows([c.same_triplets, c.different_triplets, c.first_only_triplets, c.second_only_triplets,
                          c.neither_triplets])
@@ -77,22 +83,31 @@ def triplets_for_people(c: Comparison) -> str:
                   "distance / sets of three" if c.sets_of_three else "there are no sets of three"))
 
 
+def told_struck(names: Sequence[str], tips: int) -> str:
+    """How many tips are kept, and all names that are struck."""
+    return (f"kept {tips - len(names)} of {tips} populations"
+            + (f"; struck: {told_names(names, len(names))}" if names else ""))
+
+
 def for_people(c: Comparison) -> str:
     """The figures with their names, one a line."""
-    return (f"first tree: {one_line(c.first)}\nsecond tree: {one_line(c.second)}\n\n"
+    return (f"first tree: {one_line(c.first)}\nsecond tree: {one_line(c.second)}\n"
+            + (f"struck: {told_names(c.struck, len(c.struck))}\n" if c.struck else "") + "\n"
             + row("populations", str(c.tips))
+            + (row("kept", str(c.kept), f"of {c.tips}; sets of four and splits count these alone") if c.struck is not None else "")
             + "\n".join([quartets_for_people(c), splits_for_people(c), triplets_for_people(c)]))
 
 
 # ---- for programs
 
 def cell(value: object) -> str:
-    """A value as a TSV field: no TAB and no line end stands in it."""
-    return one_line(str(value))
+    """A value as a TSV field: no TAB and no line end stands in it. Names are written as in Newick text, with a comma after each but
+    the last."""
+    return one_line(",".join(map(written_name, value)) if isinstance(value, tuple) else str(value))
 
 
 def as_tsv(comparisons: Sequence[Comparison]) -> str:
-    """A header of the keys but the names, then a row for each pair. All have a weight, or none."""
+    """A header of the keys but the names, then a row for each pair. All have a weight, or none, and so with struck names."""
     keys = keys_of(comparisons[0]) if comparisons else KEYS
     columns = [key for key in keys if key != "names"]
     rows = [columns, *([cell(getattr(c, column)) for column in columns] for c in comparisons)]

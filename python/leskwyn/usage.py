@@ -8,6 +8,7 @@ from collections.abc import Sequence
 from leskwyn import __version__, files
 from leskwyn.counting import Progress
 from leskwyn.errors import quoted
+from leskwyn.labels import names_struck
 from leskwyn.trees import Placed, pruned
 from leskwyn.weights import SPELLINGS, Weight, weight_of
 
@@ -47,10 +48,10 @@ class Parser(argparse.ArgumentParser):
         if paths.count("-") > 1:
             self.error("standard input can be read only once")
 
-    def parsed(self, arguments: list[str], names: str) -> argparse.Namespace:
-        """The options; `names` is the argument that takes files."""
+    def parsed(self, arguments: list[str], names: str, *others: str) -> argparse.Namespace:
+        """The options; `names` is the argument that takes files, and `others` are options that take files too."""
         options = self.parsed_words(arguments, names)
-        self.check_files(getattr(options, names))
+        self.check_files([path for one in (names, *others) for path in getattr(options, one)])
         return options
 
 
@@ -73,6 +74,21 @@ def weight(text: str) -> Weight:
 def add_weight(parser: Parser) -> None:
     parser.add_argument("--weight", type=weight, metavar="W",
                         help=f"what a set of four of C or D weighs in the weighted distance: {SPELLINGS}")
+
+
+def add_strike(parser: Parser) -> None:
+    parser.add_argument("--strike", action="append", default=[], metavar="NAME",
+                        help="strike a population from the count, of a comparison file a label; may stand several times")
+    parser.add_argument("--strike-file", action="append", default=[], metavar="FILE",
+                        help="strike the populations of a file, one name a line; blank lines and those that begin with # are "
+                             "passed over, and - is standard input")
+
+
+def struck_names(options: argparse.Namespace) -> list[str] | None:
+    """The words of --strike, and the lines of the files of --strike-file; None if neither option is given."""
+    if not options.strike and not options.strike_file:
+        return None
+    return options.strike + [name for path in options.strike_file for name in names_struck(path)]
 
 
 def jobs(text: str) -> int:
