@@ -11,7 +11,7 @@ sys.dont_write_bytecode = True
 from cases import pairs, quartets, trees
 
 FOLDER = pathlib.Path(__file__).resolve().parent.parent / "crates" / "examples"
-ROOM = 270336  # the most bytes that the program reads
+ROOM = 278528  # the most bytes that the program reads
 
 
 def main() -> int:

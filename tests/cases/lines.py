@@ -26,7 +26,7 @@ class Kind(IntEnum):
 
 
 MOST_CELLS = 1046529  # what two tables of 256 tips and 1024 nodes need
-MOST_PRINTED = 1024  # the most cells where every one is printed
+MOST_PRINTED = 1024  # the most words or cells where every one is printed
 ENUMERATED = 16  # the most tips whose sets of four the program enumerates
 
 
@@ -43,6 +43,11 @@ def bad(*numbers: int) -> Case:
     return Case(list(map(int, numbers)), ["bad", "case"])
 
 
-def lent(cells: int) -> list[int]:
+def lent_words(count: int) -> list[int]:
+    """What the words hold before a call whose every word is printed."""
+    return [9000 + i for i in range(count)]
+
+
+def lent_cells(count: int) -> list[int]:
     """What the cells hold before a call whose every cell is printed."""
-    return [9000 + i for i in range(cells)]
+    return [200 + i % 56 for i in range(count)]

@@ -4,7 +4,7 @@ import itertools
 import random
 from collections.abc import Iterator
 
-from cases.lines import MOST_PRINTED, Case, Kind, bad, lent, line
+from cases.lines import MOST_PRINTED, Case, Kind, bad, lent_cells, line
 from cases.shapes import random_pair, random_table, randomly_chained, renumbered, star
 from cases.tables import (LABEL_TROUBLE, NUMBERS, OUTSIDE, PASS_THROUGH, P, Q, R, REFERENCE, THREE, TWO, W, X, Table, damaged,
                           tree_refusal)
@@ -49,7 +49,7 @@ def climb(t: Table, label: int) -> list[int]:
 
 def cells_after(t: Table, u: Table, cells: int) -> list[int]:
     """The cells after a call, refused or not."""
-    after = lent(cells)
+    after = lent_cells(cells)
     if pair_refusal(t, u, cells) == 0:
         after[:needed(t, u)] = [0] * needed(t, u)
         for label in range(t[0]):

@@ -321,6 +321,7 @@ def large_cases(rng: random.Random) -> Iterator[Case]:
     yield pair(*related_pair(rng, n))
     yield pair(*unrelated_pair(rng, n))
     yield one_slice(star(n), needed(star(n), star(n)) - 1)
+    yield one_slice(star(n - 1), needed(star(n - 1), star(n - 1)) + 2)
     yield pair(bushy(rng, 48), bushy(rng, 48))
     yield one_slice(chained(rng, worm, 4 * n), MOST_CELLS)
 

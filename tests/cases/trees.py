@@ -5,7 +5,7 @@ import random
 from collections.abc import Iterator
 from functools import cached_property
 
-from cases.lines import MOST_CELLS, MOST_PRINTED, Case, Kind, bad, lent, line
+from cases.lines import MOST_CELLS, MOST_PRINTED, Case, Kind, bad, lent_words, line
 from cases.shapes import balanced, caterpillar, random_table, star
 from cases.tables import (LABEL_TROUBLE, NUMBERS, OUTSIDE, PASS_THROUGH, P, Q, R, REFERENCE, THREE, TWO, X, Table, damaged,
                           tree_refusal)
@@ -88,7 +88,7 @@ def zeros(words: int) -> Case:
 
 def walk(t: Table, cells: int) -> Case:
     number = tree_refusal(t) or (12 if cells < t[0] else 0)
-    after = lent(cells)
+    after = lent_words(cells)
     if number == 0:
         after[:t[0]] = Tree(t).walk()
     return Case(line(Kind.WALK, [], t, cells), ["walk", number, *after])
@@ -105,11 +105,11 @@ def part(t: Table, edge: int, cells: list[int]) -> list[int]:
 
 
 def beyond(t: Table, edge: int, cells: int) -> Case:
-    return Case(line(Kind.BEYOND, [edge], t, cells), ["beyond", *part(t, edge, lent(cells))])
+    return Case(line(Kind.BEYOND, [edge], t, cells), ["beyond", *part(t, edge, lent_words(cells))])
 
 
 def walked(t: Table, edge: int) -> Case:
-    cells = lent(MOST_PRINTED)
+    cells = lent_words(MOST_PRINTED)
     if tree_refusal(t) == 0:
         cells[:t[0]] = Tree(t).walk()
     return Case(line(Kind.WALKED, [edge], t, MOST_PRINTED), ["walked", *part(t, edge, cells)])

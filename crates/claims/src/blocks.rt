@@ -6,7 +6,6 @@ use super::lines::line_rests;
 use super::lines::line_sums;
 use super::terms::PairTerms;
 use super::three_lines::three_lines;
-use table_words::Cell;
 ghost use mathlib.Core.Path.{_≡_};
 ghost use Prim.Native.Nat.{_≤_};
 ghost use lib.ListN.{length};
@@ -17,7 +16,7 @@ ghost use Rattle.claims.specs.lemmas.BlockTerms.{Rectangles};
 
 // The sums of the rows and of the columns, and of each cell times the rest of its row or of its column.
 fn block_sums(
-    cells: &[Cell],
+    cells: &[u16],
     rows: usize,
     columns: usize,
     sums: &mut [u64],
@@ -38,7 +37,7 @@ fn block_sums(
 }
 
 // The dot products of the rows or of the columns, whichever are fewer.
-fn rectangle_sums(cells: &[Cell], rows: usize, columns: usize, dots: &mut [u64]) -> DotSums
+fn rectangle_sums(cells: &[u16], rows: usize, columns: usize, dots: &mut [u64]) -> DotSums
     requires { ⌜ Block (now cells) rows columns
         × (rows ≤ length (now dots)) × (columns ≤ length (now dots)) ⌝ }
     ensures { λ r. ⌜ Rectangles rows columns (blockCell (now (cells .entry)) columns) (r .dots) (r .terms) ⌝ }
@@ -51,7 +50,7 @@ fn rectangle_sums(cells: &[Cell], rows: usize, columns: usize, dots: &mut [u64])
 
 // What two nodes add, by rows, columns and cells.
 fn large_block(
-    cells: &[Cell],
+    cells: &[u16],
     rows: usize,
     columns: usize,
     sums: &mut [u64],
@@ -77,7 +76,7 @@ fn large_block(
 // What two nodes add, from the block of their cells: `rows` rows of `columns` cells each. Three rows or three columns
 // are taken as lines. The other slices are lent for sums along the rows and columns of a larger block.
 pub(crate) fn block_terms(
-    cells: &[Cell],
+    cells: &[u16],
     rows: usize,
     columns: usize,
     sums: &mut [u64],

@@ -4,8 +4,7 @@ use super::cell_terms::cell_terms;
 use super::lines::line_squares;
 use super::lines::total;
 use super::lines::total_squares;
-use table_words::Cell;
-use table_words::cell_count;
+use table_words::as_count;
 ghost use Prim.Native.Nat.{_<_};
 ghost use Rattle.claims.specs.lemmas.Block.{blockCell};
 ghost use Rattle.claims.specs.lemmas.BlockCells.{Summed, Overall};
@@ -13,7 +12,7 @@ ghost use Rattle.claims.specs.lemmas.CellSums.{RowTerms, AllTerms};
 
 // What row i gives.
 fn row_terms(
-    cells: &[Cell],
+    cells: &[u16],
     rows: usize,
     columns: usize,
     i: usize,
@@ -38,7 +37,7 @@ fn row_terms(
     let mut k = i * columns;
     let mut j = 0;
     while j < columns {
-        let t = cell_count(cells[k]);
+        let t = as_count(cells[k]);
         if t != 0 {
             let cell = cell_terms(t, row, totals[j], down[j], beside, whole, squares, base);
             pairs += cell.pairs;
@@ -57,7 +56,7 @@ fn row_terms(
 
 // What all rows give.
 pub(crate) fn all_terms(
-    cells: &[Cell],
+    cells: &[u16],
     rows: usize,
     columns: usize,
     sums: &[u64],

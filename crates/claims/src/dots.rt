@@ -1,7 +1,6 @@
 // The dot products of pairs of lines, and their squares. Empty cells are passed over.
 use super::lines::total_squares;
-use table_words::Cell;
-use table_words::cell_count;
+use table_words::as_count;
 ghost use mathlib.Core.Path.{_≡_};
 ghost use Prim.Native.Nat.{_+_, _*_, _≤_};
 ghost use lib.ListN.{length};
@@ -30,7 +29,7 @@ fn clear(dots: &mut [u64], lines: usize)
 }
 
 // t times each cell of a line is added to its dot product. The squares of what was added.
-fn add_line(cells: &[Cell], t: u64, at: usize, gap: usize, lines: usize, dots: &mut [u64]) -> u64
+fn add_line(cells: &[u16], t: u64, at: usize, gap: usize, lines: usize, dots: &mut [u64]) -> u64
     requires { ⌜ AddRoom (now cells) t at gap lines (now dots) ⌝ }
     ensures { λ _. ⌜ now (dots .exit)
         ≡ filled (added (now (cells .entry)) (now (dots .entry)) t at gap) lines (now (dots .entry)) ⌝ }
@@ -41,7 +40,7 @@ fn add_line(cells: &[Cell], t: u64, at: usize, gap: usize, lines: usize, dots: &
     let mut k = at;
     let mut l = 0;
     while l < lines {
-        let z = t * cell_count(cells[k]);
+        let z = t * as_count(cells[k]);
         dots[l] = dots[l] + z;
         s += z * z;
         k += gap;
@@ -52,7 +51,7 @@ fn add_line(cells: &[Cell], t: u64, at: usize, gap: usize, lines: usize, dots: &
 
 // Line i with each line before it.
 fn line_dots(
-    cells: &[Cell],
+    cells: &[u16],
     gap: usize,
     step: usize,
     i: usize,
@@ -70,7 +69,7 @@ fn line_dots(
     let mut at = 0;
     let mut a = 0;
     while a < len {
-        let t = cell_count(cells[k]);
+        let t = as_count(cells[k]);
         if t != 0 {
             terms += add_line(cells, t, at, gap, i, dots);
         }
@@ -87,7 +86,7 @@ fn line_dots(
 
 // All pairs of lines.
 pub(crate) fn all_dots(
-    cells: &[Cell],
+    cells: &[u16],
     gap: usize,
     lines: usize,
     step: usize,

@@ -12,7 +12,7 @@ ghost use Rattle.claims.specs.lemmas.CodeCells.{childCell, ownCell};
 ghost use Rattle.claims.specs.lemmas.NodeBlock.{Written, RowRoom, NodeEdges, RowsFilled};
 
 // The row of a child's edge, from `at` on.
-fn child_row(work: &[Cell], base: usize, columns: &[usize], block: &mut [Cell], at: usize)
+fn child_row(work: &[Cell], base: usize, columns: &[usize], block: &mut [u16], at: usize)
     requires { ⌜ RowRoom (now work) base (now columns) (length (now block)) at ⌝ }
     ensures { λ _. ⌜ Written (now (block .entry)) (now (block .exit)) at (length (now (columns .entry)))
         (childCell (now (work .entry)) base (word (now (columns .entry)))) ⌝ }
@@ -26,7 +26,7 @@ fn child_row(work: &[Cell], base: usize, columns: &[usize], block: &mut [Cell], 
 }
 
 // The row of the node's own edge, in front.
-fn own_row(work: &[Cell], base: usize, n: u16, columns: &[usize], block: &mut [Cell])
+fn own_row(work: &[Cell], base: usize, n: u16, columns: &[usize], block: &mut [u16])
     requires { ⌜ RowRoom (now work) base (now columns) (length (now block)) 0 × (n ≤ tipsMost) ⌝ }
     requires { ⌜ word (now work) base + word (now work) (word (now columns) 0)
         ≤ n + word (now work) (base + word (now columns) 0) ⌝ }
@@ -48,7 +48,7 @@ pub(crate) fn fill_block(
     n: u16,
     rows: &[usize],
     columns: &[usize],
-    block: &mut [Cell],
+    block: &mut [u16],
 )
     requires { ⌜ NodeEdges (now work) width n (now rows) (now columns) ⌝ }
     requires { ⌜ length (now rows) * length (now columns) ≤ length (now block) ⌝ }

@@ -1,6 +1,5 @@
 // Sums along rows and columns of a block: a line of cells is told by its start, its step and its length.
-use table_words::Cell;
-use table_words::cell_count;
+use table_words::as_count;
 ghost use mathlib.Core.Path.{_≡_};
 ghost use Prim.Native.Nat.{_≤_};
 ghost use lib.ListN.{length};
@@ -11,7 +10,7 @@ ghost use Rattle.claims.specs.lemmas.CellLines.{Line, Lines, Totals, All
 ghost use Rattle.claims.specs.lemmas.CellLines.{lineCell, restCell, lineSum, lineRest, squared};
 
 // The sum of a line.
-pub(crate) fn line_sum(cells: &[Cell], at: usize, step: usize, len: usize) -> u64
+pub(crate) fn line_sum(cells: &[u16], at: usize, step: usize, len: usize) -> u64
     requires { ⌜ Line (length (now cells)) at step len ⌝ }
     ensures { λ r. ⌜ r ≡ sum len (lineCell (now (cells .entry)) at step) ⌝ }
 {
@@ -19,7 +18,7 @@ pub(crate) fn line_sum(cells: &[Cell], at: usize, step: usize, len: usize) -> u6
     let mut k = at;
     let mut a = 0;
     while a < len {
-        s += cell_count(cells[k]);
+        s += as_count(cells[k]);
         k += step;
         a += 1;
     }
@@ -27,7 +26,7 @@ pub(crate) fn line_sum(cells: &[Cell], at: usize, step: usize, len: usize) -> u6
 }
 
 // The squares of a line.
-pub(crate) fn line_squares(cells: &[Cell], at: usize, step: usize, len: usize) -> u64
+pub(crate) fn line_squares(cells: &[u16], at: usize, step: usize, len: usize) -> u64
     requires { ⌜ Line (length (now cells)) at step len ⌝ }
     ensures { λ r. ⌜ r ≡ sum len (squared (lineCell (now (cells .entry)) at step)) ⌝ }
 {
@@ -35,7 +34,7 @@ pub(crate) fn line_squares(cells: &[Cell], at: usize, step: usize, len: usize) -
     let mut k = at;
     let mut a = 0;
     while a < len {
-        let t = cell_count(cells[k]);
+        let t = as_count(cells[k]);
         s += t * t;
         k += step;
         a += 1;
@@ -44,7 +43,7 @@ pub(crate) fn line_squares(cells: &[Cell], at: usize, step: usize, len: usize) -
 }
 
 // Each cell of a line times the rest of its total.
-fn line_rest(cells: &[Cell], at: usize, step: usize, len: usize, totals: &[u64]) -> u64
+fn line_rest(cells: &[u16], at: usize, step: usize, len: usize, totals: &[u64]) -> u64
     requires { ⌜ Line (length (now cells)) at step len ⌝ }
     requires { ⌜ Totals (now cells) (now totals) at step len ⌝ }
     ensures { λ r. ⌜ r ≡ sum len (restCell (now (cells .entry)) (now (totals .entry)) at step) ⌝ }
@@ -53,7 +52,7 @@ fn line_rest(cells: &[Cell], at: usize, step: usize, len: usize, totals: &[u64])
     let mut k = at;
     let mut a = 0;
     while a < len {
-        let t = cell_count(cells[k]);
+        let t = as_count(cells[k]);
         s += t * (totals[a] - t);
         k += step;
         a += 1;
@@ -91,7 +90,7 @@ pub(crate) fn total_squares(xs: &[u64], len: usize) -> u64
 
 // The sums of lines that begin `gap` apart.
 pub(crate) fn line_sums(
-    cells: &[Cell],
+    cells: &[u16],
     gap: usize,
     lines: usize,
     step: usize,
@@ -113,7 +112,7 @@ pub(crate) fn line_sums(
 
 // The cells of such lines, each times the rest of its total.
 pub(crate) fn line_rests(
-    cells: &[Cell],
+    cells: &[u16],
     gap: usize,
     lines: usize,
     step: usize,

@@ -8,7 +8,7 @@ use super::fills::fill_block;
 use super::nine::nine_terms;
 use super::terms::PairTerms;
 use table_words::Cell;
-use table_words::cell_count;
+use table_words::as_count;
 ghost use mathlib.Core.Path.{_≡_};
 ghost use Prim.Native.Nat.{_+_, _≤_};
 ghost use lib.ListN.{length};
@@ -35,9 +35,9 @@ fn own_cells(work: &[Cell], base: usize, n: u16, c0: usize, c1: usize, c2: usize
     ensures { λ r. ⌜ OwnRow (now (work .entry)) n base c0 c1 c2 (r .a) (r .b) (r .c) ⌝ }
 {
     ThreeCells {
-        a: cell_count(neither(work, base, c0, n)),
-        b: cell_count(second_only(work, base, c1)),
-        c: cell_count(second_only(work, base, c2)),
+        a: as_count(neither(work, base, c0, n)),
+        b: as_count(second_only(work, base, c1)),
+        c: as_count(second_only(work, base, c2)),
     }
 }
 
@@ -47,9 +47,9 @@ fn child_cells(work: &[Cell], base: usize, c0: usize, c1: usize, c2: usize) -> T
     ensures { λ r. ⌜ ChildRow (now (work .entry)) base c0 c1 c2 (r .a) (r .b) (r .c) ⌝ }
 {
     ThreeCells {
-        a: cell_count(first_only(work, base, c0)),
-        b: cell_count(both(work, base, c1)),
-        c: cell_count(both(work, base, c2)),
+        a: as_count(first_only(work, base, c0)),
+        b: as_count(both(work, base, c1)),
+        c: as_count(both(work, base, c2)),
     }
 }
 
@@ -81,7 +81,7 @@ pub(crate) fn node_pair(
     n: u16,
     rows: &[usize],
     columns: &[usize],
-    block: &mut [Cell],
+    block: &mut [u16],
     sums: &mut [u64],
     totals: &mut [u64],
     down: &mut [u64],

@@ -3,7 +3,7 @@ use super::lines::line_squares;
 use super::lines::line_sum;
 use super::sizes::fill_sizes;
 use table_words::Cell;
-use table_words::cell_count;
+use table_words::as_count;
 ghost use mathlib.Core.Path.{_≡_};
 ghost use Prim.Native.Nat.{_+_, _*_, _-_, _≤_};
 ghost use lib.ListN.{length};
@@ -36,7 +36,7 @@ fn size_term(s: u64, pairs: u64, rest: u64) -> u64
 }
 
 // What a node adds, from the sizes of the sets behind the codes into it.
-fn node_term(sizes: &[Cell], codes: usize) -> u64
+fn node_term(sizes: &[u16], codes: usize) -> u64
     requires { ⌜ SizesFew (now sizes) codes ⌝ }
     ensures { λ r. ⌜ r ≡ sizesApart codes (word (now (sizes .entry))) ⌝ }
 {
@@ -46,7 +46,7 @@ fn node_term(sizes: &[Cell], codes: usize) -> u64
     let mut pairs: u64 = 0;
     let mut i = 0;
     while i < codes {
-        let s = cell_count(sizes[i]);
+        let s = as_count(sizes[i]);
         let p = pairs_of(s);
         plus += size_term(s, p, whole - s);
         pairs += p;
@@ -56,7 +56,7 @@ fn node_term(sizes: &[Cell], codes: usize) -> u64
 }
 
 // What a node adds, from its edges. Fewer than three codes make no claim.
-fn node_sum(work: &[Cell], step: usize, n: u16, edges: &[usize], sizes: &mut [Cell]) -> u64
+fn node_sum(work: &[Cell], step: usize, n: u16, edges: &[usize], sizes: &mut [u16]) -> u64
     requires { ⌜ NodeSizes (now work) step n (now edges) (length (now sizes)) ⌝ }
     ensures { λ r. ⌜ r ≡ sizesApart (length (now (edges .entry)))
         (codeSize (now (work .entry)) step n (word (now (edges .entry)))) ⌝ }
@@ -76,7 +76,7 @@ pub(crate) fn tree_sum(
     parents: &[u16],
     starts: &[usize],
     edges: &[usize],
-    sizes: &mut [Cell],
+    sizes: &mut [u16],
 ) -> u64
     requires { ⌜ TreeSizes (now work) step n (now parents) (now starts) (now edges) (length (now sizes)) ⌝ }
     ensures { λ r. ⌜

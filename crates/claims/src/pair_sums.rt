@@ -33,7 +33,7 @@ fn node_row(
     second_edges: &[usize],
     inner: &[usize],
     count: usize,
-    block: &mut [Cell],
+    block: &mut [u16],
     sums: &mut [u64],
     totals: &mut [u64],
     down: &mut [u64],
@@ -92,7 +92,7 @@ fn all_pairs(
     second_parents: &[u16],
     second_starts: &[usize],
     second_edges: &[usize],
-    block: &mut [Cell],
+    block: &mut [u16],
 ) -> PairTerms
     requires { ⌜ PairsRoom (now work) (length (now «second_parents») - 1) n
         (now «first_parents») (now «first_starts») (now «first_edges»)
@@ -170,7 +170,7 @@ pub(crate) fn pair_sums(
         ⌝ }
 {
     if tips <= FEW {
-        let mut block: [Cell; SMALL] = [0; SMALL];
+        let mut block = [0u16; SMALL];
         return all_pairs(
             work,
             kept,
@@ -183,7 +183,7 @@ pub(crate) fn pair_sums(
             &mut block,
         );
     }
-    let mut block: [Cell; BLOCK] = [0; BLOCK];
+    let mut block = [0u16; BLOCK];
     all_pairs(
         work,
         kept,

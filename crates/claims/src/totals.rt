@@ -41,7 +41,7 @@ fn sums_of(
     let mut second_starts = [0usize; STARTS];
     let mut second_edges = [0usize; CODES];
     list_codes(second_parents, &mut second_starts, &mut second_edges);
-    let mut sizes: [Cell; TIPS] = [0; TIPS];
+    let mut sizes = [0u16; TIPS];
     let first = tree_sum(
         work,
         second_parents.len() - 1,

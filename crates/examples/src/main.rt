@@ -45,7 +45,7 @@ fn read_cases(text: &[u8]) {
 }
 
 fn main() {
-    let mut text = [0u8; 270336];
+    let mut text = [0u8; 278528];
     let n = io::read_full(0, &mut text);
     read_cases(&text[..n]);
 }

@@ -1,5 +1,7 @@
 // Names and numbers on a line of standard output.
 use libc::STDOUT_FILENO;
+use table_words::Cell;
+use table_words::cell_count;
 
 pub(crate) fn name(text: &[u8]) {
     io::write_all(STDOUT_FILENO, text);
@@ -19,6 +21,14 @@ pub(crate) fn numbers(words: &[u16]) {
     let mut i = 0;
     while i < words.len() {
         number(words[i]);
+        i += 1;
+    }
+}
+
+pub(crate) fn cells(cells: &[Cell]) {
+    let mut i = 0;
+    while i < cells.len() {
+        large(cell_count(cells[i]));
         i += 1;
     }
 }

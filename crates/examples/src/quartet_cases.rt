@@ -2,8 +2,9 @@
 use super::cells;
 use super::print;
 use super::verdict;
+use table_words::Cell;
 
-fn print_claims(first: &[u16], second: &[u16], marks: &[u8], work: &mut [u16]) {
+fn print_claims(first: &[u16], second: &[u16], marks: &[u8], work: &mut [Cell]) {
     let sums = quartets::claim_sums(first, second, marks, work);
     print::name(b"claims");
     print::number(sums.refusal);
@@ -14,7 +15,7 @@ fn print_claims(first: &[u16], second: &[u16], marks: &[u8], work: &mut [u16]) {
     print::large(cells::sum_of(work));
 }
 
-fn print_table(first: &[u16], second: &[u16], marks: &[u8], work: &mut [u16]) {
+fn print_table(first: &[u16], second: &[u16], marks: &[u8], work: &mut [Cell]) {
     cells::fill(13, work);
     let table = quartets::quartet_table(first, second, marks, work);
     print::name(b" quartets");
@@ -29,7 +30,7 @@ fn print_table(first: &[u16], second: &[u16], marks: &[u8], work: &mut [u16]) {
     verdict::print_of(table, first, second);
 }
 
-fn print_triplets(first: &[u16], second: &[u16], work: &mut [u16]) {
+fn print_triplets(first: &[u16], second: &[u16], work: &mut [Cell]) {
     cells::fill(13, work);
     let table = quartets::triplet_table(first, second, work);
     print::name(b" triplets");
@@ -43,7 +44,7 @@ fn print_triplets(first: &[u16], second: &[u16], work: &mut [u16]) {
     print::large(cells::sum_of(work));
 }
 
-pub(crate) fn quartets_case(first: &[u16], second: &[u16], marks: &[u8], work: &mut [u16]) {
+pub(crate) fn quartets_case(first: &[u16], second: &[u16], marks: &[u8], work: &mut [Cell]) {
     print_claims(first, second, marks, work);
     print_table(first, second, marks, work);
     print_triplets(first, second, work);

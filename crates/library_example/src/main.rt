@@ -14,7 +14,7 @@ fn distance(first: &[u16], second: &[u16]) -> u64
         ⌝ }
 {
     let kept = [1u8; 5];
-    let mut work = [0u16; 42];
+    let mut work = [0u8; 42];
     let table = quartet_table(first, second, &kept, &mut work);
     table.distance
 }

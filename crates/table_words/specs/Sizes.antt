@@ -16,7 +16,7 @@ innerLabel = 65535
 
 -- the most that a cell of the work holds
 abbrev pub cellMost : ℕ
-cellMost = 65535
+cellMost = 255
 
 -- how long an array is that has a cell for each node, or for each label
 abbrev pub nodeRoom : ℕ

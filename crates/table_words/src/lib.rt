@@ -22,8 +22,8 @@ pub const STARTS: usize = 1025;
 // The length of an array that has a cell for each directed edge.
 pub const CODES: usize = 2048;
 
-// A cell of the work: how many labels lie beyond two edges.
-pub type Cell = u16;
+// A cell of the work: how many labels lie beyond two edges. Label 0 lies beyond none, so they are 255 at most.
+pub type Cell = u8;
 
 // A word as an index.
 pub fn as_index(x: u16) -> usize
@@ -37,6 +37,13 @@ pub fn as_count(x: u16) -> u64
     ensures { λ r. ⌜ (r ≡ x) × (r < 65536) ⌝ }
 {
     x as u64
+}
+
+// A cell as a word.
+pub fn cell_word(x: Cell) -> u16
+    ensures { λ r. ⌜ (r ≡ x) × (r ≤ cellMost) ⌝ }
+{
+    x as u16
 }
 
 // A cell as a count.

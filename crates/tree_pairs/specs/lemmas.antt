@@ -6,8 +6,9 @@ pub mod EdgeRows
 pub mod Filling
 pub mod Grid
 pub mod LentTables
+pub mod Listed
 pub mod NodeCells
-pub mod RowTotals
 pub mod Rows
 pub mod RowsUp
+pub mod Spans
 pub mod TipRows

@@ -3,11 +3,13 @@ use super::rows::add_rows;
 use super::rows_of_tips::clear;
 use super::rows_of_tips::nodes_of;
 use super::rows_of_tips::tip_rows;
+use super::spans::spans_of;
 use pair_check::CheckedPair;
 use pair_check::check_cells;
 use pair_check::check_work;
 use pair_check::pair_refusal;
 use table_words::Cell;
+use table_words::NODES;
 use table_words::TIPS;
 use table_words::as_index;
 ghost use mathlib.Core.Path.{_≡_};
@@ -21,7 +23,7 @@ ghost use Rattle.pair_check.specs.CheckedPair.{checkedCells, checkedWork, Told}
 ghost use Rattle.tree_pairs.specs.Crossings.{crossedKept, crossedAll, afterCrossings, afterAll};
 ghost use Rattle.tree_pairs.specs.lemmas.Filling.{PairArrays};
 
-// A kept tip's row is marked and added up the second tree, then each row is added to its parent's.
+// A kept tip's row is filled from the spans of the second tree's nodes, then each row is added to its parent's.
 fn fill_arrays(
     first_parents: &[u16],
     first_labels: &[u16],
@@ -41,8 +43,21 @@ fn fill_arrays(
 {
     let width = second_parents.len() - 1;
     clear(work, (first_parents.len() - 1) * width);
-    let nodes = nodes_of(second_labels);
-    tip_rows(first_labels, marks, n, second_parents, &nodes, work);
+    let mut nodes = [0usize; NODES];
+    nodes_of(second_labels, &mut nodes);
+    let mut begin = [0; NODES];
+    let mut end = [0; NODES];
+    spans_of(second_parents, second_labels, n, &mut begin, &mut end);
+    tip_rows(
+        first_labels,
+        marks,
+        n,
+        second_parents,
+        &nodes,
+        &begin,
+        &end,
+        work,
+    );
     add_rows(first_parents, work, width);
 }
 

@@ -1,5 +1,5 @@
-// The rows of the first tree's tips: cells cleared, the node of each label found, and each tip's row marked
-// from its node up the second tree.
+// The rows of the first tree's tips: cells cleared, the node of each label found, and each tip's row filled from the spans of
+// the second tree's nodes.
 use marks::is_kept;
 use table_words::Cell;
 use table_words::NODES;
@@ -8,10 +8,11 @@ ghost use mathlib.Core.Path.{_≡_};
 ghost use Prim.Native.Nat.{_≤_};
 ghost use lib.ListN.{length};
 ghost use Rattle.table_words.specs.Sizes.{nodeRoom};
+ghost use Rattle.sums.specs.Bits.{bit};
 ghost use Rattle.tree_pairs.specs.lemmas.Cleared.{Cleared};
 ghost use Rattle.tree_pairs.specs.lemmas.NodeCells.{NodesOf};
-ghost use Rattle.tree_pairs.specs.lemmas.RowTotals.{RowFits, RowUp};
-ghost use Rattle.tree_pairs.specs.lemmas.TipRows.{MarkRoom, RowMarked, countedLabel, TipRoom, TipRows};
+ghost use Rattle.tree_pairs.specs.lemmas.Spans.{inSpan};
+ghost use Rattle.tree_pairs.specs.lemmas.TipRows.{SpanRoom, RowSpanned, countedLabel, TipRoom, TipRows};
 
 // The first `count` cells become 0.
 pub(crate) fn clear(work: &mut [Cell], count: usize)
@@ -26,11 +27,10 @@ pub(crate) fn clear(work: &mut [Cell], count: usize)
 }
 
 // The node of each label: the last one that has it, or 0.
-pub(crate) fn nodes_of(labels: &[u16]) -> [usize; NODES]
-    requires { ⌜ length (now labels) ≤ nodeRoom ⌝ }
-    ensures { λ r. ⌜ NodesOf (now (labels .entry)) (length (now (labels .entry))) r ⌝ }
+pub(crate) fn nodes_of(labels: &[u16], nodes: &mut [usize; NODES])
+    requires { ⌜ (length (now labels) ≤ nodeRoom) × NodesOf (now labels) 0 (now nodes) ⌝ }
+    ensures { λ _. ⌜ NodesOf (now (labels .entry)) (length (now (labels .entry))) (now (nodes .exit)) ⌝ }
 {
-    let mut nodes = [0usize; NODES];
     let mut v = 0;
     while v < labels.len() {
         let x = as_index(labels[v]);
@@ -39,30 +39,39 @@ pub(crate) fn nodes_of(labels: &[u16]) -> [usize; NODES]
         }
         v += 1;
     }
-    nodes
 }
 
-// In the row that begins at `base`, each node's cell is added to its parent's, from the highest node down.
-// Node 0 has no cell, so node 1 is added to none.
-fn add_up_row(parents: &[u16], work: &mut [Cell], base: usize)
-    requires { ⌜ RowFits (now parents) (now work) base ⌝ }
-    ensures { λ _. ⌜ RowUp (now (parents .entry)) (now (work .entry)) (now (work .exit)) base ⌝ }
+// 1 where place `at` lies in the span from `begin` to before `end`, 0 elsewhere.
+fn within(at: Cell, begin: Cell, end: Cell) -> Cell
+    ensures { λ r. ⌜ r ≡ bit (inSpan at begin end) ⌝ }
 {
-    let mut j = parents.len();
-    while 2 < j {
-        j -= 1;
-        let p = as_index(parents[j]);
-        work[base + (p - 1)] = work[base + (p - 1)] + work[base + (j - 1)];
+    if at < begin {
+        return 0;
     }
+    if at < end {
+        return 1;
+    }
+    0
 }
 
-// In the row of zeros that begins at `base`: 1 at the nodes at or above node `at`.
-fn tip_row(parents: &[u16], work: &mut [Cell], base: usize, at: usize)
-    requires { ⌜ MarkRoom (now parents) (now work) base at ⌝ }
-    ensures { λ _. ⌜ RowMarked (now (parents .entry)) (now (work .entry)) (now (work .exit)) base at ⌝ }
+// The row that begins at `base`: 1 at the nodes in whose spans place `at` lies. No branch in the loop leaves it, so the
+// compiler fills many cells at a time.
+fn tip_row(
+    work: &mut [Cell],
+    base: usize,
+    width: usize,
+    at: Cell,
+    begin: &[Cell; NODES],
+    end: &[Cell; NODES],
+)
+    requires { ⌜ SpanRoom (now work) base width ⌝ }
+    ensures { λ _. ⌜ RowSpanned (now (begin .entry)) (now (end .entry)) at base width (now (work .entry)) (now (work .exit)) ⌝ }
 {
-    work[base + (at - 1)] = 1;
-    add_up_row(parents, work, base);
+    let mut j = 0;
+    while j < width {
+        work[base + j] = within(at, begin[j + 1], end[j + 1]);
+        j += 1;
+    }
 }
 
 // Whether x is one of n labels, and kept.
@@ -83,9 +92,11 @@ pub(crate) fn tip_rows(
     n: usize,
     parents: &[u16],
     nodes: &[usize; NODES],
+    begin: &[Cell; NODES],
+    end: &[Cell; NODES],
     work: &mut [Cell],
 )
-    requires { ⌜ TipRoom (now labels) n (now parents) (now nodes) (now work) ⌝ }
+    requires { ⌜ TipRoom (now labels) n (now parents) (now nodes) (now begin) (now end) (now work) ⌝ }
     ensures { λ _. ⌜ TipRows (now (labels .entry)) (now (marks .entry)) n (now (parents .entry)) (now (nodes .entry))
         (length (now (labels .entry))) (now (work .entry)) (now (work .exit)) ⌝ }
 {
@@ -94,7 +105,8 @@ pub(crate) fn tip_rows(
     while v < labels.len() {
         let x = as_index(labels[v]);
         if is_counted(marks, n, x) {
-            tip_row(parents, work, (v - 1) * width, nodes[x]);
+            let node = nodes[x];
+            tip_row(work, (v - 1) * width, width, begin[node], begin, end);
         }
         v += 1;
     }

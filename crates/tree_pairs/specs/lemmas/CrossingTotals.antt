@@ -5,13 +5,11 @@ use mathlib.Core.Bool.{Bool, _&&_}
 use Prim.Native.Nat.{ℕ, zero, suc, _*_, _≤_, _<_}
 use native.Mathlib.Omega.{arith}
 use lib.Dec.{ltb}
-use Rattle.table_words.specs.Sizes.{tipsMost}
 use Rattle.sums.specs.theorems.SumLaws.{sum-ext}
 use Rattle.sums.specs.Bits.{bit}
 use Rattle.sums.specs.theorems.BitLaws.{is-other}
 use Rattle.sums.specs.theorems.Products.{bit-and}
 use Rattle.sums.specs.Counts.{count}
-use Rattle.sums.specs.theorems.CountLaws.{count-le}
 use Rattle.shapes.specs.Ancestors.{anc}
 use Rattle.shapes.specs.theorems.AncestorLaws.{anc-at-zero}
 use Rattle.shapes.specs.theorems.Totals.{total}
@@ -59,13 +57,3 @@ crossing-total q t u g v j lv cells h =
         ≡ bit (ltb (label t x) (tips t)) * (bit (anc (parent t) v x) * (bit (q (label t x)) * bit (anc (parent u) j (nodeOf u (label t x)))))
     term zero l = gone _ (cells 0) _ _ none
     term (suc x) l = ap (λ (z : ℕ). bit (anc (parent t) v (suc x)) * z) (h (suc x) (omega arith) l) ∙ swap _ _ _
-
--- no more than there are tips
-pub crossing-most : (q : ℕ → Bool) (t u : Table) → IsTree t → (v j : ℕ) → edgeCrossing (passing q t) t u v j ≤ tipsMost
-unfolding edgeCrossing
-crossing-most q t u g v j = omega (
-  arith,
-  count-le (count (tips t) q) (λ x. beyondAt (passing q t) t v x && beyondAt (passing q t) u j x),
-  count-le (tips t) q,
-  g .tips-range,
-)

@@ -1,5 +1,5 @@
--- The work cells are cleared, the rows of the tips marked and added up, and the rows added up the first tree: what is
--- left is the crossings.
+-- The work cells are cleared, the rows of the tips filled, and the rows added up the first tree: what is left is the
+-- crossings.
 -- Assumes nothing.
 use mathlib.Core.Path.{_≡_, sym, _∙_, ap, ap₂}
 use mathlib.Core.Logic.{_≢_}
@@ -17,18 +17,21 @@ use Rattle.sums.specs.theorems.Products.{bit-and}
 use Rattle.sums.specs.theorems.TestLaws.{lt-iff}
 use Rattle.shapes.specs.Ancestors.{anc}
 use Rattle.shapes.specs.theorems.Totals.{total}
-use Rattle.tree_check.specs.Table.{Table, word, tips, nodes, label, nodeBelow, nodeOf}
+use Rattle.tree_check.specs.Table.{Table, word, tips, nodes, label, nodeBelow, nodeOf, beyond}
 use Rattle.tree_check.specs.lemmas.TableParts.{tableOf, tips-of, nodes-of}
 use Rattle.walks.specs.theorems.NodeLabels.{node-at}
 use Rattle.walks.specs.lemmas.TreeArrays.{TreeArrays, parent-is, label-is, few-tips, few-nodes, rooted-parents}
 use Rattle.tree_pairs.specs.lemmas.Grid.{cellAt}
 use Rattle.marks.specs.Marks.{isKept}
 use Rattle.counting.specs.Kept.{kept}
+use Rattle.counting.specs.theorems.KeptLaws.{kept-rising}
 use Rattle.tree_pairs.specs.Crossings.{edgeCrossing, crossed, cellOf}
+use Rattle.tree_pairs.specs.theorems.Bytes.{cells-are-bytes}
 use Rattle.tree_pairs.specs.theorems.CrossingLaws.{in-order-front}
-use Rattle.tree_pairs.specs.lemmas.CrossingTotals.{keptBeyond, crossing-total, crossing-most}
+use Rattle.tree_pairs.specs.lemmas.CrossingTotals.{keptBeyond, crossing-total}
 use Rattle.tree_pairs.specs.lemmas.Cleared.{Cleared}
 use Rattle.tree_pairs.specs.lemmas.NodeCells.{NodesOf}
+use Rattle.tree_pairs.specs.lemmas.Spans.{inSpan, SpansOf, listed-span}
 use Rattle.tree_pairs.specs.lemmas.TipRows.{countedLabel, TipRoom, TipRows}
 use Rattle.tree_pairs.specs.lemmas.RowsUp.{Room, RowsAdded}
 
@@ -101,28 +104,39 @@ module _ (n : ℕ) (ps ls qs ms work : List ℕ) (a : PairArrays n ps ls qs ms w
 
   module _ (cleared nodes : List ℕ) (c : Cleared work ((length ps - 1) * (length qs - 1)) cleared)
       (f : NodesOf ms (length ms) nodes) where
-    pub tip-room : TipRoom ls n qs nodes cleared
-    tip-room =
+    -- a label lies beyond a node of the second tree exactly where its place lies in the node's span
+    label-span : (begin end : List ℕ) → SpansOf (tableOf n qs ms) begin end → (v j : ℕ) → 1 ≤ v → v < length ls → word ls v < n
+        → 1 ≤ j → j < length qs
+        → bit (inSpan (word begin (word nodes (word ls v))) (word begin j) (word end j))
+        ≡ bit (anc (word qs) j (word nodes (word ls v)))
+    unfolding beyond
+    label-span begin end z v j l m b o k =
+        let r = node-of-label n qs ms (a .second) nodes f (word ls v) b in
+        rw (r .0, ← parent-is n qs ms (a .second)) (
+        listed-span (tableOf n qs ms) (a .second .tree) begin end z (word ls v) j (omega (arith, tips-of n qs ms))
+        (omega (arith, r .0, r .2 (label-not-zero v l m b))) o (omega (arith, nodes-of n qs ms)))
+
+    pub tip-room : (begin end : List ℕ) → SpansOf (tableOf n qs ms) begin end → TipRoom ls n qs nodes begin end cleared
+    tip-room begin end z =
         let s = sizes in
         let same : (length ls - 1) * (length qs - 1) ≡ (length ps - 1) * (length qs - 1) =
         ap (λ (k : ℕ). (k - 1) * (length qs - 1)) (a .first .same) in
         record {
-          tree = rooted-parents n qs ms (a .second);
           some = omega arith;
           few = omega arith;
-          inner = inner-parents n qs ms (a .second);
           rows = (omega arith, omega arith);
           tips = omega (arith, few-tips n ps ls (a .first));
           long = f .long;
           node = λ v l m b.
               let r = node-of-label n qs ms (a .second) nodes f (word ls v) b in
               (r .2 (label-not-zero v l m b), r .1);
+          spans = label-span begin end z;
           inside = omega (arith, same, a .room, c .long);
           zeros = λ i l. c .zeros i (omega arith);
         }
 
     module _ (ks marked : List ℕ) (r : TipRows ls ks n qs nodes (length ls) cleared marked) where
-      -- column j of the marked rows
+      -- column j of the filled rows
       column : (j x : ℕ) → j < length qs - 1 → 1 ≤ x → x < length ps
           → cellAt marked (length qs - 1) x j ≡ keptBeyond (isKept ks) (tableOf n ps ls) (tableOf n qs ms) (suc j) x
       column j x lj l m =
@@ -167,7 +181,8 @@ module _ (n : ℕ) (ps ls qs ms work : List ℕ) (a : PairArrays n ps ls qs ms w
             fits = λ v j l m lj. omega (
               arith,
               column-total v j l lj,
-              crossing-most (isKept ks) (tableOf n ps ls) (tableOf n qs ms) (a .first .tree) v (suc j),
+              cells-are-bytes (kept ks (tips (tableOf n ps ls))) (tableOf n ps ls) (tableOf n qs ms) (a .first .tree)
+                  (kept-rising ks (tips (tableOf n ps ls))) v (suc j) l,
             );
           }
 

@@ -10,7 +10,7 @@ use lib.Seq.{getD-set-same, getD-set-other}
 use Rattle.table_words.specs.Sizes.{cellMost, nodeRoom, workRoom}
 use Rattle.tree_check.specs.Table.{word}
 
--- the rows of w cells that begin at `to` and `from` lie apart and inside, and their sums fit a word
+-- the rows of w cells that begin at `to` and `from` lie apart and inside, and their sums fit a cell
 pub record RowsFit (work : List ℕ) (to from w : ℕ) : Type 0 where
   pub apart : to + w ≤ from
   pub inside : from + w ≤ length work

@@ -1,9 +1,9 @@
 -- The rows of the first tree's tips: 1 at the second tree's nodes at or above the tip with the same label.
 -- Assumes nothing.
-use mathlib.Core.Path.{_≡_, refl, sym, _∙_, ap, subst}
+use mathlib.Core.Path.{_≡_, refl, sym, _∙_, ap, ap₂, subst}
 use mathlib.Core.Bool.{Bool, true, false, _&&_}
 use mathlib.Core.List.{List}
-use Prim.Native.Nat.{ℕ, zero, suc, _+_, _*_, _-_, _≤_, _<_}
+use Prim.Native.Nat.{ℕ, _+_, _*_, _-_, _≤_, _<_}
 use native.Mathlib.Decide.{ℕ-discrete}
 use native.Mathlib.Nat.{zero-mul, mul-le-mul-right}
 use native.Mathlib.Omega.{arith}
@@ -12,89 +12,56 @@ use lib.ListN.{length, set, length-set}
 use lib.Seq.{getD-set-same, getD-set-other}
 use Rattle.table_words.specs.Sizes.{nodeRoom, workRoom}
 use Rattle.sums.specs.theorems.Products.{product-le}
-use Rattle.sums.specs.theorems.SumLaws.{sum-ext}
-use Rattle.sums.specs.Bits.{bit, is}
-use Rattle.sums.specs.theorems.BitLaws.{bit-le, bit-T, bit-no, is-eq, is-other}
+use Rattle.sums.specs.Bits.{bit}
+use Rattle.sums.specs.theorems.BitLaws.{bit-T, bit-no}
 use Rattle.sums.specs.theorems.TestLaws.{and-iff, lt-iff}
-use Rattle.shapes.specs.theorems.AncestorLaws.{Rooted, anc-lt}
 use Rattle.shapes.specs.Ancestors.{anc}
-use Rattle.shapes.specs.theorems.Totals.{total, total-is}
 use Rattle.tree_check.specs.Table.{word}
 use Rattle.marks.specs.Marks.{isKept}
 use Rattle.tree_pairs.specs.lemmas.Grid.{cellAt}
-use Rattle.tree_pairs.specs.lemmas.RowTotals.{RowFits, RowUp}
+use Rattle.tree_pairs.specs.lemmas.Spans.{inSpan}
 
 -- ---- one row
 
--- a row of zeros, and a node that has a cell in it
-pub record MarkRoom (ps work : List ℕ) (base at : ℕ) : Type 0 where
-  pub tree : Rooted (word ps)
-  pub some : 2 ≤ length ps
-  pub few : length ps ≤ nodeRoom
-  pub inner : (v : ℕ) → 2 ≤ v → v < length ps → 1 ≤ word ps v
+-- the row of w cells that begins at `base` lies inside
+pub record SpanRoom (work : List ℕ) (base w : ℕ) : Type 0 where
   pub low : base ≤ workRoom
-  pub inside : base + (length ps - 1) ≤ length work
-  pub zeros : (c : ℕ) → base ≤ c → c < base + (length ps - 1) → word work c ≡ 0
-  pub node : (1 ≤ at) × (at < length ps)
+  pub narrow : w < nodeRoom
+  pub inside : base + w ≤ length work
 
--- 1 at the nodes at or above node `at`
-pub record RowMarked (ps old new : List ℕ) (base at : ℕ) : Type 0 where
+-- in the first k cells of the row 1 at the nodes in whose spans place `at` lies
+pub record RowSpanned (begin end : List ℕ) (at base k : ℕ) (old new : List ℕ) : Type 0 where
   pub long : length new ≡ length old
-  pub marks : (j : ℕ) → 1 ≤ j → j < length ps → word new (base + (j - 1)) ≡ bit (anc (word ps) j at)
+  pub cells : (j : ℕ) → j < k → word new (base + j) ≡ bit (inSpan at (word begin (j + 1)) (word end (j + 1)))
   pub before : (c : ℕ) → c < base → word new c ≡ word old c
-  pub after : (c : ℕ) → base + (length ps - 1) ≤ c → word new c ≡ word old c
+  pub after : (c : ℕ) → base + k ≤ c → word new c ≡ word old c
 
--- node 0 is below no other node
-total-above : (up : ℕ → ℕ) → Rooted up → (m : ℕ) (f g : ℕ → ℕ) (v : ℕ) → 1 ≤ v
-    → ((u : ℕ) → 1 ≤ u → u < m → f u ≡ g u) → total up m f v ≡ total up m g v
-unfolding total
-total-above up r m f g v o h = sum-ext m _ _ each
-  where
-    each : (u : ℕ) → u < m → bit (anc up v u) * f u ≡ bit (anc up v u) * g u
-    each zero l =
-        ap (λ (x : ℕ). x * f 0) (anc-lt up r v 0 o)
-        ∙ zero-mul (f 0)
-        ∙ sym (ap (λ (x : ℕ). x * g 0) (anc-lt up r v 0 o) ∙ zero-mul (g 0))
-    each (suc w) l = ap (λ (x : ℕ). bit (anc up v (suc w)) * x) (h (suc w) (omega arith) l)
+pub span-none : (begin end : List ℕ) (at base : ℕ) (old : List ℕ) → RowSpanned begin end at base 0 old old
+span-none begin end at base old = record {
+  long = refl;
+  cells = λ j l. absurd (omega arith);
+  before = λ c l. refl;
+  after = λ c l. refl;
+}
 
-module _ (ps old : List ℕ) (base at : ℕ) (a : MarkRoom ps old base at) where
-  -- the total of the one mark
-  one-mark : (v : ℕ) → 1 ≤ v
-      → total (word ps) (length ps) (λ u. word (set old (base + (at - 1)) 1) (base + (u - 1))) v
-      ≡ bit (anc (word ps) v at)
-  one-mark v o =
-      total-above (word ps) (a .tree) (length ps) _ (is at) v o cell
-      ∙ total-is (word ps) (length ps) at v (a .node .1)
-    where
-      cell : (u : ℕ) → 1 ≤ u → u < length ps → word (set old (base + (at - 1)) 1) (base + (u - 1)) ≡ is at u
-      cell u l m = elim (ℕ-discrete at u) [
-        | yes e ↦ rw (← e) (getD-set-same old (base + (at - 1)) 1 0 (omega (arith, a .node, a .inside)))
-            ∙ sym (is-eq at u e)
-        | no d ↦ getD-set-other old (base + (at - 1)) (base + (u - 1)) 1 0 (λ q. d (omega (arith, a .node)))
-            ∙ a .zeros (base + (u - 1)) (omega arith) (omega arith)
-            ∙ sym (is-other at u d)
-      ]
+pub span-next : (begin end : List ℕ) (at base k : ℕ) (old new : List ℕ) (x : ℕ) → base + k < length old
+    → x ≡ bit (inSpan at (word begin (k + 1)) (word end (k + 1))) → RowSpanned begin end at base k old new
+    → RowSpanned begin end at base (k + 1) old (set new (base + k) x)
+span-next begin end at base k old new x l e h = record {
+  long = length-set new (base + k) x ∙ h .long;
+  cells = λ j m. elim (ℕ-discrete j k) [
+    | yes d ↦ rw d (getD-set-same new (base + k) x 0 (omega (arith, h .long)) ∙ e)
+    | no d ↦ getD-set-other new (base + k) (base + j) x 0 (λ q. d (omega arith)) ∙ h .cells j (omega arith)
+  ];
+  before = λ c m. getD-set-other new (base + k) c x 0 (λ q. omega arith) ∙ h .before c m;
+  after = λ c m. getD-set-other new (base + k) c x 0 (λ q. omega arith) ∙ h .after c (omega arith);
+}
 
-  pub mark-fits : RowFits ps (set old (base + (at - 1)) 1) base
-  mark-fits = record {
-    tree = a .tree;
-    some = a .some;
-    few = a .few;
-    inner = a .inner;
-    low = a .low;
-    inside = omega (arith, a .inside, length-set old (base + (at - 1)) 1);
-    fits = λ v o l. omega (arith, one-mark v o, bit-le (anc (word ps) v at));
-  }
-
-  pub mark-done : (new : List ℕ) → RowUp ps (set old (base + (at - 1)) 1) new base
-      → RowMarked ps old new base at
-  mark-done new h = record {
-    long = h .long ∙ length-set old (base + (at - 1)) 1;
-    marks = λ j o l. h .totals j o l ∙ one-mark j o;
-    before = λ c l. h .before c l ∙ getD-set-other old (base + (at - 1)) c 1 0 (λ q. omega arith);
-    after = λ c l. h .after c l
-        ∙ getD-set-other old (base + (at - 1)) c 1 0 (λ q. omega (arith, a .node));
-  }
+pub span-all : (begin end : List ℕ) (at base k w : ℕ) (old new : List ℕ) → k ≤ w → w ≤ k
+    → RowSpanned begin end at base k old new → RowSpanned begin end at base w old new
+span-all begin end at base k w old new l m h =
+    let e : k ≡ w = omega arith in
+    subst (λ (i : ℕ). RowSpanned begin end at base i old new) e h
 
 -- ---- all rows
 
@@ -106,20 +73,22 @@ pub counted-inside : (ks : List ℕ) (n x : ℕ) → true ≡ countedLabel ks n 
 unfolding countedLabel
 counted-inside ks n x e = lt-iff x n .0 (and-iff (isKept ks x) (ltb x n) .0 (subst T e tt) .1)
 
-pub record TipRoom (ls : List ℕ) (n : ℕ) (ps nodes work : List ℕ) : Type 0 where
-  pub tree : Rooted (word ps)
+-- room for the rows, all of them 0, and spans that tell which nodes of the second tree are at or above a tip's
+pub record TipRoom (ls : List ℕ) (n : ℕ) (ps nodes begin end work : List ℕ) : Type 0 where
   pub some : 2 ≤ length ps
   pub few : length ps ≤ nodeRoom
-  pub inner : (v : ℕ) → 2 ≤ v → v < length ps → 1 ≤ word ps v
   pub rows : (1 ≤ length ls) × (length ls ≤ nodeRoom)
   pub tips : n ≤ nodeRoom
   pub long : length nodes ≡ nodeRoom
   pub node : (v : ℕ) → 1 ≤ v → v < length ls → word ls v < n
       → (1 ≤ word nodes (word ls v)) × (word nodes (word ls v) < length ps)
+  pub spans : (v j : ℕ) → 1 ≤ v → v < length ls → word ls v < n → 1 ≤ j → j < length ps
+      → bit (inSpan (word begin (word nodes (word ls v))) (word begin j) (word end j))
+      ≡ bit (anc (word ps) j (word nodes (word ls v)))
   pub inside : (length ls - 1) * (length ps - 1) ≤ length work
   pub zeros : (c : ℕ) → c < (length ls - 1) * (length ps - 1) → word work c ≡ 0
 
--- the rows of the nodes below k are marked, and the cells after them are as they were
+-- the rows of the nodes below k are filled, and the cells after them are as they were
 pub record TipRows (ls ks : List ℕ) (n : ℕ) (ps nodes : List ℕ) (k : ℕ) (old new : List ℕ) : Type 0 where
   pub long : length new ≡ length old
   pub rows : (v j : ℕ) → 1 ≤ v → v < k → 1 ≤ j → j < length ps
@@ -149,8 +118,8 @@ next-row v w l =
 row-before : (u v w : ℕ) → u ≤ v → u * w ≤ v * w
 row-before u v w l = mul-le-mul-right w l
 
-module _ (ls ks : List ℕ) (n : ℕ) (ps nodes old : List ℕ) (a : TipRoom ls n ps nodes old) (new : List ℕ) (v : ℕ)
-    (o : 1 ≤ v) (l : v < length ls) (h : TipRows ls ks n ps nodes v old new) where
+module _ (ls ks : List ℕ) (n : ℕ) (ps nodes begin end old : List ℕ) (a : TipRoom ls n ps nodes begin end old)
+    (new : List ℕ) (v : ℕ) (o : 1 ≤ v) (l : v < length ls) (h : TipRows ls ks n ps nodes v old new) where
   ends : (v - 1) * (length ps - 1) + (length ps - 1) ≤ (length ls - 1) * (length ps - 1)
   ends = omega (
     arith,
@@ -169,17 +138,11 @@ module _ (ls ks : List ℕ) (n : ℕ) (ps nodes old : List ℕ) (a : TipRoom ls 
     product-le nodeRoom nodeRoom (v - 1) (length ps - 1) (omega (arith, a .rows)) (omega (arith, a .few)),
   )
 
-  pub mark-room : (x : ℕ) → x ≡ word ls v → x < n
-      → MarkRoom ps new ((v - 1) * (length ps - 1)) (word nodes x)
-  mark-room x e m = record {
-    tree = a .tree;
-    some = a .some;
-    few = a .few;
-    inner = a .inner;
-    low = omega (arith, base-low);
+  pub span-room : SpanRoom new ((v - 1) * (length ps - 1)) (length ps - 1)
+  span-room = record {
+    low = base-low;
+    narrow = omega (arith, a .some, a .few);
     inside = omega (arith, ends, a .inside, h .long);
-    zeros = still;
-    node = rw e (a .node v o l (omega arith));
   }
 
   -- no row before node v's is touched
@@ -206,16 +169,15 @@ module _ (ls ks : List ℕ) (n : ℕ) (ps nodes old : List ℕ) (a : TipRoom ls 
     rest = λ c q. h .rest c (omega (arith, next-row v (length ps - 1) o, q));
   }
 
-  -- node v is a tip whose label is kept, and its row has been marked
+  -- node v is a tip whose label is kept, and its row has been filled
   pub rows-next : (x : ℕ) → x ≡ word ls v → true ≡ countedLabel ks n x → (made : List ℕ)
-      → RowMarked ps new made ((v - 1) * (length ps - 1)) (word nodes x)
+      → RowSpanned begin end (word begin (word nodes x)) ((v - 1) * (length ps - 1)) (length ps - 1) new made
       → TipRows ls ks n ps nodes (v + 1) old made
   rows-next x e m made g = record {
     long = g .long ∙ h .long;
     rows = λ u j p q s t. elim (ℕ-discrete u v) [
       | yes d ↦ rw d (
-          g .marks j s t
-          ∙ ap (λ (y : ℕ). bit (anc (word ps) j (word nodes y))) e
+          cell j s t
           ∙ omega (
             arith,
             ap (λ (b : ℕ). b * bit (anc (word ps) j (word nodes (word ls v))))
@@ -227,6 +189,17 @@ module _ (ls ks : List ℕ) (n : ℕ) (ps nodes old : List ℕ) (a : TipRoom ls 
     rest = λ c q. g .after c (omega (arith, next-row v (length ps - 1) o, q))
         ∙ h .rest c (omega (arith, next-row v (length ps - 1) o, q));
   }
+    where
+      inside : word ls v < n
+      inside = omega (arith, e, counted-inside ks n x m)
+
+      cell : (j : ℕ) → 1 ≤ j → j < length ps
+          → cellAt made (length ps - 1) v (j - 1) ≡ bit (anc (word ps) j (word nodes (word ls v)))
+      cell j s t =
+          let k : j - 1 + 1 ≡ j = omega arith in
+          g .cells (j - 1) (omega arith)
+          ∙ ap₂ (λ (y i : ℕ). bit (inSpan (word begin (word nodes y)) (word begin i) (word end i))) e k
+          ∙ a .spans v j o l inside s t
 
 pub rows-all : (ls ks : List ℕ) (n : ℕ) (ps nodes old new : List ℕ) (v : ℕ) → v ≤ length ls → length ls ≤ v
     → TipRows ls ks n ps nodes v old new → TipRows ls ks n ps nodes (length ls) old new

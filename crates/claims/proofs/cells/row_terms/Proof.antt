@@ -43,12 +43,12 @@ in-cells c =
     omega (arith, p .pre .0 .0 .block .inside, q)
 
 -- the cell that was read
-cell : (c : tie.After-cell-count Inv-loop μ-loop)
+cell : (c : tie.After-as-count Inv-loop μ-loop)
     → let p = start (c .before .before .before) .args in
-    c .cell-count .result ≡ blockCell (p .cells .now) (p .columns) (p .i) (c .before .before .before .loop .j)
+    c .as-count .result ≡ blockCell (p .cells .now) (p .columns) (p .i) (c .before .before .before .loop .j)
 cell c =
     let l = c .before .before .before in
-    c .cell-count .ensures .0 ∙ ap (λ (k : ℕ). word (start l .args .cells .now) k) (l .loop .inv .1)
+    c .as-count .ensures .0 ∙ ap (λ (k : ℕ). word (start l .args .cells .now) k) (l .loop .inv .1)
 
 -- ---- the needs
 
@@ -75,14 +75,14 @@ mul-k c =
 loop-holds : tie.Need-loop-holds Inv-loop μ-loop
 loop-holds c = (omega arith, omega arith, row-none _ _ _ _)
 
-mul-cell-count : tie.Need-mul-cell-count Inv-loop μ-loop
-mul-cell-count c = omega (arith, in-cells c)
+mul-as-count : tie.Need-mul-as-count Inv-loop μ-loop
+mul-as-count c = omega (arith, in-cells c)
 
-shared-slice-read-cell-count : tie.Need-shared-slice-read-cell-count Inv-loop μ-loop
-shared-slice-read-cell-count c = omega (arith, in-cells (c .before))
+shared-slice-read-as-count : tie.Need-shared-slice-read-as-count Inv-loop μ-loop
+shared-slice-read-as-count c = omega (arith, in-cells (c .before))
 
-cell-count-requires : tie.Need-cell-count-requires Inv-loop μ-loop
-cell-count-requires c κs = search needs
+as-count-requires : tie.Need-as-count-requires Inv-loop μ-loop
+as-count-requires c κs = search needs
 
 mul-cell-terms : tie.Need-mul-cell-terms Inv-loop μ-loop
 mul-cell-terms c = omega (arith, start (c .before .before .before .before) .pre .0 .0 .totals-long)
@@ -191,9 +191,9 @@ row-terms-spec =
     shared-slice-read-beside
     mul-k
     loop-holds
-    mul-cell-count
-    shared-slice-read-cell-count
-    cell-count-requires
+    mul-as-count
+    shared-slice-read-as-count
+    as-count-requires
     mul-cell-terms
     shared-slice-read-cell-terms
     mul-cell-terms-2

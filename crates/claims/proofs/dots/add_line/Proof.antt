@@ -30,29 +30,29 @@ Inv-loop cells t at gap lines dots₀ s₀ k₀ l₀ dots s k l =
 abbrev μ-loop : tie.MeasureT-loop
 μ-loop cells t at gap lines dots₀ s₀ k₀ l₀ dots s k l = lines - l
 
-abbrev loop : tie.After-cell-count Inv-loop μ-loop → tie.At-loop Inv-loop μ-loop
+abbrev loop : tie.After-as-count Inv-loop μ-loop → tie.At-loop Inv-loop μ-loop
 loop c = c .before .before .before
 
-abbrev start : tie.After-cell-count Inv-loop μ-loop → tie.Start Inv-loop μ-loop
+abbrev start : tie.After-as-count Inv-loop μ-loop → tie.Start Inv-loop μ-loop
 start c = c .before .before .before .before .before .before
 
 -- the cell that was read
-cell : (c : tie.After-cell-count Inv-loop μ-loop)
-    → c .cell-count .result ≡ lineCell (start c .args .cells .now) (start c .args .at) (start c .args .gap) (loop c .loop .l)
-cell c = c .cell-count .ensures .0 ∙ ap (λ (k : ℕ). word (start c .args .cells .now) k) (loop c .loop .inv .1)
+cell : (c : tie.After-as-count Inv-loop μ-loop)
+    → c .as-count .result ≡ lineCell (start c .args .cells .now) (start c .args .at) (start c .args .gap) (loop c .loop .l)
+cell c = c .as-count .ensures .0 ∙ ap (λ (k : ℕ). word (start c .args .cells .now) k) (loop c .loop .inv .1)
 
-product-low : (c : tie.After-cell-count Inv-loop μ-loop) → start c .args .t * c .cell-count .result ≤ 65536
+product-low : (c : tie.After-as-count Inv-loop μ-loop) → start c .args .t * c .as-count .result ≤ 65536
 product-low c =
     let p = start c .pre in
     product-le tipsMost tipsMost _ _ (p .factor-low)
     (omega (arith, cell c, p .low (loop c .loop .l) (c .before .before .loop-test .taken)))
 
-square-low : (c : tie.After-cell-count Inv-loop μ-loop)
-    → (start c .args .t * c .cell-count .result) * (start c .args .t * c .cell-count .result) ≤ 4294967296
+square-low : (c : tie.After-as-count Inv-loop μ-loop)
+    → (start c .args .t * c .as-count .result) * (start c .args .t * c .as-count .result) ≤ 4294967296
 square-low c = product-le 65536 65536 _ _ (product-low c) (product-low c)
 
 -- the dot product is as it was at the start
-old : (c : tie.After-cell-count Inv-loop μ-loop)
+old : (c : tie.After-as-count Inv-loop μ-loop)
     → word (loop c .loop .dots) (loop c .loop .l) ≡ word (start c .args .dots .now) (loop c .loop .l)
 old c =
     let l = loop c .loop in
@@ -63,18 +63,18 @@ loop-holds : tie.Need-loop-holds Inv-loop μ-loop
 unfolding filled sum
 loop-holds c = (omega arith, omega arith, refl, refl, refl, omega arith)
 
-mul-cell-count : tie.Need-mul-cell-count Inv-loop μ-loop
-mul-cell-count c =
+mul-as-count : tie.Need-mul-as-count Inv-loop μ-loop
+mul-as-count c =
     let p = c .before .before .before .before .pre in
     omega (arith, p .line .inside (c .before .loop .l) (c .loop-test .taken))
 
-shared-slice-read-cell-count : tie.Need-shared-slice-read-cell-count Inv-loop μ-loop
-shared-slice-read-cell-count c =
+shared-slice-read-as-count : tie.Need-shared-slice-read-as-count Inv-loop μ-loop
+shared-slice-read-as-count c =
     let p = c .before .before .before .before .before .pre in
     omega (arith, p .line .inside (c .before .before .loop .l) (c .before .loop-test .taken))
 
-cell-count-requires : tie.Need-cell-count-requires Inv-loop μ-loop
-cell-count-requires c κs = search needs
+as-count-requires : tie.Need-as-count-requires Inv-loop μ-loop
+as-count-requires c κs = search needs
 
 mul-z : tie.Need-mul-z Inv-loop μ-loop
 mul-z c = omega (arith, product-low c)
@@ -152,9 +152,9 @@ add-line-spec =
     Inv-loop
     μ-loop
     loop-holds
-    mul-cell-count
-    shared-slice-read-cell-count
-    cell-count-requires
+    mul-as-count
+    shared-slice-read-as-count
+    as-count-requires
     mul-z
     mul-dots
     slice-read-dots

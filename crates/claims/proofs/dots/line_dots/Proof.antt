@@ -43,12 +43,12 @@ long c = omega (
 )
 
 -- the cell that was read
-cell : (c : tie.After-cell-count Inv-loop μ-loop)
+cell : (c : tie.After-as-count Inv-loop μ-loop)
     → let p = start (c .before .before .before) .args in
-    c .cell-count .result ≡ lineOf (p .cells .now) (p .gap) (p .step) (p .i) (c .before .before .before .loop .a)
+    c .as-count .result ≡ lineOf (p .cells .now) (p .gap) (p .step) (p .i) (c .before .before .before .loop .a)
 cell c =
     let l = c .before .before .before in
-    c .cell-count .ensures .0 ∙ ap (λ (k : ℕ). word (start l .args .cells .now) k) (l .loop .inv .1)
+    c .as-count .ensures .0 ∙ ap (λ (k : ℕ). word (start l .args .cells .now) k) (l .loop .inv .1)
 
 -- the dot products over all cells
 dotted : (c : tie.After-loop Inv-loop μ-loop)
@@ -81,19 +81,19 @@ loop-holds c =
       omega arith,
     )
 
-mul-cell-count : tie.Need-mul-cell-count Inv-loop μ-loop
-mul-cell-count c =
+mul-as-count : tie.Need-mul-as-count Inv-loop μ-loop
+mul-as-count c =
     let p = start (c .before) in
     omega (arith, p .pre .0 .inside (p .args .i) (c .before .loop .a) (omega arith) (c .loop-test .taken))
 
-shared-slice-read-cell-count : tie.Need-shared-slice-read-cell-count Inv-loop μ-loop
-shared-slice-read-cell-count c =
+shared-slice-read-as-count : tie.Need-shared-slice-read-as-count Inv-loop μ-loop
+shared-slice-read-as-count c =
     let p = start (c .before .before) in
     let l = c .before in
     omega (arith, p .pre .0 .inside (p .args .i) (l .before .loop .a) (omega arith) (l .loop-test .taken))
 
-cell-count-requires : tie.Need-cell-count-requires Inv-loop μ-loop
-cell-count-requires c κs = search needs
+as-count-requires : tie.Need-as-count-requires Inv-loop μ-loop
+as-count-requires c κs = search needs
 
 add-line-requires : tie.Need-add-line-requires Inv-loop μ-loop
 add-line-requires c κs =
@@ -198,9 +198,9 @@ line-dots-spec =
     clear-requires
     mul-k
     loop-holds
-    mul-cell-count
-    shared-slice-read-cell-count
-    cell-count-requires
+    mul-as-count
+    shared-slice-read-as-count
+    as-count-requires
     add-line-requires
     add-terms
     add-k

@@ -23,39 +23,39 @@ Inv-loop cells at step len totals s₀ k₀ a₀ s k a =
 abbrev μ-loop : tie.MeasureT-loop
 μ-loop cells at step len totals s₀ k₀ a₀ s k a = len - a
 
-abbrev start : tie.After-cell-count Inv-loop μ-loop → tie.Start Inv-loop μ-loop
+abbrev start : tie.After-as-count Inv-loop μ-loop → tie.Start Inv-loop μ-loop
 start c = c .before .before .before .before .before .before
 
 -- the cell that was read
-cell : (c : tie.After-cell-count Inv-loop μ-loop) → c .cell-count .result ≡ lineCell (start c .args .cells .now)
+cell : (c : tie.After-as-count Inv-loop μ-loop) → c .as-count .result ≡ lineCell (start c .args .cells .now)
     (start c .args .at) (start c .args .step) (c .before .before .before .loop .a)
 cell c =
-    c .cell-count .ensures .0
+    c .as-count .ensures .0
     ∙ ap (λ (k : ℕ). word (start c .args .cells .now) k) (c .before .before .before .loop .inv .1)
 
-term-le : (c : tie.After-cell-count Inv-loop μ-loop)
-    → c .cell-count .result * (word (start c .args .totals .now) (c .before .before .before .loop .a) - c .cell-count .result)
+term-le : (c : tie.After-as-count Inv-loop μ-loop)
+    → c .as-count .result * (word (start c .args .totals .now) (c .before .before .before .loop .a) - c .as-count .result)
     ≤ 16777216
 term-le c =
     let q = start c .pre .1 .low (c .before .before .before .loop .a) (c .before .before .loop-test .taken) in
-    product-le 65536 tipsMost (c .cell-count .result) _ (omega arith) (omega (arith, q))
+    product-le 65536 tipsMost (c .as-count .result) _ (omega arith) (omega (arith, q))
 
 loop-holds : tie.Need-loop-holds Inv-loop μ-loop
 unfolding sum
 loop-holds c = (omega arith, omega arith, refl, omega arith)
 
-mul-cell-count : tie.Need-mul-cell-count Inv-loop μ-loop
-mul-cell-count c =
+mul-as-count : tie.Need-mul-as-count Inv-loop μ-loop
+mul-as-count c =
     let l = c .before .loop in
     omega (arith, c .before .before .before .before .pre .0 .inside (l .a) (c .loop-test .taken))
 
-shared-slice-read-cell-count : tie.Need-shared-slice-read-cell-count Inv-loop μ-loop
-shared-slice-read-cell-count c =
+shared-slice-read-as-count : tie.Need-shared-slice-read-as-count Inv-loop μ-loop
+shared-slice-read-as-count c =
     let l = c .before .before .loop in
     omega (arith, c .before .before .before .before .before .pre .0 .inside (l .a) (c .before .loop-test .taken))
 
-cell-count-requires : tie.Need-cell-count-requires Inv-loop μ-loop
-cell-count-requires c κs = search needs
+as-count-requires : tie.Need-as-count-requires Inv-loop μ-loop
+as-count-requires c κs = search needs
 
 mul-s : tie.Need-mul-s Inv-loop μ-loop
 mul-s c = search needs
@@ -116,9 +116,9 @@ line-rest-spec =
     Inv-loop
     μ-loop
     loop-holds
-    mul-cell-count
-    shared-slice-read-cell-count
-    cell-count-requires
+    mul-as-count
+    shared-slice-read-as-count
+    as-count-requires
     mul-s
     shared-slice-read-s
     sub-s

@@ -22,35 +22,35 @@ Inv-loop cells at step len s₀ k₀ a₀ s k a =
 abbrev μ-loop : tie.MeasureT-loop
 μ-loop cells at step len s₀ k₀ a₀ s k a = len - a
 
-abbrev start : tie.After-cell-count Inv-loop μ-loop → tie.Start Inv-loop μ-loop
+abbrev start : tie.After-as-count Inv-loop μ-loop → tie.Start Inv-loop μ-loop
 start c = c .before .before .before .before .before
 
 -- the cell that was read
-cell : (c : tie.After-cell-count Inv-loop μ-loop) → c .cell-count .result ≡ lineCell (start c .args .cells .now)
+cell : (c : tie.After-as-count Inv-loop μ-loop) → c .as-count .result ≡ lineCell (start c .args .cells .now)
     (start c .args .at) (start c .args .step) (c .before .before .before .loop .a)
 cell c =
-    c .cell-count .ensures .0
+    c .as-count .ensures .0
     ∙ ap (λ (k : ℕ). word (start c .args .cells .now) k) (c .before .before .before .loop .inv .1)
 
-square-le : (c : tie.After-cell-count Inv-loop μ-loop) → c .cell-count .result * c .cell-count .result ≤ 4294836225
-square-le c = product-le 65535 65535 (c .cell-count .result) (c .cell-count .result) (omega arith) (omega arith)
+square-le : (c : tie.After-as-count Inv-loop μ-loop) → c .as-count .result * c .as-count .result ≤ 4294836225
+square-le c = product-le 65535 65535 (c .as-count .result) (c .as-count .result) (omega arith) (omega arith)
 
 loop-holds : tie.Need-loop-holds Inv-loop μ-loop
 unfolding sum
 loop-holds c = (omega arith, omega arith, refl, omega arith)
 
-mul-cell-count : tie.Need-mul-cell-count Inv-loop μ-loop
-mul-cell-count c =
+mul-as-count : tie.Need-mul-as-count Inv-loop μ-loop
+mul-as-count c =
     let l = c .before .loop in
     omega (arith, c .before .before .before .pre .inside (l .a) (c .loop-test .taken))
 
-shared-slice-read-cell-count : tie.Need-shared-slice-read-cell-count Inv-loop μ-loop
-shared-slice-read-cell-count c =
+shared-slice-read-as-count : tie.Need-shared-slice-read-as-count Inv-loop μ-loop
+shared-slice-read-as-count c =
     let l = c .before .before .loop in
     omega (arith, c .before .before .before .before .pre .inside (l .a) (c .before .loop-test .taken))
 
-cell-count-requires : tie.Need-cell-count-requires Inv-loop μ-loop
-cell-count-requires c κs = search needs
+as-count-requires : tie.Need-as-count-requires Inv-loop μ-loop
+as-count-requires c κs = search needs
 
 mul-s : tie.Need-mul-s Inv-loop μ-loop
 mul-s c = omega (arith, square-le c)
@@ -93,9 +93,9 @@ line-squares-spec =
     Inv-loop
     μ-loop
     loop-holds
-    mul-cell-count
-    shared-slice-read-cell-count
-    cell-count-requires
+    mul-as-count
+    shared-slice-read-as-count
+    as-count-requires
     mul-s
     add-s
     add-k

@@ -23,22 +23,22 @@ line-squares-requires c κs = sizes-line _ _ (c .before .before .pre)
 loop-holds : tie.Need-loop-holds Inv-loop μ-loop
 loop-holds c = (omega arith, no-terms _ _)
 
-mul-cell-count : tie.Need-mul-cell-count Inv-loop μ-loop
-mul-cell-count c = let s = c .before .before .before .before .before in omega (arith, s .pre .few, c .loop-test .taken)
+mul-as-count : tie.Need-mul-as-count Inv-loop μ-loop
+mul-as-count c = let s = c .before .before .before .before .before in omega (arith, s .pre .few, c .loop-test .taken)
 
-shared-slice-read-cell-count : tie.Need-shared-slice-read-cell-count Inv-loop μ-loop
-shared-slice-read-cell-count c =
+shared-slice-read-as-count : tie.Need-shared-slice-read-as-count Inv-loop μ-loop
+shared-slice-read-as-count c =
     let s = c .before .before .before .before .before .before in
     omega (arith, s .pre .inside, c .before .loop-test .taken)
 
-cell-count-requires : tie.Need-cell-count-requires Inv-loop μ-loop
-cell-count-requires c κs = search needs
+as-count-requires : tie.Need-as-count-requires Inv-loop μ-loop
+as-count-requires c κs = search needs
 
 pairs-of-requires : tie.Need-pairs-of-requires Inv-loop μ-loop
 pairs-of-requires c κs =
     let l = c .before .before in
     let s = l .before .before .before .before .before in
-    omega (arith, c .cell-count .ensures .0, size-low _ _ (s .pre) _ (l .loop-test .taken))
+    omega (arith, c .as-count .ensures .0, size-low _ _ (s .pre) _ (l .loop-test .taken))
 
 sub-size-term : tie.Need-sub-size-term Inv-loop μ-loop
 sub-size-term c =
@@ -48,7 +48,7 @@ sub-size-term c =
     let s = w .before .before in
     omega (
       arith,
-      b .cell-count .ensures .0,
+      b .as-count .ensures .0,
       line-whole (s .args .sizes .now) (s .args .codes) _ (w .line-sum .ensures),
       size-low _ _ (s .pre) _ (l .loop-test .taken),
     )
@@ -61,7 +61,7 @@ size-term-requires c κs =
     let s = w .before .before in
     let q = size-low _ _ (s .pre) _ (l .loop-test .taken) in
     let e = line-whole (s .args .sizes .now) (s .args .codes) _ (w .line-sum .ensures) in
-    (omega (arith, b .cell-count .ensures .0, q), omega (arith, e, q), c .pairs-of .ensures .0)
+    (omega (arith, b .as-count .ensures .0, q), omega (arith, e, q), c .pairs-of .ensures .0)
 
 add-plus : tie.Need-add-plus Inv-loop μ-loop
 add-plus c =
@@ -92,10 +92,10 @@ loop-again c =
     let w = l .before .before .before in
     let s = w .before .before in (
       omega (arith, l .loop-test .taken),
-      next-term _ _ (s .pre) _ (l .loop-test .taken) _ _ (w .line-sum .result) (b .cell-count .result) _ _
+      next-term _ _ (s .pre) _ (l .loop-test .taken) _ _ (w .line-sum .result) (b .as-count .result) _ _
           (l .before .loop .inv .1)
           (line-whole (s .args .sizes .now) (s .args .codes) _ (w .line-sum .ensures))
-          (b .cell-count .ensures .0)
+          (b .as-count .ensures .0)
           (p .pairs-of .ensures .0) (c .size-term .ensures .0) (c .size-term .ensures .1) (p .pairs-of .ensures .1),
     )
 
@@ -144,9 +144,9 @@ node-term-spec =
     line-sum-requires
     line-squares-requires
     loop-holds
-    mul-cell-count
-    shared-slice-read-cell-count
-    cell-count-requires
+    mul-as-count
+    shared-slice-read-as-count
+    as-count-requires
     pairs-of-requires
     sub-size-term
     size-term-requires

@@ -27,68 +27,68 @@ Inv-loop cells gap step len total₀ weighed₀ k₀ a₀ total weigh k a =
 abbrev μ-loop : tie.MeasureT-loop
 μ-loop cells gap step len total₀ weighed₀ k₀ a₀ total weigh k a = len - a
 
-abbrev start : tie.After-cell-count3 Inv-loop μ-loop → tie.Start Inv-loop μ-loop
+abbrev start : tie.After-as-count3 Inv-loop μ-loop → tie.Start Inv-loop μ-loop
 start c = c .before .before .before .before .before .before .before .before .before
 
 -- the cells that were read
-abbrev x : tie.After-cell-count3 Inv-loop μ-loop → ℕ
-x c = c .before .before .before .before .cell-count .result
+abbrev x : tie.After-as-count3 Inv-loop μ-loop → ℕ
+x c = c .before .before .before .before .as-count .result
 
-abbrev y : tie.After-cell-count3 Inv-loop μ-loop → ℕ
-y c = c .before .before .cell-count2 .result
+abbrev y : tie.After-as-count3 Inv-loop μ-loop → ℕ
+y c = c .before .before .as-count2 .result
 
-abbrev z : tie.After-cell-count3 Inv-loop μ-loop → ℕ
-z c = c .cell-count3 .result
+abbrev z : tie.After-as-count3 Inv-loop μ-loop → ℕ
+z c = c .as-count3 .result
 
 -- .. at this place of the lines
-abbrev place : tie.After-cell-count3 Inv-loop μ-loop → ℕ
+abbrev place : tie.After-as-count3 Inv-loop μ-loop → ℕ
 place c = c .before .before .before .before .before .before .before .loop .a
 
-first : (c : tie.After-cell-count3 Inv-loop μ-loop)
+first : (c : tie.After-as-count3 Inv-loop μ-loop)
     → x c ≡ lineCell (start c .args .cells .now) 0 (start c .args .step) (place c)
 first c =
     let l = c .before .before .before .before .before .before .before .loop in
-    let b = c .before .before .before .before .cell-count in
+    let b = c .before .before .before .before .as-count in
     let e : l .k ≡ 0 + l .a * start c .args .step = omega arith in
     b .ensures .0 ∙ ap (λ (k : ℕ). word (start c .args .cells .now) k) e
 
-second : (c : tie.After-cell-count3 Inv-loop μ-loop)
+second : (c : tie.After-as-count3 Inv-loop μ-loop)
     → y c ≡ lineCell (start c .args .cells .now) (start c .args .gap) (start c .args .step) (place c)
 second c =
     let l = c .before .before .before .before .before .before .before .loop in
-    let b = c .before .before .cell-count2 in
+    let b = c .before .before .as-count2 in
     b .ensures .0 ∙ ap (λ (k : ℕ). word (start c .args .cells .now) (start c .args .gap + k)) (l .inv .1)
 
-third : (c : tie.After-cell-count3 Inv-loop μ-loop)
+third : (c : tie.After-as-count3 Inv-loop μ-loop)
     → z c ≡ lineCell (start c .args .cells .now) (2 * start c .args .gap) (start c .args .step) (place c)
 third c =
     let l = c .before .before .before .before .before .before .before .loop in
-    c .cell-count3 .ensures .0 ∙ ap (λ (k : ℕ). word (start c .args .cells .now) (2 * start c .args .gap + k)) (l .inv .1)
+    c .as-count3 .ensures .0 ∙ ap (λ (k : ℕ). word (start c .args .cells .now) (2 * start c .args .gap + k)) (l .inv .1)
 
-first-le : (c : tie.After-cell-count3 Inv-loop μ-loop) → x c ≤ tipsMost
+first-le : (c : tie.After-as-count3 Inv-loop μ-loop) → x c ≤ tipsMost
 first-le c =
     let t = c .before .before .before .before .before .before .loop-test in
     omega (arith, first c, start c .pre .0 .low (place c) (t .taken))
 
-second-le : (c : tie.After-cell-count3 Inv-loop μ-loop) → y c ≤ tipsMost
+second-le : (c : tie.After-as-count3 Inv-loop μ-loop) → y c ≤ tipsMost
 second-le c =
     let t = c .before .before .before .before .before .before .loop-test in
     omega (arith, second c, start c .pre .1 .low (place c) (t .taken))
 
-third-le : (c : tie.After-cell-count3 Inv-loop μ-loop) → z c ≤ tipsMost
+third-le : (c : tie.After-as-count3 Inv-loop μ-loop) → z c ≤ tipsMost
 third-le c =
     let t = c .before .before .before .before .before .before .loop-test in
     omega (arith, third c, start c .pre .2 .low (place c) (t .taken))
 
 -- their product, ..
-pair-low : (c : tie.After-cell-count3 Inv-loop μ-loop) → x c * y c ≤ 65536
+pair-low : (c : tie.After-as-count3 Inv-loop μ-loop) → x c * y c ≤ 65536
 pair-low c = pair-le (x c) (y c) (z c) (first-le c) (second-le c) (third-le c)
 
-product-low : (c : tie.After-cell-count3 Inv-loop μ-loop) → product (x c) (y c) (z c) ≤ 16777216
+product-low : (c : tie.After-as-count3 Inv-loop μ-loop) → product (x c) (y c) (z c) ≤ 16777216
 product-low c = diagonal-le (x c) (y c) (z c) (first-le c) (second-le c) (third-le c)
 
 -- .. and the product times the sum
-weighed-low : (c : tie.After-cell-count3 Inv-loop μ-loop) → weighed (x c) (y c) (z c) ≤ 12884901888
+weighed-low : (c : tie.After-as-count3 Inv-loop μ-loop) → weighed (x c) (y c) (z c) ≤ 12884901888
 weighed-low c = weighed-le (x c) (y c) (z c) (first-le c) (second-le c) (third-le c)
 
 -- one cell more of each line
@@ -100,66 +100,66 @@ loop-holds : tie.Need-loop-holds Inv-loop μ-loop
 unfolding sum
 loop-holds c = (omega arith, omega arith, refl, refl, omega arith, omega arith)
 
-mul-cell-count : tie.Need-mul-cell-count Inv-loop μ-loop
-mul-cell-count c =
+mul-as-count : tie.Need-mul-as-count Inv-loop μ-loop
+mul-as-count c =
     let l = c .before .loop in
     omega (arith, c .before .before .before .pre .0 .inside (l .a) (c .loop-test .taken))
 
-shared-slice-read-cell-count : tie.Need-shared-slice-read-cell-count Inv-loop μ-loop
-shared-slice-read-cell-count c =
+shared-slice-read-as-count : tie.Need-shared-slice-read-as-count Inv-loop μ-loop
+shared-slice-read-as-count c =
     let l = c .before .before .loop in
     omega (arith, c .before .before .before .before .pre .0 .inside (l .a) (c .before .loop-test .taken))
 
-cell-count-requires : tie.Need-cell-count-requires Inv-loop μ-loop
-cell-count-requires c κs = search needs
+as-count-requires : tie.Need-as-count-requires Inv-loop μ-loop
+as-count-requires c κs = search needs
 
-add-cell-count : tie.Need-add-cell-count Inv-loop μ-loop
-add-cell-count c =
+add-as-count : tie.Need-add-as-count Inv-loop μ-loop
+add-as-count c =
     let t = c .before .before in
     let l = t .before .loop in
     omega (arith, c .before .before .before .before .before .pre .1 .inside (l .a) (t .loop-test .taken))
 
-mul-cell-count-2 : tie.Need-mul-cell-count-2 Inv-loop μ-loop
-mul-cell-count-2 c =
+mul-as-count-2 : tie.Need-mul-as-count-2 Inv-loop μ-loop
+mul-as-count-2 c =
     let t = c .before .before in
     let l = t .before .loop in
     omega (arith, c .before .before .before .before .before .pre .1 .inside (l .a) (t .loop-test .taken))
 
-shared-slice-read-cell-count-2 : tie.Need-shared-slice-read-cell-count-2 Inv-loop μ-loop
-shared-slice-read-cell-count-2 c =
+shared-slice-read-as-count-2 : tie.Need-shared-slice-read-as-count-2 Inv-loop μ-loop
+shared-slice-read-as-count-2 c =
     let t = c .before .before .before in
     let l = t .before .loop in
     omega (arith, c .before .before .before .before .before .before .pre .1 .inside (l .a) (t .loop-test .taken))
 
-cell-count-requires-2 : tie.Need-cell-count-requires-2 Inv-loop μ-loop
-cell-count-requires-2 c κs = search needs
+as-count-requires-2 : tie.Need-as-count-requires-2 Inv-loop μ-loop
+as-count-requires-2 c κs = search needs
 
-mul-cell-count-3 : tie.Need-mul-cell-count-3 Inv-loop μ-loop
-mul-cell-count-3 c = omega (arith, c .before .before .before .before .before .before .before .pre .2 .at-few)
+mul-as-count-3 : tie.Need-mul-as-count-3 Inv-loop μ-loop
+mul-as-count-3 c = omega (arith, c .before .before .before .before .before .before .before .pre .2 .at-few)
 
-add-cell-count-2 : tie.Need-add-cell-count-2 Inv-loop μ-loop
-add-cell-count-2 c =
+add-as-count-2 : tie.Need-add-as-count-2 Inv-loop μ-loop
+add-as-count-2 c =
     let t = c .before .before .before .before in
     let l = t .before .loop in
     let p = c .before .before .before .before .before .before .before .pre .2 in
     omega (arith, p .inside (l .a) (t .loop-test .taken))
 
-mul-cell-count-4 : tie.Need-mul-cell-count-4 Inv-loop μ-loop
-mul-cell-count-4 c =
+mul-as-count-4 : tie.Need-mul-as-count-4 Inv-loop μ-loop
+mul-as-count-4 c =
     let t = c .before .before .before .before in
     let l = t .before .loop in
     let p = c .before .before .before .before .before .before .before .pre .2 in
     omega (arith, p .inside (l .a) (t .loop-test .taken))
 
-shared-slice-read-cell-count-3 : tie.Need-shared-slice-read-cell-count-3 Inv-loop μ-loop
-shared-slice-read-cell-count-3 c =
+shared-slice-read-as-count-3 : tie.Need-shared-slice-read-as-count-3 Inv-loop μ-loop
+shared-slice-read-as-count-3 c =
     let t = c .before .before .before .before .before in
     let l = t .before .loop in
     let p = c .before .before .before .before .before .before .before .before .pre .2 in
     omega (arith, p .inside (l .a) (t .loop-test .taken))
 
-cell-count-requires-3 : tie.Need-cell-count-requires-3 Inv-loop μ-loop
-cell-count-requires-3 c κs = search needs
+as-count-requires-3 : tie.Need-as-count-requires-3 Inv-loop μ-loop
+as-count-requires-3 c κs = search needs
 
 mul-p : tie.Need-mul-p Inv-loop μ-loop
 mul-p c = omega (arith, pair-low c)
@@ -227,18 +227,18 @@ all-lines-spec =
     Inv-loop
     μ-loop
     loop-holds
-    mul-cell-count
-    shared-slice-read-cell-count
-    cell-count-requires
-    add-cell-count
-    mul-cell-count-2
-    shared-slice-read-cell-count-2
-    cell-count-requires-2
-    mul-cell-count-3
-    add-cell-count-2
-    mul-cell-count-4
-    shared-slice-read-cell-count-3
-    cell-count-requires-3
+    mul-as-count
+    shared-slice-read-as-count
+    as-count-requires
+    add-as-count
+    mul-as-count-2
+    shared-slice-read-as-count-2
+    as-count-requires-2
+    mul-as-count-3
+    add-as-count-2
+    mul-as-count-4
+    shared-slice-read-as-count-3
+    as-count-requires-3
     mul-p
     mul-p-2
     add-total

@@ -31,55 +31,55 @@ Inv-loop cells at to step len total₀ squares₀ beside₀ weighed₀ k₀ l₀
 abbrev μ-loop : tie.MeasureT-loop
 μ-loop cells at to step len total₀ squares₀ beside₀ weighed₀ k₀ l₀ a₀ total squares beside weigh k l a = len - a
 
-abbrev start : tie.After-cell-count2 Inv-loop μ-loop → tie.Start Inv-loop μ-loop
+abbrev start : tie.After-as-count2 Inv-loop μ-loop → tie.Start Inv-loop μ-loop
 start c = c .before .before .before .before .before .before .before
 
 -- the cells that were read
-abbrev x : tie.After-cell-count2 Inv-loop μ-loop → ℕ
-x c = c .before .before .cell-count .result
+abbrev x : tie.After-as-count2 Inv-loop μ-loop → ℕ
+x c = c .before .before .as-count .result
 
-abbrev y : tie.After-cell-count2 Inv-loop μ-loop → ℕ
-y c = c .cell-count2 .result
+abbrev y : tie.After-as-count2 Inv-loop μ-loop → ℕ
+y c = c .as-count2 .result
 
 -- .. at this place of the lines
-abbrev place : tie.After-cell-count2 Inv-loop μ-loop → ℕ
+abbrev place : tie.After-as-count2 Inv-loop μ-loop → ℕ
 place c = c .before .before .before .before .before .loop .a
 
-first : (c : tie.After-cell-count2 Inv-loop μ-loop)
+first : (c : tie.After-as-count2 Inv-loop μ-loop)
     → x c ≡ lineCell (start c .args .cells .now) (start c .args .at) (start c .args .step) (place c)
 first c =
     let l = c .before .before .before .before .before .loop in
-    c .before .before .cell-count .ensures .0 ∙ ap (λ (k : ℕ). word (start c .args .cells .now) k) (l .inv .1)
+    c .before .before .as-count .ensures .0 ∙ ap (λ (k : ℕ). word (start c .args .cells .now) k) (l .inv .1)
 
-second : (c : tie.After-cell-count2 Inv-loop μ-loop)
+second : (c : tie.After-as-count2 Inv-loop μ-loop)
     → y c ≡ lineCell (start c .args .cells .now) (start c .args .to) (start c .args .step) (place c)
 second c =
     let l = c .before .before .before .before .before .loop in
-    c .cell-count2 .ensures .0 ∙ ap (λ (k : ℕ). word (start c .args .cells .now) k) (l .inv .2)
+    c .as-count2 .ensures .0 ∙ ap (λ (k : ℕ). word (start c .args .cells .now) k) (l .inv .2)
 
-first-le : (c : tie.After-cell-count2 Inv-loop μ-loop) → x c ≤ tipsMost
+first-le : (c : tie.After-as-count2 Inv-loop μ-loop) → x c ≤ tipsMost
 first-le c =
     let t = c .before .before .before .before .loop-test in
     omega (arith, first c, start c .pre .0 .low (place c) (t .taken))
 
-second-le : (c : tie.After-cell-count2 Inv-loop μ-loop) → y c ≤ tipsMost
+second-le : (c : tie.After-as-count2 Inv-loop μ-loop) → y c ≤ tipsMost
 second-le c =
     let t = c .before .before .before .before .loop-test in
     omega (arith, second c, start c .pre .1 .low (place c) (t .taken))
 
 -- the square, the product, ..
-square-low : (c : tie.After-cell-count2 Inv-loop μ-loop) → x c * x c ≤ 65536
+square-low : (c : tie.After-as-count2 Inv-loop μ-loop) → x c * x c ≤ 65536
 square-low c = product-le tipsMost tipsMost _ _ (first-le c) (first-le c)
 
-product-low : (c : tie.After-cell-count2 Inv-loop μ-loop) → x c * y c ≤ 65536
+product-low : (c : tie.After-as-count2 Inv-loop μ-loop) → x c * y c ≤ 65536
 product-low c = product-le tipsMost tipsMost _ _ (first-le c) (second-le c)
 
 -- .. and the product times the sum
-weighed-low : (c : tie.After-cell-count2 Inv-loop μ-loop) → x c * y c * (x c + y c) ≤ 33554432
+weighed-low : (c : tie.After-as-count2 Inv-loop μ-loop) → x c * y c * (x c + y c) ≤ 33554432
 weighed-low c = product-le 65536 512 _ _ (product-low c) (omega (arith, first-le c, second-le c))
 
 -- how far the places have come
-stepped : (c : tie.After-cell-count2 Inv-loop μ-loop) → place c * start c .args .step ≤ 65536
+stepped : (c : tie.After-as-count2 Inv-loop μ-loop) → place c * start c .args .step ≤ 65536
 stepped c =
     let p = start c .pre .0 in
     product-le tipsMost tipsMost (place c) (start c .args .step) (omega (arith, p .few)) (p .step-few)
@@ -100,33 +100,33 @@ loop-holds c = (
   omega arith,
 )
 
-mul-cell-count : tie.Need-mul-cell-count Inv-loop μ-loop
-mul-cell-count c =
+mul-as-count : tie.Need-mul-as-count Inv-loop μ-loop
+mul-as-count c =
     let l = c .before .loop in
     omega (arith, c .before .before .before .pre .0 .inside (l .a) (c .loop-test .taken))
 
-shared-slice-read-cell-count : tie.Need-shared-slice-read-cell-count Inv-loop μ-loop
-shared-slice-read-cell-count c =
+shared-slice-read-as-count : tie.Need-shared-slice-read-as-count Inv-loop μ-loop
+shared-slice-read-as-count c =
     let l = c .before .before .loop in
     omega (arith, c .before .before .before .before .pre .0 .inside (l .a) (c .before .loop-test .taken))
 
-cell-count-requires : tie.Need-cell-count-requires Inv-loop μ-loop
-cell-count-requires c κs = search needs
+as-count-requires : tie.Need-as-count-requires Inv-loop μ-loop
+as-count-requires c κs = search needs
 
-mul-cell-count-2 : tie.Need-mul-cell-count-2 Inv-loop μ-loop
-mul-cell-count-2 c =
+mul-as-count-2 : tie.Need-mul-as-count-2 Inv-loop μ-loop
+mul-as-count-2 c =
     let t = c .before .before in
     let l = t .before .loop in
     omega (arith, c .before .before .before .before .before .pre .1 .inside (l .a) (t .loop-test .taken))
 
-shared-slice-read-cell-count-2 : tie.Need-shared-slice-read-cell-count-2 Inv-loop μ-loop
-shared-slice-read-cell-count-2 c =
+shared-slice-read-as-count-2 : tie.Need-shared-slice-read-as-count-2 Inv-loop μ-loop
+shared-slice-read-as-count-2 c =
     let t = c .before .before .before in
     let l = t .before .loop in
     omega (arith, c .before .before .before .before .before .before .pre .1 .inside (l .a) (t .loop-test .taken))
 
-cell-count-requires-2 : tie.Need-cell-count-requires-2 Inv-loop μ-loop
-cell-count-requires-2 c κs = search needs
+as-count-requires-2 : tie.Need-as-count-requires-2 Inv-loop μ-loop
+as-count-requires-2 c κs = search needs
 
 mul-p : tie.Need-mul-p Inv-loop μ-loop
 mul-p c = omega (arith, product-low c)
@@ -205,12 +205,12 @@ two-lines-spec =
     Inv-loop
     μ-loop
     loop-holds
-    mul-cell-count
-    shared-slice-read-cell-count
-    cell-count-requires
-    mul-cell-count-2
-    shared-slice-read-cell-count-2
-    cell-count-requires-2
+    mul-as-count
+    shared-slice-read-as-count
+    as-count-requires
+    mul-as-count-2
+    shared-slice-read-as-count-2
+    as-count-requires-2
     mul-p
     add-total
     mul-squares

@@ -19,9 +19,6 @@ loop-holds c = search needs
 before-requires : tie.Need-before-requires Inv-loop μ-loop
 before-requires c κs = search needs
 
-mul-cells : tie.Need-mul-cells Inv-loop μ-loop
-mul-cells c = search needs
-
 slice-write-cells : tie.Need-slice-write-cells Inv-loop μ-loop
 slice-write-cells c = search needs
 
@@ -48,7 +45,6 @@ fill-spec =
     μ-loop
     loop-holds
     before-requires
-    mul-cells
     slice-write-cells
     add-i
     loop-less

@@ -15,9 +15,6 @@ abbrev μ-loop : tie.MeasureT-loop
 loop-holds : tie.Need-loop-holds Inv-loop μ-loop
 loop-holds c = search needs
 
-mul-cell-count : tie.Need-mul-cell-count Inv-loop μ-loop
-mul-cell-count c = search needs
-
 shared-slice-read-cell-count : tie.Need-shared-slice-read-cell-count Inv-loop μ-loop
 shared-slice-read-cell-count c = search needs
 
@@ -46,7 +43,6 @@ sum-of-spec =
     Inv-loop
     μ-loop
     loop-holds
-    mul-cell-count
     shared-slice-read-cell-count
     cell-count-requires
     plus-requires

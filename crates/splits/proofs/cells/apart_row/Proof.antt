@@ -41,26 +41,14 @@ add-is-apart c =
     let s = start c in
     omega (arith, s .pre .low, s .pre .narrow, c .loop-test .taken)
 
-mul-is-apart : tie.Need-mul-is-apart Inv-loop μ-loop
-mul-is-apart c =
-    let s = start c in
-    omega (arith, s .pre .low, s .pre .narrow, c .loop-test .taken)
-
 shared-slice-read-is-apart : tie.Need-shared-slice-read-is-apart Inv-loop μ-loop
 shared-slice-read-is-apart c =
     let s = start (c .before) in
     omega (arith, s .pre .inside, c .before .loop-test .taken)
 
-mul-is-apart-2 : tie.Need-mul-is-apart-2 Inv-loop μ-loop
-mul-is-apart-2 c = omega (arith, start (c .before) .pre .low)
-
 shared-slice-read-is-apart-2 : tie.Need-shared-slice-read-is-apart-2 Inv-loop μ-loop
 shared-slice-read-is-apart-2 c =
     omega (arith, start (c .before .before) .pre .inside, c .before .before .loop-test .taken)
-
-mul-is-apart-3 : tie.Need-mul-is-apart-3 Inv-loop μ-loop
-mul-is-apart-3 c =
-    omega (arith, start (c .before .before) .pre .narrow, c .before .before .loop-test .taken)
 
 shared-slice-read-is-apart-3 : tie.Need-shared-slice-read-is-apart-3 Inv-loop μ-loop
 shared-slice-read-is-apart-3 c =
@@ -112,11 +100,8 @@ apart-row-spec =
     μ-loop
     loop-holds
     add-is-apart
-    mul-is-apart
     shared-slice-read-is-apart
-    mul-is-apart-2
     shared-slice-read-is-apart-2
-    mul-is-apart-3
     shared-slice-read-is-apart-3
     is-apart-requires
     add-found

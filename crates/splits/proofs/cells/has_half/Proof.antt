@@ -82,17 +82,11 @@ shared-slice-read-are-halves-2 c = omega (arith, sizes (c .before .before) .few)
 mul-are-halves-3 : tie.Need-mul-are-halves-3 Inv-loop μ-loop
 mul-are-halves-3 c = omega (arith, sizes (c .before .before) .there .0)
 
-mul-are-halves-4 : tie.Need-mul-are-halves-4 Inv-loop μ-loop
-mul-are-halves-4 c = omega (arith, sizes (c .before .before) .there .0)
-
 shared-slice-read-are-halves-3 : tie.Need-shared-slice-read-are-halves-3 Inv-loop μ-loop
 shared-slice-read-are-halves-3 c = omega (arith, sizes (c .before .before .before) .there .1)
 
-mul-are-halves-5 : tie.Need-mul-are-halves-5 Inv-loop μ-loop
-mul-are-halves-5 c = omega (arith, sizes (c .before .before .before) .here .0)
-
-mul-are-halves-6 : tie.Need-mul-are-halves-6 Inv-loop μ-loop
-mul-are-halves-6 c = omega (arith, sizes (c .before .before .before) .here .0)
+mul-are-halves-4 : tie.Need-mul-are-halves-4 Inv-loop μ-loop
+mul-are-halves-4 c = omega (arith, sizes (c .before .before .before) .here .0)
 
 shared-slice-read-are-halves-4 : tie.Need-shared-slice-read-are-halves-4 Inv-loop μ-loop
 shared-slice-read-are-halves-4 c = omega (arith, sizes (c .before .before .before .before) .here .1)
@@ -137,10 +131,8 @@ has-half-spec =
     mul-are-halves-2
     shared-slice-read-are-halves-2
     mul-are-halves-3
-    mul-are-halves-4
     shared-slice-read-are-halves-3
-    mul-are-halves-5
-    mul-are-halves-6
+    mul-are-halves-4
     shared-slice-read-are-halves-4
     are-halves-requires
     returns

@@ -60,9 +60,6 @@ sub-up c =
 mul-above : tie.Need-mul-above
 mul-above c = omega (arith, cells c .low .1)
 
-mul-above-2 : tie.Need-mul-above-2
-mul-above-2 c = omega (arith, cells c .low .1)
-
 shared-slice-read-above : tie.Need-shared-slice-read-above
 shared-slice-read-above c = omega (arith, cells (c .before) .inside .1)
 
@@ -71,9 +68,6 @@ add-is-new c = search needs
 
 mul-is-new : tie.Need-mul-is-new
 mul-is-new c = omega (arith, cells (c .before) .low .0)
-
-mul-is-new-2 : tie.Need-mul-is-new-2
-mul-is-new-2 c = omega (arith, cells (c .before) .low .0)
 
 shared-slice-read-is-new : tie.Need-shared-slice-read-is-new
 shared-slice-read-is-new c = omega (arith, cells (c .before .before) .inside .0)
@@ -118,11 +112,9 @@ is-first-spec =
     as-index-requires
     sub-up
     mul-above
-    mul-above-2
     shared-slice-read-above
     add-is-new
     mul-is-new
-    mul-is-new-2
     shared-slice-read-is-new
     is-new-requires
     returns

@@ -41,26 +41,14 @@ add-is-both c =
     let s = start c in
     omega (arith, s .pre .low, s .pre .narrow, c .loop-test .taken)
 
-mul-is-both : tie.Need-mul-is-both Inv-loop μ-loop
-mul-is-both c =
-    let s = start c in
-    omega (arith, s .pre .low, s .pre .narrow, c .loop-test .taken)
-
 shared-slice-read-is-both : tie.Need-shared-slice-read-is-both Inv-loop μ-loop
 shared-slice-read-is-both c =
     let s = start (c .before) in
     omega (arith, s .pre .inside, c .before .loop-test .taken)
 
-mul-is-both-2 : tie.Need-mul-is-both-2 Inv-loop μ-loop
-mul-is-both-2 c = omega (arith, start (c .before) .pre .low)
-
 shared-slice-read-is-both-2 : tie.Need-shared-slice-read-is-both-2 Inv-loop μ-loop
 shared-slice-read-is-both-2 c =
     omega (arith, start (c .before .before) .pre .inside, c .before .before .loop-test .taken)
-
-mul-is-both-3 : tie.Need-mul-is-both-3 Inv-loop μ-loop
-mul-is-both-3 c =
-    omega (arith, start (c .before .before) .pre .narrow, c .before .before .loop-test .taken)
 
 shared-slice-read-is-both-3 : tie.Need-shared-slice-read-is-both-3 Inv-loop μ-loop
 shared-slice-read-is-both-3 c =
@@ -112,11 +100,8 @@ shared-row-spec =
     μ-loop
     loop-holds
     add-is-both
-    mul-is-both
     shared-slice-read-is-both
-    mul-is-both-2
     shared-slice-read-is-both-2
-    mul-is-both-3
     shared-slice-read-is-both-3
     is-both-requires
     add-found

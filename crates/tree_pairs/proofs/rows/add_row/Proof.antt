@@ -33,17 +33,11 @@ loop-holds c = row-none _ _ _ _
 add-work : tie.Need-add-work Inv-loop μ-loop
 add-work c = omega (arith, room c)
 
-mul-work : tie.Need-mul-work Inv-loop μ-loop
-mul-work c = omega (arith, room c)
-
 slice-read-work : tie.Need-slice-read-work Inv-loop μ-loop
 slice-read-work c = omega (arith, room (c .before))
 
 add-work-2 : tie.Need-add-work-2 Inv-loop μ-loop
 add-work-2 c = omega (arith, room (c .before))
-
-mul-work-2 : tie.Need-mul-work-2 Inv-loop μ-loop
-mul-work-2 c = omega (arith, room (c .before))
 
 slice-read-work-2 : tie.Need-slice-read-work-2 Inv-loop μ-loop
 slice-read-work-2 c = omega (arith, room (c .before .before))
@@ -55,9 +49,6 @@ add-work-3 c =
 
 add-work-4 : tie.Need-add-work-4 Inv-loop μ-loop
 add-work-4 c = omega (arith, room (c .before .before))
-
-mul-work-3 : tie.Need-mul-work-3 Inv-loop μ-loop
-mul-work-3 c = omega (arith, room (c .before .before))
 
 slice-write-work : tie.Need-slice-write-work Inv-loop μ-loop
 slice-write-work c = omega (arith, room (c .before .before))
@@ -87,14 +78,11 @@ add-row-spec =
     μ-loop
     loop-holds
     add-work
-    mul-work
     slice-read-work
     add-work-2
-    mul-work-2
     slice-read-work-2
     add-work-3
     add-work-4
-    mul-work-3
     slice-write-work
     add-j
     loop-less

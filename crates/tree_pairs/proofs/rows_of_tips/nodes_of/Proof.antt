@@ -5,7 +5,7 @@ use mathlib.Core.Logic.{⊎-elim}
 use mathlib.Core.Path.{_≡_}
 use native.Mathlib.Omega.{arith}
 use lib.ListN.{length}
-use Rattle.tree_pairs.specs.lemmas.NodeCells.{NodesOf, nodes-none, nodes-next, nodes-skip}
+use Rattle.tree_pairs.specs.lemmas.NodeCells.{NodesOf, nodes-next, nodes-skip}
 use borrow.Author.Needs.{needs}
 use Rattle.tree_pairs.proofs.rows_of_tips.nodes_of.Statement.{statement}
 use Rattle.tree_pairs.proofs.rows_of_tips.nodes_of.Tie as tie
@@ -17,7 +17,7 @@ abbrev μ-loop : tie.MeasureT-loop
 μ-loop labels nodes₀ v₀ nodes v = length labels - v
 
 loop-holds : tie.Need-loop-holds Inv-loop μ-loop
-loop-holds c = (omega arith, nodes-none _)
+loop-holds c = (omega arith, c .before .pre .1)
 
 mul-as-index : tie.Need-mul-as-index Inv-loop μ-loop
 mul-as-index c = search needs
@@ -31,8 +31,8 @@ as-index-requires c κs = search needs
 mul-nodes : tie.Need-mul-nodes Inv-loop μ-loop
 mul-nodes c = search needs
 
-array-write-nodes : tie.Need-array-write-nodes Inv-loop μ-loop
-array-write-nodes c = search needs
+element-write-nodes : tie.Need-element-write-nodes Inv-loop μ-loop
+element-write-nodes c = search needs
 
 add-v : tie.Need-add-v Inv-loop μ-loop
 add-v c = search needs
@@ -68,7 +68,7 @@ nodes-of-spec =
     shared-slice-read-as-index
     as-index-requires
     mul-nodes
-    array-write-nodes
+    element-write-nodes
     add-v
     loop-less
     loop-again

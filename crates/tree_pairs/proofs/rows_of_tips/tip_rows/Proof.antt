@@ -1,4 +1,4 @@
--- The invariant: the rows of the nodes below `v` are marked.
+-- The invariant: the rows of the nodes below `v` are filled.
 -- Assumes nothing.
 use Prim.Native.Nat.{_≤_, _<_, _-_}
 use mathlib.Core.Path.{_≡_, sym, _∙_, ap}
@@ -6,18 +6,20 @@ use mathlib.Core.Bool.{true}
 use mathlib.Core.Logic.{⊎-elim}
 use native.Mathlib.Omega.{arith}
 use lib.ListN.{length}
-use Rattle.tree_pairs.specs.lemmas.TipRows.{countedLabel, counted-inside, TipRows, rows-none, base-low, mark-room}
+use Rattle.table_words.specs.Sizes.{nodeRoom}
+use Rattle.tree_check.specs.Table.{word}
+use Rattle.tree_pairs.specs.lemmas.TipRows.{countedLabel, counted-inside, TipRows, rows-none, base-low, span-room}
 use Rattle.tree_pairs.specs.lemmas.TipRows.{rows-skip, rows-next, rows-all}
 use borrow.Author.Needs.{needs}
 use Rattle.tree_pairs.proofs.rows_of_tips.tip_rows.Statement.{statement}
 use Rattle.tree_pairs.proofs.rows_of_tips.tip_rows.Tie as tie
 
 abbrev Inv-loop : tie.InvT-loop
-Inv-loop labels marks n parents nodes work₀ width v₀ work v =
+Inv-loop labels marks n parents nodes begin end work₀ width v₀ work v =
     (1 ≤ v) × (v ≤ length labels) × TipRows labels marks n parents nodes v work₀ work
 
 abbrev μ-loop : tie.MeasureT-loop
-μ-loop labels marks n parents nodes work₀ width v₀ work v = length labels - v
+μ-loop labels marks n parents nodes begin end work₀ width v₀ work v = length labels - v
 
 -- ---- the points of the program
 
@@ -27,12 +29,32 @@ start c = c .before .before .before .before .before .before
 abbrev turn : tie.After-as-index Inv-loop μ-loop → tie.In-loop Inv-loop μ-loop
 turn c = c .before .before
 
+-- the node of a counted label is found
+abbrev label-read : tie.After-node Inv-loop μ-loop → tie.After-as-index Inv-loop μ-loop
+label-read c = c .before .before .before
+
 -- ---- what is known there
 
 -- a counted label is one of n
 label-inside : (c : tie.After-is-counted Inv-loop μ-loop) → c .is-counted .result ≡ true
     → c .before .as-index .result < start (turn (c .before)) .args .n
 label-inside c e = counted-inside _ _ _ (sym e ∙ c .is-counted .ensures)
+
+-- .. and its node one of the second tree's
+node-inside : (c : tie.After-node Inv-loop μ-loop)
+    → word (start (turn (label-read c)) .args .nodes .now) (label-read c .as-index .result) < nodeRoom
+node-inside c =
+    let w = label-read c in
+    let l = turn w in
+    let s = start l in
+    let e = w .as-index .ensures .0 in
+    let i = label-inside (c .before .before) (c .before .if1 .taken) in
+    omega (
+      arith,
+      ap (word (s .args .nodes .now)) e,
+      s .pre .node (l .before .loop .v) (l .before .loop .inv .0) (l .loop-test .taken) (omega (arith, e, i)) .1,
+      s .pre .few,
+    )
 
 -- ---- the needs
 
@@ -54,33 +76,32 @@ as-index-requires c κs = search needs
 is-counted-requires : tie.Need-is-counted-requires Inv-loop μ-loop
 is-counted-requires c κs = search needs
 
+mul-node : tie.Need-mul-node Inv-loop μ-loop
+mul-node c = search needs
+
+element-copy-out-node : tie.Need-element-copy-out-node Inv-loop μ-loop
+element-copy-out-node c = omega (arith, label-inside (c .before) (c .if1 .taken), start (turn (c .before .before)) .pre .tips)
+
 sub-tip-row : tie.Need-sub-tip-row Inv-loop μ-loop
 sub-tip-row c = search needs
 
 mul-tip-row : tie.Need-mul-tip-row Inv-loop μ-loop
 mul-tip-row c =
-    let l = turn (c .before .before .before) in
+    let l = turn (label-read (c .before)) in
     omega (
       arith,
-      base-low _ _ _ _ _ _ (start l .pre) _ (l .before .loop .v) (l .before .loop .inv .0) (l .loop-test .taken)
+      base-low _ _ _ _ _ _ _ _ (start l .pre) _ (l .before .loop .v) (l .before .loop .inv .0) (l .loop-test .taken)
           (l .before .loop .inv .2),
     )
 
-mul-tip-row-2 : tie.Need-mul-tip-row-2 Inv-loop μ-loop
-mul-tip-row-2 c = search needs
-
 element-copy-out-tip-row : tie.Need-element-copy-out-tip-row Inv-loop μ-loop
-element-copy-out-tip-row c =
-    let k = c .before .before in
-    omega (arith, label-inside k (c .before .if1 .taken), start (turn (k .before)) .pre .tips)
+element-copy-out-tip-row c = omega (arith, node-inside (c .before))
 
 tip-row-requires : tie.Need-tip-row-requires Inv-loop μ-loop
 tip-row-requires c κs =
-    let k = c .before .before .before in
-    let w = k .before in
-    let l = turn w in
-    mark-room _ _ _ _ _ _ (start l .pre) _ (l .before .loop .v) (l .before .loop .inv .0) (l .loop-test .taken)
-    (l .before .loop .inv .2) (w .as-index .result) (w .as-index .ensures .0) (label-inside k (c .before .before .if1 .taken))
+    let l = turn (label-read (c .before .before)) in
+    span-room _ _ _ _ _ _ _ _ (start l .pre) _ (l .before .loop .v) (l .before .loop .inv .0) (l .loop-test .taken)
+    (l .before .loop .inv .2)
 
 add-v : tie.Need-add-v Inv-loop μ-loop
 add-v c = search needs
@@ -99,9 +120,9 @@ loop-again c =
       omega (arith, t .loop-test .taken),
       omega (arith, t .loop-test .taken),
       ⊎-elim
-          (λ h. rw (h .6) (rows-next _ _ _ _ _ _ (s .pre) _ (l .v) (l .inv .0) (t .loop-test .taken) (l .inv .2)
-          (w .as-index .result) (w .as-index .ensures .0) (sym (h .0 .taken) ∙ q) _ (h .3 .ensures)))
-          (λ h. rw (h .1) (rows-skip _ _ _ _ _ _ (s .pre) _ (l .v) (l .inv .0) (t .loop-test .taken) (l .inv .2)
+          (λ h. rw (h .7) (rows-next _ _ _ _ _ _ _ _ (s .pre) _ (l .v) (l .inv .0) (t .loop-test .taken) (l .inv .2)
+          (w .as-index .result) (w .as-index .ensures .0) (sym (h .0 .taken) ∙ q) _ (h .4 .ensures)))
+          (λ h. rw (h .1) (rows-skip _ _ _ _ _ _ _ _ (s .pre) _ (l .v) (l .inv .0) (t .loop-test .taken) (l .inv .2)
           (sym (h .0 .left) ∙ q ∙ ap (countedLabel (s .args .marks .now) (s .args .n)) (w .as-index .ensures .0))))
           (c .if1 .came),
     )
@@ -126,9 +147,10 @@ tip-rows-spec =
     shared-slice-read-as-index
     as-index-requires
     is-counted-requires
+    mul-node
+    element-copy-out-node
     sub-tip-row
     mul-tip-row
-    mul-tip-row-2
     element-copy-out-tip-row
     tip-row-requires
     add-v

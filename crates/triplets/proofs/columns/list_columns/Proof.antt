@@ -79,9 +79,6 @@ slice-write-above c =
 add-cell-count : tie.Need-add-cell-count Inv-loop μ-loop
 add-cell-count c = search needs
 
-mul-cell-count : tie.Need-mul-cell-count Inv-loop μ-loop
-mul-cell-count c = search needs
-
 shared-slice-read-cell-count : tie.Need-shared-slice-read-cell-count Inv-loop μ-loop
 shared-slice-read-cell-count c = search needs
 
@@ -150,7 +147,6 @@ list-columns-spec =
     mul-above
     slice-write-above
     add-cell-count
-    mul-cell-count
     shared-slice-read-cell-count
     cell-count-requires
     add-count

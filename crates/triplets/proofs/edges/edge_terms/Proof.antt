@@ -90,20 +90,14 @@ add-cell-count c = search needs
 mul-cell-count : tie.Need-mul-cell-count Inv-loop μ-loop
 mul-cell-count c = omega (arith, cells c .cells .low .0)
 
-mul-cell-count-2 : tie.Need-mul-cell-count-2 Inv-loop μ-loop
-mul-cell-count-2 c = omega (arith, cells c .cells .low .0)
-
 shared-slice-read-cell-count : tie.Need-shared-slice-read-cell-count Inv-loop μ-loop
 shared-slice-read-cell-count c = omega (arith, cells (c .before) .cells .inside .0)
 
 cell-count-requires : tie.Need-cell-count-requires Inv-loop μ-loop
 cell-count-requires c κs = search needs
 
-mul-cell-count-3 : tie.Need-mul-cell-count-3 Inv-loop μ-loop
-mul-cell-count-3 c = omega (arith, cells (c .before .before) .cells .low .1)
-
-mul-cell-count-4 : tie.Need-mul-cell-count-4 Inv-loop μ-loop
-mul-cell-count-4 c = omega (arith, cells (c .before .before) .cells .low .1)
+mul-cell-count-2 : tie.Need-mul-cell-count-2 Inv-loop μ-loop
+mul-cell-count-2 c = omega (arith, cells (c .before .before) .cells .low .1)
 
 shared-slice-read-cell-count-2 : tie.Need-shared-slice-read-cell-count-2 Inv-loop μ-loop
 shared-slice-read-cell-count-2 c = omega (arith, cells (c .before .before .before) .cells .inside .1)
@@ -162,11 +156,9 @@ edge-terms-spec =
     sub-above
     add-cell-count
     mul-cell-count
-    mul-cell-count-2
     shared-slice-read-cell-count
     cell-count-requires
-    mul-cell-count-3
-    mul-cell-count-4
+    mul-cell-count-2
     shared-slice-read-cell-count-2
     cell-count-requires-2
     edge-term-requires

@@ -39,9 +39,6 @@ nested c = nested-read _ _ _ _ _ _ _ _ (i-is c) (r-is c) (c-is c) (c .cell-count
 add-cell-count : tie.Need-add-cell-count
 add-cell-count c = search needs
 
-mul-cell-count : tie.Need-mul-cell-count
-mul-cell-count c = search needs
-
 shared-slice-read-cell-count : tie.Need-shared-slice-read-cell-count
 shared-slice-read-cell-count c = search needs
 
@@ -50,9 +47,6 @@ cell-count-requires c κs = search needs
 
 add-cell-count-2 : tie.Need-add-cell-count-2
 add-cell-count-2 c = search needs
-
-mul-cell-count-2 : tie.Need-mul-cell-count-2
-mul-cell-count-2 c = search needs
 
 shared-slice-read-cell-count-2 : tie.Need-shared-slice-read-cell-count-2
 shared-slice-read-cell-count-2 c = search needs
@@ -63,9 +57,6 @@ cell-count-requires-2 c κs = search needs
 add-cell-count-3 : tie.Need-add-cell-count-3
 add-cell-count-3 c = search needs
 
-mul-cell-count-3 : tie.Need-mul-cell-count-3
-mul-cell-count-3 c = search needs
-
 shared-slice-read-cell-count-3 : tie.Need-shared-slice-read-cell-count-3
 shared-slice-read-cell-count-3 c = search needs
 
@@ -74,9 +65,6 @@ cell-count-requires-3 c κs = search needs
 
 add-cell-count-4 : tie.Need-add-cell-count-4
 add-cell-count-4 c = search needs
-
-mul-cell-count-4 : tie.Need-mul-cell-count-4
-mul-cell-count-4 c = search needs
 
 shared-slice-read-cell-count-4 : tie.Need-shared-slice-read-cell-count-4
 shared-slice-read-cell-count-4 c = search needs
@@ -103,19 +91,15 @@ cell-terms-spec =
     tie.close
     (tie.spec
     add-cell-count
-    mul-cell-count
     shared-slice-read-cell-count
     cell-count-requires
     add-cell-count-2
-    mul-cell-count-2
     shared-slice-read-cell-count-2
     cell-count-requires-2
     add-cell-count-3
-    mul-cell-count-3
     shared-slice-read-cell-count-3
     cell-count-requires-3
     add-cell-count-4
-    mul-cell-count-4
     shared-slice-read-cell-count-4
     cell-count-requires-4
     alike-term-requires

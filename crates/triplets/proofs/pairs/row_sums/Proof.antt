@@ -44,9 +44,6 @@ sub-width c = search needs
 mul-base : tie.Need-mul-base
 mul-base c = omega (arith, starts c .0)
 
-mul-cell-count : tie.Need-mul-cell-count
-mul-cell-count c = omega (arith, starts c .0)
-
 shared-slice-read-cell-count : tie.Need-shared-slice-read-cell-count
 shared-slice-read-cell-count c = starts (c .before) .2
 
@@ -99,7 +96,6 @@ row-sums-spec =
     (tie.spec
     sub-width
     mul-base
-    mul-cell-count
     shared-slice-read-cell-count
     cell-count-requires
     returns
