@@ -14,7 +14,8 @@
  *
  * Threads. No globals, no allocation, no input or output. Calls from several threads at once need no lock, as long as
  * no two of them lend the same cells and nobody writes to a table or to marks that are being read. leskwyn_claim_sums,
- * leskwyn_quartet_table and leskwyn_weighted_distance take up to 240 kB of stack, the others up to 40 kB.
+ * leskwyn_quartet_table and leskwyn_weighted_distance take up to 240 kB of stack, leskwyn_triplet_table up to 64 kB, the
+ * others up to 40 kB.
  *
  * A tree table. 16-bit words: n, the tips (2 to 256); m, the nodes (n to 4n); then m parent words; then m label words;
  * 2 + 2m words in all.
@@ -24,6 +25,9 @@
  *   - A tip other than node 0 has no child. An inner node has one child or more; with one it is a pass-through node,
  *     which changes no count and no distance.
  * Edge i (1 to m - 1) joins node i to its parent; the labels beyond it are those on node i's side, away from tip 0.
+ *
+ * Work. A call that counts two trees is lent cells of one byte each, one for each edge of the first tree with each edge
+ * of the second: how many labels lie beyond both edges. They are 255 at most, since tip 0 lies beyond no edge.
  *
  * Marks. n bytes, one for each label from 0 on: LESKWYN_KEPT, 1, or LESKWYN_STRUCK, 0. A call that takes marks counts
  * kept labels only, in its cells too: its figures are those of the two trees without the tips of the struck labels. Any
@@ -62,7 +66,7 @@ extern "C" {
 #endif
 
 /* The version of this header as one number: major * 1000000 + minor * 1000 + patch. */
-#define LESKWYN_VERSION 8000
+#define LESKWYN_VERSION 9000
 
 /* The label word of an inner node. */
 #define LESKWYN_INNER 65535
@@ -71,7 +75,10 @@ extern "C" {
 #define LESKWYN_STRUCK 0
 #define LESKWYN_KEPT 1
 
-/* Cells that are enough for the work of every pair: (1024 - 1)(1024 - 1), for two trees of 256 tips and 1024 nodes. */
+/*
+ * Cells, and so bytes, that are enough for the work of every pair: (1024 - 1)(1024 - 1), for two trees of 256 tips and
+ * 1024 nodes.
+ */
 #define LESKWYN_WORK_CELLS 1046529
 
 /* The refusal, or 0; the first cell of the labels beyond an edge in a walk, and how many they are. */
@@ -170,25 +177,25 @@ leskwyn_topology_answer leskwyn_topology(const uint16_t *table, size_t words,
 uint16_t leskwyn_crossings(const uint16_t *first, size_t first_words,
                            const uint16_t *second, size_t second_words,
                            const uint8_t *marks, size_t marks_count,
-                           uint16_t *work, size_t cells);
+                           uint8_t *work, size_t cells);
 
 /* The claim sums of two trees. Leaves the crossings in the work, as leskwyn_crossings does. */
 leskwyn_claim_sums_answer leskwyn_claim_sums(const uint16_t *first, size_t first_words,
                                              const uint16_t *second, size_t second_words,
                                              const uint8_t *marks, size_t marks_count,
-                                             uint16_t *work, size_t cells);
+                                             uint8_t *work, size_t cells);
 
 /* The quartet table of two trees. Leaves the crossings in the work, as leskwyn_crossings does. */
 leskwyn_quartet_table_answer leskwyn_quartet_table(const uint16_t *first, size_t first_words,
                                                    const uint16_t *second, size_t second_words,
                                                    const uint8_t *marks, size_t marks_count,
-                                                   uint16_t *work, size_t cells);
+                                                   uint8_t *work, size_t cells);
 
 /* The split counts of two trees. Leaves the crossings in the work, as leskwyn_crossings does. */
 leskwyn_split_counts_answer leskwyn_split_counts(const uint16_t *first, size_t first_words,
                                                  const uint16_t *second, size_t second_words,
                                                  const uint8_t *marks, size_t marks_count,
-                                                 uint16_t *work, size_t cells);
+                                                 uint8_t *work, size_t cells);
 
 /*
  * The triplet table of two trees, over all labels. Leaves the crossings of all labels in the work, as leskwyn_crossings
@@ -196,7 +203,7 @@ leskwyn_split_counts_answer leskwyn_split_counts(const uint16_t *first, size_t f
  */
 leskwyn_triplet_table_answer leskwyn_triplet_table(const uint16_t *first, size_t first_words,
                                                    const uint16_t *second, size_t second_words,
-                                                   uint16_t *work, size_t cells);
+                                                   uint8_t *work, size_t cells);
 
 /* The weight of a star against a butterfly: nothing, p = 0; full, p = 1; a part, p being its fraction. */
 #define LESKWYN_WEIGHT_NONE 0
@@ -211,7 +218,7 @@ leskwyn_triplet_table_answer leskwyn_triplet_table(const uint16_t *first, size_t
 leskwyn_weighted_distance_answer leskwyn_weighted_distance(const uint16_t *first, size_t first_words,
                                                            const uint16_t *second, size_t second_words,
                                                            const uint8_t *marks, size_t marks_count,
-                                                           uint16_t *work, size_t cells,
+                                                           uint8_t *work, size_t cells,
                                                            uint16_t kind, double fraction);
 
 /*

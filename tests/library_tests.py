@@ -5,7 +5,7 @@
 
 Each block of code on the page is the text of the file that is named before it. The calls that it lists are the public
 functions of the libraries with their parameters, and the functions for C are the same in crates/capi, in the header, in
-Rust and on the page.
+Rust and on the page, with the same types of parameters in the first three.
 """
 import pathlib
 import re
@@ -46,6 +46,17 @@ def public_functions(crate: str) -> dict[str, list[str]]:
     return {name: declared[name] for name in reached if name in declared}
 
 
+# The types of a slice's pointer and of a number in C and in Rust, by those of crates/capi.
+SLICES = {"&[u16]": ("const uint16_t *", "*const u16"), "&mut [u16]": ("uint16_t *", "*mut u16"),
+          "&[u8]": ("const uint8_t *", "*const u8"), "&mut [u8]": ("uint8_t *", "*mut u8")}
+NUMBERS = {"u16": ("uint16_t ", "u16"), "usize": ("size_t ", "usize"), "f64": ("double ", "f64")}
+
+
+def parameter_types(pattern: str, source: str, of_parameter: str) -> dict[str, list[str]]:
+    """The types of the parameters of each function that the pattern finds."""
+    return {name: re.findall(of_parameter, parameters) for name, parameters in re.findall(pattern, source, re.M)}
+
+
 class Blocks(unittest.TestCase):
     def test_programs(self) -> None:
         """Each program stands on the page, whole."""
@@ -73,6 +84,21 @@ class Calls(unittest.TestCase):
         self.assertEqual(set(re.findall(r"^\w+ (leskwyn_\w+)\(", text("include/leskwyn.h"), re.M)), exported)
         self.assertEqual(set(re.findall(r"^    pub fn (\w+)\(", text("bindings/src/raw.rs"), re.M)), exported)
         self.assertEqual(set(re.findall(r"^\| `(leskwyn_\w+)` \|", PAGE, re.M)), exported)
+
+    def test_types_for_c(self) -> None:
+        """A linker does not see types: a work of words where the library takes bytes would pass unseen."""
+        cell = re.search(r"^pub type Cell = (\w+);", text("crates/table_words/src/lib.rt"), re.M)
+        assert cell is not None
+        exports = text("crates/capi/src/exports.rt").replace("[Cell]", f"[{cell[1]}]")
+        exported = parameter_types(r'^pub extern "C" fn (\w+)\(([^)]*)\)', exports, r"\w+: ([^,\n]+)")
+        in_c = parameter_types(r"^\w+ (leskwyn_\w+)\(([^)]*)\);", text("include/leskwyn.h"), r"((?:const )?\w+ \*?)\w+(?:,|$)")
+        in_rust = parameter_types(r"^    pub fn (\w+)\(([^)]*)\)", text("bindings/src/raw.rs"), r"\w+: ([^,\n]+)")
+        self.assertIn("&mut [u8]", exported["leskwyn_crossings"])
+        for name, types in exported.items():
+            slices = [[SLICES[one], NUMBERS["usize"]] if one in SLICES else [NUMBERS[one]] for one in types]
+            flat = [one for both in slices for one in both]
+            with self.subTest(function=name):
+                self.assertEqual((in_c[name], in_rust[name]), ([c for c, _ in flat], [rust for _, rust in flat]))
 
 
 if __name__ == "__main__":

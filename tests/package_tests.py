@@ -1296,6 +1296,11 @@ def marked(*marks: int) -> _library.Marks:
     return _library.Marks((ctypes.c_uint8 * max(1, len(marks)))(*marks), len(marks))
 
 
+def pattern(count: int) -> list[int]:
+    """Bytes that differ from place to place."""
+    return [(7 * i + 3) % 256 for i in range(count)]
+
+
 def kept_crossings(t: Table, u: Table, marks: typing.Sequence[int]) -> list[int]:
     """How many kept labels lie beyond two edges, for all pairs of them."""
     cells = [0] * needed(t, u)
@@ -1313,8 +1318,8 @@ class LibraryMarks(unittest.TestCase):
              "wrong weight": lambda *given: _library.weighted_distance(*given, weights.PART, 0.3)}
 
     def asked(self, name: str, t: Table, u: Table, marks: _library.Marks, cells: int) -> tuple[list[typing.Any], list[int]]:
-        """All fields of an answer, and the cells, which hold 9000, 9001, .. before."""
-        lent = (ctypes.c_uint16 * cells)(*range(9000, 9000 + cells))
+        """All fields of an answer, and the cells, which hold `pattern` before."""
+        lent = (ctypes.c_uint8 * cells)(*pattern(cells))
         answer = self.CALLS[name](_library.words(t), _library.words(u), marks, lent)
         return [getattr(answer, field) for field, _ in answer._fields_], list(lent)
 
@@ -1327,10 +1332,26 @@ class LibraryMarks(unittest.TestCase):
             size = needed(t, u)
             for name in ("claims", "quartets", "splits", "weighted"):
                 answer, cells = self.asked(name, t, u, marked(*marks), size + 2)
-                self.assertEqual((answer[0], cells), (0, [*kept_crossings(t, u, marks), 9000 + size, 9001 + size]), name)
+                self.assertEqual((answer[0], cells), (0, [*kept_crossings(t, u, marks), *pattern(size + 2)[size:]]), name)
             lent = _library.work(size)
             self.assertEqual(_library.triplet_table(_library.words(t), _library.words(u), lent).refusal, 0)
             self.assertEqual(list(lent), kept_crossings(t, u, [1] * t[0]))
+
+    def test_largest_cells(self) -> None:
+        """A cell is a byte, and none exceeds 255: the labels but 0 that are kept lie beyond edge 1 of both trees."""
+        worm, fan, smaller = caterpillar(256), star(256), (caterpillar(255), star(255))
+        keep_two = [label in (0, 9) for label in range(256)]
+        for (t, u), marks, most in (((worm, fan), [1] * 256, 255), ((fan, worm), [0] + [1] * 255, 255),
+                                    ((fan, fan), [1] * 255 + [0], 254), ((worm, fan), [1, 0] + [1] * 254, 254),
+                                    (smaller, [1] * 255, 254), ((fan, worm), keep_two, 1), ((TWO, TWO), [1, 1], 1)):
+            expected, size = kept_crossings(t, u, marks), needed(t, u)
+            self.assertEqual((expected[0], max(expected)), (most, most))
+            for name in ("claims", "quartets", "splits", "weighted"):
+                answer, cells = self.asked(name, t, u, marked(*marks), size + 300)
+                self.assertEqual((answer[0], cells), (0, [*expected, *pattern(size + 300)[size:]]), name)
+            lent = (ctypes.c_uint8 * (size + 300))(*pattern(size + 300))
+            self.assertEqual(_library.triplet_table(_library.words(t), _library.words(u), lent).refusal, 0)
+            self.assertEqual(list(lent), [*kept_crossings(t, u, [1] * t[0]), *pattern(size + 300)[size:]])
 
     def test_refusals(self) -> None:
         """Those of the pair, then 32, then 9, then 30: a refused call answers zeros, and every cell stays."""
@@ -1343,7 +1364,7 @@ class LibraryMarks(unittest.TestCase):
             answer, left = self.asked(name, t, u, marks, cells)
             self.assertEqual(answer[0], expected, (t, u, marks.count, cells, name))
             if expected:
-                self.assertEqual((set(answer[1:]), left), ({0}, list(range(9000, 9000 + cells))))
+                self.assertEqual((set(answer[1:]), left), ({0}, pattern(cells)))
             numbers.add(expected)
         self.assertEqual(numbers, {0, 1, 4, 8, 9, 30, 32, 101, 104})
 

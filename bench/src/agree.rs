@@ -27,12 +27,12 @@ const MOST_CLAIM_PAIRS: usize = 500_000;
 #[derive(Clone, Debug, Default, PartialEq, Eq)]
 pub struct Expected {
     pub marks: Vec<u8>,
-    pub crossings: Vec<u16>,
+    pub crossings: Vec<u8>,
     pub claims: [u64; 4],
     pub quartets: [u64; 5],
     pub splits: [u64; 4],
     pub triplets: [u64; 5],
-    pub all_crossings: Vec<u16>,
+    pub all_crossings: Vec<u8>,
 }
 
 impl Expected {
@@ -107,13 +107,14 @@ fn number<T>(answer: &Result<T, Refusal>) -> u16 {
     answer.as_ref().err().map_or(0, |refusal| refusal.number())
 }
 
-/// Lends the middle of some random words, and tells what they are afterwards. The words around it must stay.
-fn lend<T>(cells: usize, random: &mut Random, call: impl Fn(&mut [u16]) -> T) -> (T, Vec<u16>, Vec<u16>) {
-    const MARGIN: usize = 16;
-    let before = random.words(cells + 2 * MARGIN);
+/// Cells on either side of those that are lent.
+const MARGIN: usize = 16;
+
+/// Lends the middle of some cells, and tells what they were and what they are afterwards. The cells around it must stay.
+fn lend<C: Clone + Debug + PartialEq, T>(before: Vec<C>, call: impl Fn(&mut [C]) -> T) -> (T, Vec<C>, Vec<C>) {
+    let lent = MARGIN..before.len() - MARGIN;
     let mut after = before.clone();
-    let answer = call(&mut after[MARGIN..MARGIN + cells]);
-    let lent = MARGIN..MARGIN + cells;
+    let answer = call(&mut after[lent.clone()]);
     assert_eq!(before[..lent.start], after[..lent.start], "cells before the lent ones");
     assert_eq!(before[lent.end..], after[lent.end..], "cells after the lent ones");
     (answer, before[lent.clone()].to_vec(), after[lent].to_vec())
@@ -153,7 +154,7 @@ pub fn tree_agrees(table: &[u16], random: &mut Random) {
 fn walk_agrees(table: &[u16], expected: u16, tree: Option<&Tree>, random: &mut Random) {
     let n = table.first().map_or(0, |&n| usize::from(n).min(300));
     for cells in [n, n.saturating_sub(1), n + random.below(9), 0] {
-        let (answer, before, after) = lend(cells, random, |walk| {
+        let (answer, before, after) = lend(random.words(cells + 2 * MARGIN), |walk| {
             // SAFETY: each pointer and length are those of one slice, and the walk overlaps nothing.
             unsafe { raw::leskwyn_walk(table.as_ptr(), table.len(), walk.as_mut_ptr(), walk.len()) }
         });
@@ -162,7 +163,7 @@ fn walk_agrees(table: &[u16], expected: u16, tree: Option<&Tree>, random: &mut R
         let labels = tree.filter(|_| refusal == 0).map(Tree::walk).unwrap_or_default();
         assert_eq!(after[..labels.len()], labels);
         assert_eq!(after[labels.len()..], before[labels.len()..], "later cells of the walk");
-        let (wrapped, _, filled) = lend(cells, random, |walk| leskwyn::walk(table, walk));
+        let (wrapped, _, filled) = lend(random.words(cells + 2 * MARGIN), |walk| leskwyn::walk(table, walk));
         assert_eq!((number(&wrapped), &filled[..labels.len()]), (refusal, &labels[..]));
     }
 }
@@ -321,15 +322,15 @@ impl Asked<'_> {
     }
 
     /// A call with that work: afterwards its first cells are the crossings, and later ones are as they were.
-    fn lent<T>(&self, crossings: &[u16], random: &mut Random, call: impl Fn(&mut [u16]) -> T) -> T {
-        let (answer, before, after) = lend(self.cells, random, call);
+    fn lent<T>(&self, crossings: &[u8], random: &mut Random, call: impl Fn(&mut [u8]) -> T) -> T {
+        let (answer, before, after) = lend(random.bytes(self.cells + 2 * MARGIN), call);
         assert_eq!(after[..crossings.len()], *crossings, "crossings of {self:?}");
         assert_eq!(after[crossings.len()..], before[crossings.len()..], "later cells of {self:?}");
         answer
     }
 
     /// What one function answers.
-    fn of<T>(&self, function: PairFunction<T>, crossings: &[u16], random: &mut Random) -> T {
+    fn of<T>(&self, function: PairFunction<T>, crossings: &[u8], random: &mut Random) -> T {
         let Asked { first, second, marks, .. } = *self;
         self.lent(crossings, random, |work| {
             // SAFETY: each pointer and length are those of one slice, and the work overlaps nothing.
@@ -349,7 +350,7 @@ impl Asked<'_> {
     }
 
     /// What the triplet table's function answers, which takes no marks.
-    fn triplets(&self, crossings: &[u16], random: &mut Random) -> TripletTableAnswer {
+    fn triplets(&self, crossings: &[u8], random: &mut Random) -> TripletTableAnswer {
         let Asked { first, second, .. } = *self;
         self.lent(crossings, random, |work| {
             // SAFETY: each pointer and length are those of one slice, and the work overlaps nothing.
@@ -370,7 +371,7 @@ impl Asked<'_> {
     fn weighted(
         &self,
         Weighing { kind, fraction }: Weighing,
-        crossings: &[u16],
+        crossings: &[u8],
         random: &mut Random,
     ) -> WeightedDistanceAnswer {
         let Asked { first, second, marks, .. } = *self;
@@ -470,7 +471,7 @@ pub fn weighted_agrees(asked: &Asked, weighing: Weighing, expected: Option<&Expe
 fn wrappers_agree(asked: &Asked, expected: Option<&Expected>, random: &mut Random) {
     let Asked { first, second, marks, cells } = *asked;
     let (refusal, without_marks) = (asked.refusal(), asked.refusal_without_marks());
-    let mut work = random.words(cells);
+    let mut work = random.bytes(cells);
     let claims = leskwyn::claim_sums(first, second, marks, &mut work);
     let quartets = leskwyn::quartet_table(first, second, marks, &mut work);
     let splits = leskwyn::split_counts(first, second, marks, &mut work);

@@ -379,9 +379,10 @@ fn pairs_of(k: u64) -> u64 {
     k * k.saturating_sub(1) / 2
 }
 
-/// How many kept labels lie beyond both edges, row by row.
-pub fn crossings(first: &Tree, second: &Tree, kept: Tips) -> Vec<u16> {
-    let crossing = |i: usize, j: usize| kept.both(first.beyond[i]).both(second.beyond[j]).count() as u16;
+/// How many kept labels lie beyond both edges, row by row. Each number fits a byte.
+pub fn crossings(first: &Tree, second: &Tree, kept: Tips) -> Vec<u8> {
+    let crossing = |i: usize, j: usize| kept.both(first.beyond[i]).both(second.beyond[j]).count();
+    let crossing = |i: usize, j: usize| u8::try_from(crossing(i, j)).expect("label 0 lies beyond no edge");
     first.edges().flat_map(|i| second.edges().map(move |j| crossing(i, j))).collect()
 }
 

@@ -29,6 +29,10 @@ impl Random {
         (self.draw() >> 48) as u16
     }
 
+    pub fn byte(&mut self) -> u8 {
+        (self.draw() >> 56) as u8
+    }
+
     /// True in `percent` of a hundred cases.
     pub fn chance(&mut self, percent: usize) -> bool {
         self.below(100) < percent
@@ -46,5 +50,9 @@ impl Random {
 
     pub fn words(&mut self, count: usize) -> Vec<u16> {
         (0..count).map(|_| self.word()).collect()
+    }
+
+    pub fn bytes(&mut self, count: usize) -> Vec<u8> {
+        (0..count).map(|_| self.byte()).collect()
     }
 }

@@ -10,7 +10,7 @@ use crate::reference::X;
 /// # Errors
 ///
 /// The pair's number.
-pub fn quartet_table(first: &[u16], second: &[u16], marks: &[u8], work: &mut [u16]) -> Result<QuartetTable, u16> {
+pub fn quartet_table(first: &[u16], second: &[u16], marks: &[u8], work: &mut [u8]) -> Result<QuartetTable, u16> {
     check(first)?;
     check(second).map_err(|number| 100 + number)?;
     if first[0] != second[0] {
@@ -87,23 +87,50 @@ fn check(table: &[u16]) -> Result<(), u16> {
     Ok(())
 }
 
-/// A kept tip's row is marked and added up the second tree, then each row is added to its parent's.
-fn crossings(first: &[u16], second: &[u16], marks: &[u8], work: &mut [u16]) {
-    let others = parents(second);
-    let width = others.len() - 1;
-    let mut node_of = [0; 256];
-    for (node, &label) in labels(second).iter().enumerate().filter(|(_, &label)| label != X) {
-        node_of[usize::from(label)] = node;
+/// Where the tips beyond each edge stand in a walk of all tips but tip 0: the place of the first, and the one after the
+/// last.
+struct Spans {
+    begins: Vec<u8>,
+    ends: Vec<u8>,
+}
+
+impl Spans {
+    fn of(table: &[u16]) -> Spans {
+        let parents = parents(table);
+        let mut sizes: Vec<u8> = labels(table).iter().map(|&label| u8::from(label != X)).collect();
+        for (i, &p) in parents.iter().enumerate().skip(2).rev() {
+            sizes[usize::from(p)] += sizes[i];
+        }
+        // A node begins where its parent has got to, and its parent goes on after it.
+        let mut reached = vec![0; parents.len()];
+        let mut spans = Spans { begins: Vec::new(), ends: Vec::new() };
+        for (i, &p) in parents.iter().enumerate().skip(1) {
+            let begin = reached[usize::from(p)];
+            let end = begin + sizes[i];
+            (reached[i], reached[usize::from(p)]) = (begin, end);
+            spans.begins.push(begin);
+            spans.ends.push(end);
+        }
+        spans
     }
-    work.fill(0);
+}
+
+/// A kept tip's row tells the spans that its place lies in, then each row is added to its parent's.
+fn crossings(first: &[u16], second: &[u16], marks: &[u8], work: &mut [u8]) {
+    let Spans { begins, ends } = Spans::of(second);
+    let width = begins.len();
+    let mut place_of = [0; 256];
+    for (&label, &place) in labels(second)[1..].iter().zip(&begins).filter(|(&label, _)| label != X) {
+        place_of[usize::from(label)] = place;
+    }
     for (row, &label) in work.chunks_exact_mut(width).zip(&labels(first)[1..]) {
         if label == X || marks[usize::from(label)] == 0 {
+            row.fill(0);
             continue;
         }
-        row[node_of[usize::from(label)] - 1] = 1;
-        for (j, &p) in others.iter().enumerate().skip(2).rev() {
-            // SAFETY: the check has seen that p is at least 1 and less than j, which is at most the row's length.
-            unsafe { *row.get_unchecked_mut(usize::from(p) - 1) += *row.get_unchecked(j - 1) };
+        let place = place_of[usize::from(label)];
+        for ((cell, &begin), &end) in row.iter_mut().zip(&begins).zip(&ends) {
+            *cell = u8::from(begin <= place) & u8::from(place < end);
         }
     }
     for (i, &p) in parents(first).iter().enumerate().skip(2).rev() {
@@ -147,12 +174,12 @@ impl Nodes {
     }
 
     /// Twice S, from the sizes beyond the edges.
-    fn claim_sum(&self, n: u16, size: impl Fn(usize) -> u16) -> u64 {
+    fn claim_sum(&self, n: u16, size: impl Fn(usize) -> u8) -> u64 {
         let mut sum = 0;
         let mut sizes: Vec<u64> = Vec::new();
         for edges in self.inner() {
             sizes.clear();
-            sizes.push(u64::from(n - size(edges[0])));
+            sizes.push(u64::from(n) - u64::from(size(edges[0])));
             sizes.extend(edges[1..].iter().map(|&edge| u64::from(size(edge))));
             let squares: u64 = sizes.iter().map(|s| s * s).sum();
             let whole = u64::from(n);
@@ -171,7 +198,7 @@ struct Sums {
     different: u64,
 }
 
-fn pair_sums(work: &[u16], width: usize, n: u16, ours: &Nodes, theirs: &Nodes) -> Sums {
+fn pair_sums(work: &[u8], width: usize, n: u16, ours: &Nodes, theirs: &Nodes) -> Sums {
     let mut block = Block::default();
     let mut sums = Sums::default();
     let others: Vec<&[usize]> = theirs.inner().collect();
@@ -197,7 +224,7 @@ fn pair_sums(work: &[u16], width: usize, n: u16, ours: &Nodes, theirs: &Nodes) -
 /// Two nodes with three edges each. A diagonal gives its product times its sum less three to S2, and its product times
 /// the sum of the cells off it to S3.
 #[inline]
-fn nine(work: &[u16], width: usize, n: u16, [r0, r1, r2]: [usize; 3], [c0, c1, c2]: [usize; 3]) -> Sums {
+fn nine(work: &[u8], width: usize, n: u16, [r0, r1, r2]: [usize; 3], [c0, c1, c2]: [usize; 3]) -> Sums {
     // SAFETY: the rows are edges of the first tree and the columns edges of the second, and the work has a cell for
     // each two of them.
     let at = |r: usize, c: usize| u64::from(unsafe { *work.get_unchecked(r * width + c) });
@@ -267,17 +294,17 @@ struct Block {
 }
 
 impl Block {
-    fn fill(&mut self, work: &[u16], width: usize, n: u16, rows: &[usize], columns: &[usize]) {
+    fn fill(&mut self, work: &[u8], width: usize, n: u16, rows: &[usize], columns: &[usize]) {
         self.columns = columns.len();
         self.cells.clear();
         let own = &work[rows[0] * width..][..width];
         let c0 = columns[0];
-        self.cells.push(n + own[c0] - own[0] - work[c0]);
-        self.cells.extend(columns[1..].iter().map(|&c| work[c] - own[c]));
+        self.cells.push(n + u16::from(own[c0]) - u16::from(own[0]) - u16::from(work[c0]));
+        self.cells.extend(columns[1..].iter().map(|&c| u16::from(work[c] - own[c])));
         for &r in &rows[1..] {
             let row = &work[r * width..][..width];
-            self.cells.push(row[0] - row[c0]);
-            self.cells.extend(columns[1..].iter().map(|&c| row[c]));
+            self.cells.push(u16::from(row[0] - row[c0]));
+            self.cells.extend(columns[1..].iter().map(|&c| u16::from(row[c])));
         }
     }
 

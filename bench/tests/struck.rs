@@ -245,7 +245,7 @@ fn triplets_of_all_labels() {
         let n = 4 + at % 30;
         let [first, second] = any_pair(at, Shape::ALL[at % Shape::ALL.len()], n, Partner::Far, &mut random);
         let expected = Expected::marked(&first, &second, &any_marks(n, &mut random));
-        let mut work = random.words(expected.crossings.len());
+        let mut work = random.bytes(expected.crossings.len());
         quartet_table(&first, &second, &expected.marks, &mut work).expect("accepted");
         assert_eq!(work, expected.crossings);
         let told = triplet_table(&first, &second, &mut work).expect("accepted");

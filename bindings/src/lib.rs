@@ -11,10 +11,14 @@
 //! counted, as if the tips of the others were not there; [`all_kept`] are the marks that strike none. Any labels may be
 //! struck, label 0 and all of them too. [`triplet_table`] and [`evidence`] take no marks and know all labels.
 //!
+//! A call that counts two trees is lent *work*: cells of one byte each, one for each edge of the first tree with each edge
+//! of the second. They hold how many labels lie beyond both edges, 255 at most, since tip 0 lies beyond no edge.
+//! [`work_cells`] tells how many cells a pair takes.
+//!
 //! Any words in slices of any length may be passed. The answer is the whole answer or a [`Refusal`]; a refused call
 //! changes no lent cell. No call allocates, keeps a slice, or touches anything global, so all may be made from several
-//! threads at once. [`claim_sums`], [`quartet_table`] and [`weighted_distance`] take up to 240 kB of stack, the others up
-//! to 40 kB.
+//! threads at once. [`claim_sums`], [`quartet_table`] and [`weighted_distance`] take up to 240 kB of stack,
+//! [`triplet_table`] up to 64 kB, the others up to 40 kB.
 //!
 //! ```
 //! use leskwyn::{all_kept, quartet_table, work_cells, INNER as X};
@@ -48,7 +52,8 @@ pub const STRUCK: u8 = 0;
 /// The mark of a label that is kept in the count.
 pub const KEPT: u8 = 1;
 
-/// Cells that are enough for the work of every pair: (1024 - 1)(1024 - 1), for two trees of 256 tips and 1024 nodes.
+/// Cells, and so bytes, that are enough for the work of every pair: (1024 - 1)(1024 - 1), for two trees of 256 tips and
+/// 1024 nodes.
 pub const WORK_CELLS: usize = 1023 * 1023;
 
 /// How four tips lie in a tree.
@@ -323,7 +328,7 @@ pub fn all_kept(table: &[u16]) -> &'static [u8] {
 }
 
 /// What a function of a pair answers.
-fn asked<T>(function: raw::PairFunction<T>, first: &[u16], second: &[u16], marks: &[u8], work: &mut [u16]) -> T {
+fn asked<T>(function: raw::PairFunction<T>, first: &[u16], second: &[u16], marks: &[u8], work: &mut [u8]) -> T {
     // SAFETY: each pointer and length are those of one live slice, and `work` is borrowed alone.
     unsafe {
         function(
@@ -374,7 +379,7 @@ pub fn work_cells(first: &[u16], second: &[u16]) -> Result<usize, Refusal> {
 /// # Errors
 ///
 /// 1 to 6, 31 and 7 for the first tree, 101 to 106, 131 and 107 for the second, then 8, 32 and 9.
-pub fn crossings(first: &[u16], second: &[u16], marks: &[u8], work: &mut [u16]) -> Result<(), Refusal> {
+pub fn crossings(first: &[u16], second: &[u16], marks: &[u8], work: &mut [u8]) -> Result<(), Refusal> {
     Refusal::or(asked(raw::leskwyn_crossings, first, second, marks, work), ())
 }
 
@@ -383,7 +388,7 @@ pub fn crossings(first: &[u16], second: &[u16], marks: &[u8], work: &mut [u16]) 
 /// # Errors
 ///
 /// Those of [`crossings`].
-pub fn claim_sums(first: &[u16], second: &[u16], marks: &[u8], work: &mut [u16]) -> Result<ClaimSums, Refusal> {
+pub fn claim_sums(first: &[u16], second: &[u16], marks: &[u8], work: &mut [u8]) -> Result<ClaimSums, Refusal> {
     let raw::ClaimSumsAnswer { refusal, first, second, same, different } =
         asked(raw::leskwyn_claim_sums, first, second, marks, work);
     Refusal::or(refusal, ClaimSums { first, second, same, different })
@@ -404,7 +409,7 @@ pub fn claim_sums(first: &[u16], second: &[u16], marks: &[u8], work: &mut [u16])
 /// # Errors
 ///
 /// Those of [`crossings`].
-pub fn quartet_table(first: &[u16], second: &[u16], marks: &[u8], work: &mut [u16]) -> Result<QuartetTable, Refusal> {
+pub fn quartet_table(first: &[u16], second: &[u16], marks: &[u8], work: &mut [u8]) -> Result<QuartetTable, Refusal> {
     let raw::QuartetTableAnswer { refusal, a, b, c, d, e, distance } =
         asked(raw::leskwyn_quartet_table, first, second, marks, work);
     Refusal::or(refusal, QuartetTable { a, b, c, d, e, distance })
@@ -429,7 +434,7 @@ pub fn quartet_table(first: &[u16], second: &[u16], marks: &[u8], work: &mut [u1
 /// # Errors
 ///
 /// Those of [`crossings`].
-pub fn split_counts(first: &[u16], second: &[u16], marks: &[u8], work: &mut [u16]) -> Result<SplitCounts, Refusal> {
+pub fn split_counts(first: &[u16], second: &[u16], marks: &[u8], work: &mut [u8]) -> Result<SplitCounts, Refusal> {
     let raw::SplitCountsAnswer { refusal, first, second, common, distance } =
         asked(raw::leskwyn_split_counts, first, second, marks, work);
     Refusal::or(refusal, SplitCounts { first, second, common, distance })
@@ -452,7 +457,7 @@ pub fn split_counts(first: &[u16], second: &[u16], marks: &[u8], work: &mut [u16
 /// # Errors
 ///
 /// Those of [`crossings`] without 32.
-pub fn triplet_table(first: &[u16], second: &[u16], work: &mut [u16]) -> Result<TripletTable, Refusal> {
+pub fn triplet_table(first: &[u16], second: &[u16], work: &mut [u8]) -> Result<TripletTable, Refusal> {
     // SAFETY: each pointer and length are those of one live slice, and `work` is borrowed alone.
     let answer = unsafe {
         raw::leskwyn_triplet_table(
@@ -491,7 +496,7 @@ pub fn weighted_distance(
     first: &[u16],
     second: &[u16],
     marks: &[u8],
-    work: &mut [u16],
+    work: &mut [u8],
     weight: Weight,
 ) -> Result<f64, Refusal> {
     let (kind, fraction) = weight.kind_and_fraction();

@@ -109,7 +109,7 @@ pub struct EvidenceAnswer {
 
 /// A function of two tables, the marks and the work: each as a pointer and a number of elements.
 pub type PairFunction<T> =
-    unsafe extern "C" fn(*const u16, usize, *const u16, usize, *const u8, usize, *mut u16, usize) -> T;
+    unsafe extern "C" fn(*const u16, usize, *const u16, usize, *const u8, usize, *mut u8, usize) -> T;
 
 // Every function is safe to call with pointers to that many elements, aligned and live for the call, where the lent
 // cells overlap no table and no marks. The library holds no global and keeps no pointer.
@@ -133,7 +133,7 @@ extern "C" {
         second_words: usize,
         marks: *const u8,
         marks_count: usize,
-        work: *mut u16,
+        work: *mut u8,
         cells: usize,
     ) -> u16;
 
@@ -144,7 +144,7 @@ extern "C" {
         second_words: usize,
         marks: *const u8,
         marks_count: usize,
-        work: *mut u16,
+        work: *mut u8,
         cells: usize,
     ) -> ClaimSumsAnswer;
 
@@ -155,7 +155,7 @@ extern "C" {
         second_words: usize,
         marks: *const u8,
         marks_count: usize,
-        work: *mut u16,
+        work: *mut u8,
         cells: usize,
     ) -> QuartetTableAnswer;
 
@@ -166,7 +166,7 @@ extern "C" {
         second_words: usize,
         marks: *const u8,
         marks_count: usize,
-        work: *mut u16,
+        work: *mut u8,
         cells: usize,
     ) -> SplitCountsAnswer;
 
@@ -175,7 +175,7 @@ extern "C" {
         first_words: usize,
         second: *const u16,
         second_words: usize,
-        work: *mut u16,
+        work: *mut u8,
         cells: usize,
     ) -> TripletTableAnswer;
 
@@ -186,7 +186,7 @@ extern "C" {
         second_words: usize,
         marks: *const u8,
         marks_count: usize,
-        work: *mut u16,
+        work: *mut u8,
         cells: usize,
         kind: u16,
         fraction: f64,

@@ -107,7 +107,7 @@ fn the_order_of_refusals() {
     let numbers = |first: &[u16], second: &[u16], marks: &[u8], cells: usize| {
         let mut work = vec![7; cells];
         let number = |refused: Option<Refusal>| refused.map_or(0, Refusal::number);
-        let weigh = |weight, work: &mut [u16]| weighted_distance(first, second, marks, work, weight).err();
+        let weigh = |weight, work: &mut [u8]| weighted_distance(first, second, marks, work, weight).err();
         let answers = [
             number(crossings(first, second, marks, &mut work).err()),
             number(claim_sums(first, second, marks, &mut work).err()),

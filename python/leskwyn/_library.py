@@ -15,7 +15,8 @@ TOP = os.path.dirname(os.path.dirname(os.path.dirname(os.path.abspath(__file__))
 # LESKWYN_WORK_CELLS of the header: enough for every pair, (1024 - 1)(1024 - 1).
 WORK_CELLS = 1046529
 MOST_WORD = 65535
-Cells = ctypes.Array[ctypes.c_uint16]
+# The work, a byte for each cell.
+Cells = ctypes.Array[ctypes.c_uint8]
 
 
 class ClaimSums(ctypes.Structure):
@@ -58,7 +59,7 @@ PAIR_CALLS = {"leskwyn_claim_sums": PairCall(ClaimSums), "leskwyn_quartet_table"
 
 class Words(typing.NamedTuple):
     """A table's words where the library can read them; there is a cell even where there is no word."""
-    cells: Cells
+    cells: ctypes.Array[ctypes.c_uint16]
     count: int
 
 
@@ -90,7 +91,7 @@ def work_cells(first: Words, second: Words) -> int:
 
 def work(cells: int) -> Cells:
     """Cells to lend. The pointer must not be null, so there is always one."""
-    return (ctypes.c_uint16 * max(1, cells))()
+    return (ctypes.c_uint8 * max(1, cells))()
 
 
 def library_path() -> str:
@@ -112,10 +113,10 @@ def library() -> ctypes.CDLL:
     try:
         found = ctypes.CDLL(os.path.abspath(path))
         slice_of_words = [ctypes.POINTER(ctypes.c_uint16), ctypes.c_size_t]
-        slice_of_marks = [ctypes.POINTER(ctypes.c_uint8), ctypes.c_size_t]
+        slice_of_bytes = [ctypes.POINTER(ctypes.c_uint8), ctypes.c_size_t]
         for name, (answer, is_marked, besides) in PAIR_CALLS.items():
             call = getattr(found, name)
-            call.argtypes = slice_of_words * 2 + slice_of_marks * is_marked + slice_of_words + besides
+            call.argtypes = slice_of_words * 2 + slice_of_bytes * is_marked + slice_of_bytes + besides
             call.restype = answer
         found.leskwyn_evidence.argtypes = slice_of_words * 2 + [ctypes.c_uint16] * 4
         found.leskwyn_evidence.restype = Evidence
