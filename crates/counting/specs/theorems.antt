@@ -4,6 +4,7 @@ pub mod CountingTheorem
 pub mod Degrees
 pub mod EdgeClaims
 pub mod EdgesAsSplits
+pub mod FewLabels
 pub mod FiveFormulas
 pub mod KeptLaws
 pub mod LabelLaws
