@@ -1,5 +1,5 @@
 // The crossing of two codes, from the crossings of their edges: `base` is where the row of the first edge begins,
-// `c` the column of the second. It is a word, since 256 labels may lie beyond neither edge.
+// `c` the column of the second. It is a word, as n is: 256 labels may be counted.
 use table_words::Cell;
 use table_words::cell_word;
 ghost use mathlib.Core.Path.{_≡_};
