@@ -10,7 +10,7 @@ use Rattle.trees.specs.declared.quartet.TopologyAnswer as trees-topology
 use Rattle.trees.specs.Topology.{butterflyOf, partnerOf}
 use Rattle.trees.specs.Witness.{isEdge, numberOf}
 use Rattle.evidence.specs.declared.shown.EvidenceAnswer as shown
-use Rattle.evidence.specs.EvidenceAnswer.{whichOf}
+use Rattle.counting.specs.Cases.{caseNumber}
 use Rattle.splits.specs.declared.counts.SplitCounts.{SplitCounts}
 use Rattle.claims.specs.declared.totals.ClaimSums.{ClaimSums}
 use Rattle.quartets.specs.declared.tables.QuartetTable.{QuartetTable}
@@ -107,7 +107,7 @@ plainWeighted a = record { refusal = a .refusal; distance = a .distance }
 unfoldable pub plainEvidence : shown.EvidenceAnswer → EvidenceAnswer
 plainEvidence a = record {
   refusal = a .refusal;
-  which = whichOf (a .which);
+  which = caseNumber (a .which);
   «first_edge» = isEdge (a .first);
   «first_number» = numberOf (a .first);
   «second_edge» = isEdge (a .second);

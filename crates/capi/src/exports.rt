@@ -37,7 +37,8 @@ ghost use Rattle.trees.specs.Centre.{centreAnswer};
 ghost use Rattle.trees.specs.Topology.{topologyAnswer};
 ghost use Rattle.trees.specs.Witness.{isEdge, numberOf};
 ghost use Rattle.pair_check.specs.PairOrder.{pairOrder};
-ghost use Rattle.evidence.specs.EvidenceAnswer.{whichOf, evidenceAnswer};
+ghost use Rattle.counting.specs.Cases.{caseNumber};
+ghost use Rattle.evidence.specs.EvidenceAnswer.{evidenceAnswer};
 ghost use Rattle.tree_pairs.specs.Crossings.{afterCrossings, afterAll};
 ghost use Rattle.splits.specs.SplitAnswer.{splitAnswer};
 ghost use Rattle.claims.specs.ClaimAnswer.{claimAnswer};
@@ -274,7 +275,7 @@ pub extern "C" fn leskwyn_weighted_distance(
 
 // The number of a case: 0 to 4 for A to E.
 fn which_of(which: Case) -> u16
-    ensures { λ r. ⌜ r ≡ whichOf which ⌝ }
+    ensures { λ r. ⌜ r ≡ caseNumber which ⌝ }
 {
     match which {
         Case::A => 0,

@@ -1,24 +1,17 @@
--- The five cases of a set of four, read from its two topologies, and how many sets are in each.
+-- The five cases of a set of four, read from its two topologies, how many sets are in each, and the quartet distance.
 -- Assumes nothing.
 use mathlib.Core.Bool.{Bool, true, false}
-use Prim.Native.Nat.{ℕ}
+use Prim.Native.Nat.{ℕ, _+_}
 use lib.Dec.{eqb}
 use Rattle.sums.specs.Bits.{bit}
 use Rattle.sums.specs.SetsOfFour.{sets4}
 use Rattle.trees.specs.declared.quartet.Topology.{Topology}
 use Rattle.trees.specs.declared.quartet.Topology.the-variants.{Butterfly, Star}
 use Rattle.tree_check.specs.Table.{Table}
+use Rattle.counting.specs.declared.Case.{Case}
+use Rattle.counting.specs.declared.Case.the-variants.{A, B, C, D, E}
 use Rattle.trees.specs.Topology.{topology}
 use Rattle.counting.specs.Labels.{Labels}
-
--- A: the same butterfly in both trees; B: two different ones; C: a butterfly in the first tree alone; D: in the second
--- alone; E: a star in both
-pub data Case : Type 0 where
-  A : Case
-  B : Case
-  C : Case
-  D : Case
-  E : Case
 
 -- two butterflies of the same four labels are the same if they name the same partner of the smallest
 unfoldable pub caseOf : Topology → Topology → Case
@@ -27,7 +20,8 @@ caseOf (Butterfly p) Star = C
 caseOf Star (Butterfly q) = D
 caseOf Star Star = E
 
-unfoldable pub caseNumber : Case → ℕ
+-- the number of each case: 0 to 4 for A to E
+abbrev pub caseNumber : Case → ℕ
 caseNumber A = 0
 caseNumber B = 1
 caseNumber C = 2
@@ -45,3 +39,7 @@ topologyAt l t w x y z = topology t (l .at w) (l .at x) (l .at y) (l .at z)
 -- how many sets of four labels are in the case k
 unfoldable pub quartets : Labels → Table → Table → Case → ℕ
 quartets l t u k = sets4 (l .number) (λ w x y z. bit (isCase (caseOf (topologyAt l t w x y z) (topologyAt l u w x y z)) k))
+
+-- the quartet distance: how many sets of four are in the cases B, C and D
+abbrev pub distance : Labels → Table → Table → ℕ
+distance l t u = quartets l t u B + quartets l t u C + quartets l t u D

@@ -5,6 +5,4 @@ pub mod Cases
 pub mod QuartetTable
 pub mod SplitCounts
 pub mod Triplets
-pub mod LabelsAlone
-pub mod PassThrough
 pub mod theorems

@@ -21,7 +21,3 @@ formulaD s' s2 s3 = formulaC s' s2 s3
 -- E = all sets of four − A − B − C − D
 unfoldable pub formulaE : ℕ → ℕ → ℕ → ℕ → ℕ → ℕ
 formulaE n s s' s2 s3 = fours n - formulaA s2 - formulaB s3 - formulaC s s2 s3 - formulaD s' s2 s3
-
--- the distance B + C + D
-unfoldable pub formulaDistance : ℕ → ℕ → ℕ → ℕ → ℕ
-formulaDistance s s' s2 s3 = formulaB s3 + formulaC s s2 s3 + formulaD s' s2 s3

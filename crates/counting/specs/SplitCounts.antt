@@ -2,7 +2,7 @@
 -- Assumes nothing.
 use mathlib.Core.Bool.{Bool}
 use Prim.Native.Nat.{ℕ, _+_, _*_, _-_}
-use Rattle.shapes.specs.Splits.{splitsOf, commonOf, sameSplitsOf, SameSplits}
+use Rattle.shapes.specs.Splits.{splitsOf, commonOf, SameSplits}
 use Rattle.tree_check.specs.Table.{Table, nodes, beyond}
 use Rattle.counting.specs.Labels.{Labels}
 
@@ -23,9 +23,5 @@ unfoldable pub robinsonFoulds : Labels → Table → Table → ℕ
 robinsonFoulds l t u = splits l t + splits l u - 2 * commonSplits l t u
 
 -- for each split of either tree, the other has one with the same label sets; two trees without a split have the same
-unfoldable pub sameSplits : Labels → Table → Table → Bool
-sameSplits l t u = sameSplitsOf (l .number) (nodes t - 1) (beyondAt l t) (nodes u - 1) (beyondAt l u)
-
--- the same in ordinary mathematics
 abbrev pub HaveSameSplits : Labels → Table → Table → Type 0
 HaveSameSplits l t u = SameSplits (l .number) (nodes t - 1) (beyondAt l t) (nodes u - 1) (beyondAt l u)

@@ -8,7 +8,8 @@ use Rattle.shapes.specs.Triplets.{resolved}
 use Rattle.trees.specs.declared.quartet.Topology.{Topology}
 use Rattle.tree_check.specs.Table.{Table, tips, parent, nodeOf}
 use Rattle.trees.specs.Topology.{named}
-use Rattle.counting.specs.Cases.{Case, caseOf, isCase}
+use Rattle.counting.specs.declared.Case.{Case}
+use Rattle.counting.specs.Cases.{caseOf, isCase}
 
 -- the labels a and b have a lowest common ancestor that is not an ancestor of c
 unfoldable pub together : Table → ℕ → ℕ → ℕ → Bool

@@ -1,6 +1,7 @@
 pub mod AllKept
 pub mod CasesInShapes
 pub mod CountingTheorem
+pub mod CutDown
 pub mod Degrees
 pub mod EdgeClaims
 pub mod EdgesAsSplits
@@ -8,8 +9,10 @@ pub mod FewLabels
 pub mod FiveFormulas
 pub mod KeptLaws
 pub mod LabelLaws
+pub mod LabelsAlone
 pub mod NewSplits
 pub mod NodePairSums
+pub mod PassThrough
 pub mod PassThroughNodes
 pub mod PassingThrough
 pub mod QuartetTheorem

@@ -2,6 +2,6 @@
 // in full or refuses with one number.
 mod shown; // shown.rt: the case of four labels, and what shows it in each tree
 
-pub use shown::Case;
+pub use counting::Case;
 pub use shown::EvidenceAnswer;
 pub use shown::evidence;

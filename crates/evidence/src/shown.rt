@@ -1,4 +1,5 @@
 // The case of four labels in two trees, and what shows it in each.
+use counting::Case;
 use pair_check::CheckedPair;
 use pair_check::check_pair;
 use pair_check::pair_refusal;
@@ -7,17 +8,8 @@ use trees::Witness;
 use trees::witness_of;
 ghost use mathlib.Core.Path.{_≡_};
 ghost use Rattle.counting.specs.Cases.{caseOf};
-ghost use Rattle.evidence.specs.EvidenceAnswer.{toldCase, twoButterflies, refusedEvidence, evidenceAnswer};
-
-// A: the same butterfly in both trees; B: two different ones; C: a butterfly in the first only; D: in the second only;
-// E: a star in both.
-pub enum Case {
-    A,
-    B,
-    C,
-    D,
-    E,
-}
+ghost use Rattle.evidence.specs.EvidenceAnswer.{refusedEvidence, evidenceAnswer, EvidenceTold};
+ghost use Rattle.evidence.specs.lemmas.EvidenceFound.{twoButterflies};
 
 // The number; the case; and for each tree the lowest-numbered edge that parts the four two and two, or the node where all
 // their paths meet.
@@ -40,7 +32,7 @@ fn butterflies(p: u16, q: u16) -> Case
 
 // The case of two topologies.
 fn case_of(first: Topology, second: Topology) -> Case
-    ensures { λ r. ⌜ r ≡ toldCase (caseOf first second) ⌝ }
+    ensures { λ r. ⌜ r ≡ caseOf first second ⌝ }
 {
     match first {
         Topology::Butterfly(p) => match second {
@@ -69,7 +61,10 @@ fn refused(number: u16) -> EvidenceAnswer
 // The case of four labels and what shows it. The two tables come first, then the labels; no work is lent, so nothing asks
 // for its cells.
 pub fn evidence(first: &[u16], second: &[u16], a: u16, b: u16, c: u16, d: u16) -> EvidenceAnswer
-    ensures { λ r. ⌜ r ≡ evidenceAnswer (now (first .entry)) (now (second .entry)) a b c d ⌝ }
+    ensures { λ r. ⌜
+        (r ≡ evidenceAnswer (now (first .entry)) (now (second .entry)) a b c d)
+        × EvidenceTold (now (first .entry)) (now (second .entry)) a b c d r
+        ⌝ }
 {
     let answer = check_pair(first, second);
     let CheckedPair::Pair {

@@ -29,11 +29,6 @@ pub record AreMarks (marks : List ℕ) (n : ℕ) : Type 0 where
   pub long : length marks ≡ n
   pub low : (x : ℕ) → x < n → word marks x ≤ 1
 
--- n marks of 1: every label kept
-unfoldable pub ones : ℕ → List ℕ
-ones zero = []
-ones (suc n) = 1 ∷ ones n
-
 -- the number, and how many labels are kept; none by refused marks
 unfoldable pub checkedMarks : List ℕ → ℕ → CheckedMarks
 checkedMarks marks n =

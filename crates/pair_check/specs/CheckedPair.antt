@@ -29,11 +29,6 @@ checkedCells t u cells = verdict (refusal (cellsOrder t u cells)) t u (tips t)
 unfoldable pub checkedWork : Table → Table → List ℕ → ℕ → CheckedPair
 checkedWork t u marks cells = verdict (refusal (pairOrder t u marks cells)) t u (keptOf marks (tips t))
 
--- a pair that needs no more cells than there are, or 9
-unfoldable pub measuredPair : ℕ → ℕ → ℕ → ℕ → ℕ → CheckedPair
-measuredPair n counted rows columns cells =
-    elim (ltb cells (rows * columns)) [ true ↦ Refused 9 | false ↦ Pair n counted rows columns ]
-
 -- the number and values of each case: 0 with n, the counted labels and the edges of both trees, or the number with zeros
 abbrev pub numberOf : CheckedPair → ℕ
 numberOf (Pair n counted rows columns) = 0

@@ -11,7 +11,8 @@ ghost use Rattle.tree_check.specs.Refusals.{refusal};
 ghost use Rattle.tree_check.specs.Table.{tips as Table·tips};
 ghost use Rattle.marks.specs.Marks.{keptOf};
 ghost use Rattle.pair_check.specs.PairOrder.{tablesOrder, cellsOrder, pairOrder};
-ghost use Rattle.pair_check.specs.CheckedPair.{checkedPair, checkedCells, checkedWork, measuredPair, numberOf, Told};
+ghost use Rattle.pair_check.specs.CheckedPair.{checkedPair, checkedCells, checkedWork, numberOf, Told};
+ghost use Rattle.pair_check.specs.lemmas.PairOutcomes.{measuredPair};
 
 // What the check finds: a pair with its tips, how many of them are counted, the first tree's edges and the second's, or the
 // number of the refusal.

@@ -9,7 +9,8 @@ use Rattle.tree_check.specs.Table.{Table, tips, nodes}
 use Rattle.tree_check.specs.Refusals.{Rule, refusal, ifAccepted}
 use Rattle.counting.specs.Labels.{all}
 use Rattle.counting.specs.ClaimSums.{S, S2, S3}
-use Rattle.counting.specs.Cases.{A, B, C, D, E, quartets}
+use Rattle.counting.specs.declared.Case.the-variants.{A, B, C, D, E}
+use Rattle.counting.specs.Cases.{quartets}
 use Rattle.counting.specs.SplitCounts.{splits, commonSplits, robinsonFoulds}
 use Rattle.counting.specs.Triplets.{triplets}
 use Rattle.pair_check.specs.PairOrder.{cellsOrder}

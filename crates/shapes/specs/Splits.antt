@@ -2,11 +2,10 @@
 -- Assumes nothing.
 use mathlib.Core.Path.{_≡_}
 use mathlib.Core.Bool.{Bool, not, _&&_, _||_, Bool·beq}
-use Prim.Native.Nat.{ℕ, suc, _+_, _*_, _-_, _≤_, _<_}
+use Prim.Native.Nat.{ℕ, suc, _≤_, _<_}
 use lib.Dec.{leb}
 use Rattle.sums.specs.Tests.{some, every}
-use Rattle.sums.specs.Counts.{count}
-use Rattle.sums.specs.theorems.CountLaws.{Twice}
+use Rattle.sums.specs.Counts.{count, Twice}
 
 abbrev pub Sides : Type 0
 Sides = ℕ → ℕ → Bool
@@ -37,18 +36,6 @@ splitsOf n k b = count k (isNewSplit n b)
 unfoldable pub commonOf : ℕ → ℕ → Sides → ℕ → Sides → ℕ
 commonOf n k b l c = count k (λ i. isNewSplit n b i && occurs n b l c (suc i))
 
--- the Robinson-Foulds distance, first + second − 2 · common
-unfoldable pub robinsonFouldsOf : ℕ → ℕ → Sides → ℕ → Sides → ℕ
-robinsonFouldsOf n k b l c = splitsOf n k b + splitsOf n l c - 2 * commonOf n k b l c
-
--- the two tip sets of each split also occur in the other tree, where they are those of a split
-unfoldable pub allOccur : ℕ → ℕ → Sides → ℕ → Sides → Bool
-allOccur n k b l c = every k (λ i. not (isSplit n b (suc i)) || occurs n b l c (suc i))
-
--- for each split of either tree, the other has one with the same tip sets
-unfoldable pub sameSplitsOf : ℕ → ℕ → Sides → ℕ → Sides → Bool
-sameSplitsOf n k b l c = allOccur n k b l c && allOccur n l c k b
-
 -- ---- in ordinary mathematics
 
 pub record Split (n k : ℕ) (b : Sides) (i : ℕ) : Type 0 where
@@ -61,11 +48,6 @@ pub record Split (n k : ℕ) (b : Sides) (i : ℕ) : Type 0 where
 pub data SameSides (n : ℕ) (b c : Sides) (i j : ℕ) : Type 0 where
   same : ((x : ℕ) → x < n → b i x ≡ c j x) → SameSides n b c i j
   turned : ((x : ℕ) → x < n → b i x ≡ not (c j x)) → SameSides n b c i j
-
--- edge i + 1 is the first with its two tip sets
-pub record NewSplit (n k : ℕ) (b : Sides) (i : ℕ) : Type 0 where
-  pub split : Split n k b (suc i)
-  pub new : (j : ℕ) → j < i → SameSides n b b (suc i) (suc j) → ⊥
 
 abbrev pub Occurs : ℕ → Sides → ℕ → Sides → ℕ → Type 0
 Occurs n b l c i = (j : ℕ) × Split n l c j × SameSides n b c i j

@@ -4,5 +4,4 @@ pub mod Tests
 pub mod Counts
 pub mod SetsOfFour
 pub mod Fours
-pub mod Threes
 pub mod theorems

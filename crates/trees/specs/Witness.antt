@@ -1,11 +1,14 @@
 -- What shows the topology of four labels in a tree table (docs/SPECIFICATION.md, 'Witnesses').
 -- Assumes nothing.
+use mathlib.Core.Path.{_≡_}
 use mathlib.Core.Bool.{Bool, true, false}
+use mathlib.Core.Logic.{_≢_}
 use mathlib.Core.List.{[], _∷_}
-use Prim.Native.Nat.{ℕ, suc, _-_}
+use Prim.Native.Nat.{ℕ, suc, _-_, _≤_, _<_}
+use lib.Dec.{T}
 use Rattle.sums.specs.Tests.{some, first}
-use Rattle.shapes.specs.Quartets.{partsFour}
-use Rattle.shapes.specs.Centres.{meetOf}
+use Rattle.shapes.specs.Quartets.{partsFour, TwoAndTwo}
+use Rattle.shapes.specs.Centres.{onSix, meetOf}
 use Rattle.trees.specs.declared.quartet.Topology.the-variants.{Star}
 use Rattle.trees.specs.declared.witness.Witness.{Witness}
 use Rattle.trees.specs.declared.witness.Witness.the-variants.{Edge, Meet}
@@ -13,7 +16,7 @@ use Rattle.trees.specs.declared.witness.WitnessAnswer.{WitnessAnswer}
 use Rattle.tree_check.specs.Table.{Table, nodes, parent, nodeOf}
 use Rattle.tree_check.specs.Refusals.{refusal, ifAccepted}
 use Rattle.trees.specs.LabelOrder.{labelOrder}
-use Rattle.trees.specs.Topology.{topology}
+use Rattle.trees.specs.Topology.{topology, butterflyOf}
 
 -- edge j + 1 has two of the four labels on each side
 unfoldable pub partsLabels : Table → ℕ → ℕ → ℕ → ℕ → ℕ → Bool
@@ -55,3 +58,41 @@ isEdge (Meet v) = 0
 abbrev pub numberOf : Witness → ℕ
 numberOf (Edge i) = i
 numberOf (Meet v) = v
+
+-- ---- what an answer tells of the edges and the paths
+
+-- edge i has two of the four labels on each side
+abbrev pub PartsAt : Table → ℕ → ℕ → ℕ → ℕ → ℕ → Type 0
+PartsAt t i a b c d = TwoAndTwo (parent t) i (nodeOf t a) (nodeOf t b) (nodeOf t c) (nodeOf t d)
+
+-- .. and no lower-numbered one has
+pub record LowestParting (t : Table) (a b c d i : ℕ) : Type 0 where
+  pub above : 1 ≤ i
+  pub edge : i < nodes t
+  pub parts : PartsAt t i a b c d
+  pub lowest : (j : ℕ) → 1 ≤ j → j < i → PartsAt t j a b c d → ⊥
+
+-- node v is on every path between two of the four tips
+abbrev pub OnAllPaths : Table → ℕ → ℕ → ℕ → ℕ → ℕ → Type 0
+OnAllPaths t v a b c d = T (onSix (parent t) (nodes t - 1) v (nodeOf t a) (nodeOf t b) (nodeOf t c) (nodeOf t d))
+
+-- .. and no other node is
+pub record OneMeeting (t : Table) (a b c d v : ℕ) : Type 0 where
+  pub node : v < nodes t
+  pub on-paths : OnAllPaths t v a b c d
+  pub only : (w : ℕ) → w < nodes t → OnAllPaths t w a b c d → w ≡ v
+
+-- what a witness shows: the lowest-numbered edge that parts the four, or, only if no edge does, the one node where they meet
+pub record ShownBy (t : Table) (a b c d : ℕ) (w : Witness) : Type 0 where
+  pub edge : isEdge w ≡ 1 → LowestParting t a b c d (numberOf w)
+  pub no-edge : isEdge w ≡ 0 → (i : ℕ) → 1 ≤ i → i < nodes t → PartsAt t i a b c d → ⊥
+  pub meets : isEdge w ≡ 0 → OneMeeting t a b c d (numberOf w)
+
+-- what an answer tells
+pub record WitnessTold (t : Table) (a b c d : ℕ) (r : WitnessAnswer) : Type 0 where
+  pub number-told : r .refusal ≡ refusal (labelOrder t (a ∷ b ∷ c ∷ d ∷ []))
+  -- a refusal tells meeting node 0
+  pub refused : r .refusal ≢ 0 → (isEdge (r .witness) ≡ 0) × (numberOf (r .witness) ≡ 0)
+  -- a butterfly is told with an edge, a star with a meeting node
+  pub by-kind : butterflyOf (r .topology) ≡ isEdge (r .witness)
+  pub shown : r .refusal ≡ 0 → ShownBy t a b c d (r .witness)

@@ -14,7 +14,7 @@ use tree_check::refusal_of;
 ghost use mathlib.Core.Path.{_≡_};
 ghost use Prim.Native.Nat.{_≤_, _<_};
 ghost use Rattle.table_words.specs.Sizes.{nodeRoom};
-ghost use Rattle.trees.specs.Witness.{witnessAnswer};
+ghost use Rattle.trees.specs.Witness.{witnessAnswer, WitnessTold};
 ghost use Rattle.trees.specs.lemmas.RootedArrays.{RootedArrays};
 ghost use Rattle.trees.specs.lemmas.CentreOutcomes.{centreOver};
 ghost use Rattle.trees.specs.lemmas.Seen.{ShownEdge, witnessAt, Seen};
@@ -75,7 +75,9 @@ fn seen(parents: &[u16], labels: &[u16], a: u16, b: u16, c: u16, d: u16) -> Witn
 
 // The topology of four labels with its witness: the first edge that parts them two and two, or the node where they meet.
 pub fn witness_of(table: &[u16], a: u16, b: u16, c: u16, d: u16) -> WitnessAnswer
-    ensures { λ r. ⌜ r ≡ witnessAnswer (now (table .entry)) a b c d ⌝ }
+    ensures { λ r. ⌜
+        (r ≡ witnessAnswer (now (table .entry)) a b c d) × WitnessTold (now (table .entry)) a b c d r
+        ⌝ }
 {
     let answer = check(table);
     let Checked::Tree { tips, nodes } = answer else {

@@ -3,7 +3,7 @@
 use Prim.Native.Nat.{ℕ, _+_}
 use Rattle.tree_check.specs.Table.{Table}
 use Rattle.tree_check.specs.Refusals.{refusal, ifAccepted}
-use Rattle.counting.specs.Cases.{A, B, C, D, E}
+use Rattle.counting.specs.declared.Case.the-variants.{A, B, C, D, E}
 use Rattle.counting.specs.Triplets.{triplets}
 use Rattle.pair_check.specs.PairOrder.{cellsOrder}
 use Rattle.triplets.specs.declared.tables.TripletTable.{TripletTable}

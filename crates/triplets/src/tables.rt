@@ -9,7 +9,7 @@ use tree_pairs::cross_all;
 ghost use mathlib.Core.Path.{_≡_};
 ghost use Prim.Native.Nat.{_-_, _≤_};
 ghost use lib.ListN.{length};
-ghost use Rattle.sums.specs.Threes.{threes};
+ghost use Rattle.sums.specs.theorems.ThreesLaws.{threes};
 ghost use Rattle.tree_pairs.specs.Crossings.{afterAll};
 ghost use Rattle.triplets.specs.lemmas.FormedTriplets.{TableFits, formed};
 ghost use Rattle.triplets.specs.lemmas.TripletsCounted.{Countable, counted};

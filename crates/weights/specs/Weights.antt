@@ -1,11 +1,14 @@
 -- The weight of stars, and the weighted distance of a pair call (docs/SPECIFICATION.md, 'The weight of stars', 'Weighted
 -- distance'). A float `fin s m e` is m · 2 ^ e, negative where s is true; `round binary64 false n d` is the 64-bit float
--- nearest to n/d.
+-- nearest to n/d; `HasValue x s n d` says that x is finite, has the sign s and is n/d in size.
 -- Assumes nothing.
+use mathlib.Core.Path.{_≡_}
 use mathlib.Core.Bool.{Bool, true, false}
-use Prim.Native.Nat.{ℕ, zero, suc}
+use Prim.Native.Nat.{ℕ}
 use lib.IntN.{pos}
 use lib.Ieee.{Float, fin, binary64, round, eq}
+use lib.Ieee.Exact.{HasValue}
+use Rattle.sums.specs.Tests.{first}
 use Rattle.weights.specs.declared.weight.Weight.{Weight}
 use Rattle.weights.specs.declared.weight.Weight.the-variants.{None, Full, Part}
 
@@ -19,11 +22,12 @@ pOf None = fin false 0 (pos 0)
 pOf Full = fin false 1 (pos 0)
 pOf (Part x) = x
 
--- the first index below n that passes the test; n if none does
-unfoldable pub firstBelow : ℕ → (ℕ → Bool) → ℕ
-firstBelow zero q = 0
-firstBelow (suc n) q = elim (q 0) [ true ↦ 0 | false ↦ suc (firstBelow n (λ i. q (suc i))) ]
-
 -- the k of 0 to 256 for which p is k/256, and 257 if there is none; minus zero is zero, and NaN is none
 unfoldable pub numeratorOf : Float → ℕ
-numeratorOf p = firstBelow 257 (λ k. eq p (over256 k))
+numeratorOf p = first 257 (λ k. eq p (over256 k))
+
+-- the same in ordinary mathematics: x is finite, k/256 in size, and negative only where k is 0, so that minus zero is zero
+pub record IsFraction (x : Float) (k : ℕ) : Type 0 where
+  pub sign : Bool
+  pub value : HasValue x sign k 256
+  pub zero-if : sign ≡ true → k ≡ 0

@@ -14,11 +14,12 @@ ghost use lib.ListN.{length};
 ghost use Rattle.tree_check.specs.Refusals.{refusal};
 ghost use Rattle.tree_check.specs.Table.{tips};
 ghost use Rattle.counting.specs.Kept.{kept};
-ghost use Rattle.counting.specs.Cases.{B, C, D, quartets as Cases·quartets};
+ghost use Rattle.counting.specs.declared.Case.the-variants.{B, C, D};
+ghost use Rattle.counting.specs.Cases.{quartets as Cases·quartets};
 ghost use Rattle.pair_check.specs.PairOrder.{MarkedPair};
 ghost use Rattle.tree_pairs.specs.Crossings.{crossedKept};
 ghost use Rattle.weights.specs.Weights.{over256, numeratorOf};
-ghost use Rattle.weights.specs.WeightedAnswer.{fractionOrder, weightedAnswer, afterWeighted};
+ghost use Rattle.weights.specs.WeightedAnswer.{fractionOrder, weightedAnswer, afterWeighted, WeightTold};
 
 // The number; and B + p(C + D).
 pub struct WeightedDistance {
@@ -67,6 +68,7 @@ pub fn weighted_distance(
         (r ≡ weightedAnswer (now (first .entry)) (now (second .entry)) (now (marks .entry)) (length (now (work .entry))) weight)
         × (now (work .exit)
         ≡ afterWeighted (now (first .entry)) (now (second .entry)) (now (marks .entry)) weight (now (work .entry)))
+        × WeightTold (now (first .entry)) (now (second .entry)) (now (marks .entry)) (length (now (work .entry))) weight r
         ⌝ }
 {
     let answer = check_work(first, second, marks, work.len());

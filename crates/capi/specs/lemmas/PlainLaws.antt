@@ -16,7 +16,7 @@ use Rattle.trees.specs.declared.quartet.TopologyAnswer as trees-topology
 use Rattle.trees.specs.declared.quartet.Topology.the-variants.{Butterfly, Star}
 use Rattle.trees.specs.Witness.{isEdge, numberOf}
 use Rattle.evidence.specs.declared.shown.EvidenceAnswer as shown
-use Rattle.evidence.specs.EvidenceAnswer.{whichOf}
+use Rattle.counting.specs.Cases.{caseNumber}
 use Rattle.splits.specs.declared.counts.SplitCounts.{SplitCounts}
 use Rattle.capi.specs.declared.answers.TopologyAnswer.{TopologyAnswer}
 use Rattle.capi.specs.PlainAnswers.{plainTopology}
@@ -41,7 +41,7 @@ unfolding plainTopology
 star-plain r e = rw e refl
 
 -- from the case's number and each witness's two
-pub evidence-plain : (r : shown.EvidenceAnswer) (w e i f j : ℕ) → w ≡ whichOf (r .which) → e ≡ isEdge (r .first)
+pub evidence-plain : (r : shown.EvidenceAnswer) (w e i f j : ℕ) → w ≡ caseNumber (r .which) → e ≡ isEdge (r .first)
     → i ≡ numberOf (r .first) → f ≡ isEdge (r .second) → j ≡ numberOf (r .second)
     → record {
       refusal = r .refusal;

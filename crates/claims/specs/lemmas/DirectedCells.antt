@@ -14,10 +14,10 @@ use Rattle.sums.specs.Counts.{count}
 use Rattle.sums.specs.theorems.CountLaws.{count-le}
 use Rattle.shapes.specs.theorems.DirectionLaws.{behind-even, behind-odd}
 use Rattle.tree_check.specs.Table.{Table, word, tips, nodes, parent, nodeOf, beyond}
-use Rattle.counting.specs.Labels.{Labels, Rising}
+use Rattle.counting.specs.Labels.{Labels}
+use Rattle.counting.specs.theorems.LabelLaws.{Rising, number-le}
 use Rattle.counting.specs.ClaimSums.{behindEdge, size, crossing}
 use Rattle.counting.specs.SplitCounts.{beyondAt}
-use Rattle.counting.specs.theorems.LabelLaws.{number-le}
 use Rattle.pair_check.specs.PairOrder.{PairWithCells}
 use Rattle.tree_pairs.specs.Crossings.{edgeCrossing, crossed}
 use Rattle.tree_pairs.specs.theorems.CrossingLaws.{crossed-length, cell-of-edges}

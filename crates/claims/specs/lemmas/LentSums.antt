@@ -7,7 +7,8 @@ use lib.ListN.{length}
 use Rattle.tree_check.specs.Table.{Table, tips, nodes}
 use Rattle.tree_check.specs.theorems.RefusalLaws.{if-accepted}
 use Rattle.marks.specs.Marks.{keptOf}
-use Rattle.counting.specs.Labels.{Labels, Rising}
+use Rattle.counting.specs.Labels.{Labels}
+use Rattle.counting.specs.theorems.LabelLaws.{Rising}
 use Rattle.counting.specs.Kept.{kept}
 use Rattle.counting.specs.theorems.KeptLaws.{kept-rising}
 use Rattle.pair_check.specs.PairOrder.{MarkedPair}

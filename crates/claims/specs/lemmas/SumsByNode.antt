@@ -15,9 +15,9 @@ use Rattle.node_pairs.specs.theorems.CellsAlike.{apart-ext, pairS2-ext, pairS3-
 use Rattle.tree_check.specs.Table.{Table, tips, nodes, parents}
 use Rattle.tree_check.specs.lemmas.TableParts.{parents-length}
 use Rattle.tree_check.specs.IsTree.{IsTree}
-use Rattle.counting.specs.Labels.{Labels, Rising}
+use Rattle.counting.specs.Labels.{Labels}
+use Rattle.counting.specs.theorems.LabelLaws.{Rising, rising-of}
 use Rattle.counting.specs.ClaimSums.{size, crossing, S, S2, S3}
-use Rattle.counting.specs.theorems.LabelLaws.{rising-of}
 use Rattle.counting.specs.theorems.Degrees.{sizes-most}
 use Rattle.counting.specs.theorems.NodePairSums.{nodeTerm, pairTermS2, pairTermS3}
 use Rattle.counting.specs.theorems.NodePairSums.{S-over-nodes, S2-over-node-pairs, S3-over-node-pairs, cells-most}

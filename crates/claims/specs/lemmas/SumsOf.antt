@@ -13,8 +13,8 @@ use Rattle.tree_check.specs.lemmas.TableParts.{parents-length}
 use Rattle.tree_check.specs.Refusals.{refusal}
 use Rattle.tree_check.specs.theorems.RefusalLaws.{if-refused}
 use Rattle.tree_check.specs.IsTree.{IsTree}
-use Rattle.counting.specs.Labels.{Labels, all, Rising}
-use Rattle.counting.specs.theorems.LabelLaws.{number-le}
+use Rattle.counting.specs.Labels.{Labels, all}
+use Rattle.counting.specs.theorems.LabelLaws.{Rising, number-le}
 use Rattle.counting.specs.theorems.QuartetTheorem.{quartet-theorem}
 use Rattle.pair_check.specs.PairOrder.{PairWithCells, pairOrder}
 use Rattle.tree_pairs.specs.Crossings.{crossed}

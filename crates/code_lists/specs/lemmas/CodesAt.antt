@@ -10,8 +10,8 @@ use lib.ListN.{length}
 use Rattle.table_words.specs.Sizes.{codeRoom, nodesMost, startRoom}
 use Rattle.sums.specs.Sum.{sum}
 use Rattle.sums.specs.theorems.SumLaws.{sum-suc, sum-none, sum-swap, sum-mono, sum-const, sum-ge, sum-part}
-use Rattle.sums.specs.Bits.{is, ne}
-use Rattle.sums.specs.theorems.BitLaws.{is-eq, is-other, alike}
+use Rattle.sums.specs.Bits.{is}
+use Rattle.sums.specs.theorems.BitLaws.{ne, is-eq, is-other, alike}
 use Rattle.shapes.specs.Directions.{head}
 use Rattle.shapes.specs.theorems.DirectionLaws.{head-even, head-odd, code-cases}
 use Rattle.node_pairs.specs.CodesInto.{degreeOf, codeAt}

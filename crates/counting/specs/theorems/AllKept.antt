@@ -21,7 +21,8 @@ use Rattle.counting.specs.Labels.{Labels, all}
 use Rattle.marks.specs.Marks.{isKept}
 use Rattle.counting.specs.Kept.{kept}
 use Rattle.counting.specs.ClaimSums.{codes, behindEdge, size, crossing, S, S2, S3}
-use Rattle.counting.specs.Cases.{Case, caseOf, isCase, topologyAt, quartets}
+use Rattle.counting.specs.declared.Case.{Case}
+use Rattle.counting.specs.Cases.{caseOf, isCase, topologyAt, quartets}
 use Rattle.counting.specs.SplitCounts.{beyondAt, splits, commonSplits, robinsonFoulds}
 use Rattle.counting.specs.theorems.KeptLaws.{all-kept-number, all-kept-at}
 

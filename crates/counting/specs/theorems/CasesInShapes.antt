@@ -16,8 +16,11 @@ use Rattle.tree_check.specs.Table.{Table, tips}
 use Rattle.tree_check.specs.IsTree.{IsTree}
 use Rattle.trees.specs.Topology.{butterfly, named, topology}
 use Rattle.trees.specs.theorems.PartnerLaws.{partner-of-smallest}
-use Rattle.counting.specs.Labels.{Labels, Rising}
-use Rattle.counting.specs.Cases.{Case, A, B, caseOf, caseNumber, isCase, topologyAt, quartets}
+use Rattle.counting.specs.Labels.{Labels}
+use Rattle.counting.specs.theorems.LabelLaws.{Rising}
+use Rattle.counting.specs.declared.Case.{Case}
+use Rattle.counting.specs.declared.Case.the-variants.{A, B}
+use Rattle.counting.specs.Cases.{caseOf, caseNumber, isCase, topologyAt, quartets}
 use Rattle.counting.specs.theorems.TreeShape.{shapeOf}
 
 -- ---- the case of two topologies whose butterflies are named by three different labels
@@ -33,7 +36,7 @@ other-name p q d = rw (ne-eqb p q d, caseOf)
 module _ (p q r : ℕ) (pq : p ≢ q) (pr : p ≢ r) (qr : q ≢ r) where
   pub case-named : (a b c a' b' c' : Bool)
       → caseNumber (caseOf (named a b c p q r) (named a' b' c' p q r)) ≡ caseIn (firstPassed a b c) (firstPassed a' b' c')
-  unfolding named firstPassed caseIn caseNumber caseOf
+  unfolding named firstPassed caseIn caseOf
   case-named true b c true b' c' = ap caseNumber (same-name p)
   case-named true b c false true c' = ap caseNumber (other-name p q pq)
   case-named true b c false false true = ap caseNumber (other-name p r pr)

@@ -10,10 +10,12 @@ use Rattle.shapes.specs.theorems.Topologies.{casesIn}
 use Rattle.shapes.specs.theorems.Counting.{S-in, S2-in, S3-in, SumsCount, Counted, counted}
 use Rattle.tree_check.specs.Table.{Table, tips, nodes, parent, nodeOf}
 use Rattle.tree_check.specs.IsTree.{IsTree}
-use Rattle.counting.specs.Labels.{Labels, Rising}
+use Rattle.counting.specs.Labels.{Labels}
+use Rattle.counting.specs.theorems.LabelLaws.{Rising, rising-of}
 use Rattle.counting.specs.ClaimSums.{codes, behindEdge, size, crossing, S, S2, S3}
-use Rattle.counting.specs.Cases.{Case, A, B, C, D, E, caseNumber, quartets}
-use Rattle.counting.specs.theorems.LabelLaws.{rising-of}
+use Rattle.counting.specs.declared.Case.{Case}
+use Rattle.counting.specs.declared.Case.the-variants.{A, B, C, D, E}
+use Rattle.counting.specs.Cases.{caseNumber, quartets}
 use Rattle.counting.specs.theorems.TreeShape.{shapeOf}
 use Rattle.counting.specs.theorems.CasesInShapes.{quartets-in-shapes}
 
@@ -27,7 +29,6 @@ unfolding S size behindEdge codes S-in shapeOf
 claim-sum-in l t g r = refl
 
 pub claim-counts : (l : Labels) (t u : Table) → IsTree t → IsTree u → tips t ≡ tips u → Rising (tips t) l → ClaimCounts l t u
-unfolding caseNumber
 claim-counts l t u g h e r = record {
   first = claim-sum-in l t g r ∙ c .first ∙ sym (rw (q A, q B, q C));
   second = claim-sum-in l u h s ∙ c .second ∙ sym (rw (q A, q B, q D));

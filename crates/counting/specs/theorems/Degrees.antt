@@ -16,9 +16,9 @@ use Rattle.tree_check.specs.Table.{Table, tips, nodes, parent, nodeOf, beyond}
 use Rattle.tree_check.specs.IsTree.{IsTree}
 use Rattle.tree_check.specs.theorems.RootedTables.{rooted}
 use Rattle.walks.specs.theorems.NodeLabels.{node-at}
-use Rattle.counting.specs.Labels.{Labels, all, Rising}
+use Rattle.counting.specs.Labels.{Labels, all}
+use Rattle.counting.specs.theorems.LabelLaws.{Rising, all-rising}
 use Rattle.counting.specs.ClaimSums.{codes, behindEdge, size}
-use Rattle.counting.specs.theorems.LabelLaws.{all-rising}
 use Rattle.counting.specs.theorems.TreeSplits.{labelled, zero-here}
 
 module _ (t : Table) (g : IsTree t) where

@@ -21,7 +21,7 @@ use Rattle.tree_check.specs.IsTree.{IsTree, Child}
 use Rattle.tree_check.specs.theorems.RootedTables.{rooted}
 use Rattle.counting.specs.Labels.{all}
 use Rattle.counting.specs.SplitCounts.{beyondAt, splits, commonSplits}
-use Rattle.counting.specs.PassThrough.{NoPassThrough}
+use Rattle.counting.specs.theorems.PassThrough.{NoPassThrough}
 use Rattle.counting.specs.theorems.TreeSplits.{child-above, labelled, zero-here}
 use Rattle.counting.specs.theorems.PassThroughNodes.{another-child}
 

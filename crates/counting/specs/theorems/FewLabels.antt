@@ -15,9 +15,12 @@ use Rattle.sums.specs.theorems.TestLaws.{and-iff, le-iff}
 use Rattle.shapes.specs.Splits.{Sides, isSplit, occurs, isNewSplit, splitsOf, commonOf}
 use Rattle.tree_check.specs.Table.{Table, tips, nodes}
 use Rattle.tree_check.specs.IsTree.{IsTree}
-use Rattle.counting.specs.Labels.{Labels, Rising}
+use Rattle.counting.specs.Labels.{Labels}
+use Rattle.counting.specs.theorems.LabelLaws.{Rising}
 use Rattle.counting.specs.ClaimSums.{S, S2, S3}
-use Rattle.counting.specs.Cases.{Case, A, B, C, D, E, quartets}
+use Rattle.counting.specs.declared.Case.{Case}
+use Rattle.counting.specs.declared.Case.the-variants.{A, B, C, D, E}
+use Rattle.counting.specs.Cases.{quartets}
 use Rattle.counting.specs.SplitCounts.{beyondAt, splits, commonSplits, robinsonFoulds}
 use Rattle.counting.specs.theorems.CountingTheorem.{ClaimCounts, claim-counts}
 use Rattle.counting.specs.theorems.FiveFormulas.{formulas-count}

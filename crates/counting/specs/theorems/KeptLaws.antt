@@ -14,7 +14,8 @@ use Rattle.sums.specs.SetsOfFour.{sets2, sets3, sets4}
 use Rattle.sums.specs.theorems.SumLaws.{sum-suc, sum-ext, sum-part, sum-const, sum-mul-left}
 use Rattle.sums.specs.Bits.{bit}
 use Rattle.sums.specs.Counts.{count}
-use Rattle.counting.specs.Labels.{Labels, Rising}
+use Rattle.counting.specs.Labels.{Labels}
+use Rattle.counting.specs.theorems.LabelLaws.{Rising}
 use Rattle.marks.specs.Marks.{isKept}
 use Rattle.counting.specs.Kept.{keptAt, kept}
 

@@ -6,7 +6,12 @@ use Prim.Native.Nat.{ℕ, zero, suc, _≤_, _<_}
 use native.Mathlib.Decide.{decLt}
 use native.Mathlib.Omega.{arith}
 use Rattle.shapes.specs.theorems.FourLabels.{Four}
-use Rattle.counting.specs.Labels.{Labels, all, Rising}
+use Rattle.counting.specs.Labels.{Labels, all}
+
+-- labels below n, in rising order
+pub record Rising (n : ℕ) (l : Labels) : Type 0 where
+  pub inside : (x : ℕ) → x < l .number → l .at x < n
+  pub rises : (x y : ℕ) → x < y → y < l .number → l .at x < l .at y
 
 pub all-rising : (n : ℕ) → Rising n (all n)
 all-rising n = record { inside = λ x l. l; rises = λ x y l m. l }

@@ -19,16 +19,16 @@ use Rattle.shapes.specs.Ancestors.{anc}
 use Rattle.shapes.specs.theorems.AncestorLaws.{parent-lt, anc-root, anc-self, anc-down, anc-past, anc-trans, anc-line, anc-le}
 use Rattle.shapes.specs.theorems.AncestorLaws.{one-child}
 use Rattle.shapes.specs.theorems.PathLaws.{towards}
-use Rattle.shapes.specs.Splits.{isSplit, isNewSplit, Split, SameSides, same, turned, NewSplit}
-use Rattle.shapes.specs.theorems.SplitLaws.{split-iff}
+use Rattle.shapes.specs.Splits.{isSplit, isNewSplit, Split, SameSides, same, turned}
+use Rattle.shapes.specs.theorems.SplitLaws.{NewSplit, split-iff}
 use Rattle.shapes.specs.theorems.RobinsonFoulds.{new-iff}
 use Rattle.tree_check.specs.Table.{Table, tips, nodes, parent, nodeOf, beyond}
 use Rattle.tree_check.specs.IsTree.{IsTree}
 use Rattle.tree_check.specs.theorems.RootedTables.{rooted}
 use Rattle.walks.specs.theorems.NodeLabels.{node-at}
-use Rattle.counting.specs.Labels.{Labels, all, Rising}
+use Rattle.counting.specs.Labels.{Labels, all}
+use Rattle.counting.specs.theorems.LabelLaws.{Rising, all-rising}
 use Rattle.counting.specs.SplitCounts.{beyondAt}
-use Rattle.counting.specs.theorems.LabelLaws.{all-rising}
 use Rattle.counting.specs.theorems.TreeSplits.{zero-here}
 
 -- how many of the labels lie beyond edge i

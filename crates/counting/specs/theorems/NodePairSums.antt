@@ -19,9 +19,9 @@ use Rattle.node_pairs.specs.theorems.CellTotals.{crossings-le}
 use Rattle.tree_check.specs.Table.{Table, tips, nodes, parent}
 use Rattle.tree_check.specs.IsTree.{IsTree}
 use Rattle.tree_check.specs.theorems.RootedTables.{rooted}
-use Rattle.counting.specs.Labels.{Labels, Rising}
+use Rattle.counting.specs.Labels.{Labels}
+use Rattle.counting.specs.theorems.LabelLaws.{Rising, rising-of}
 use Rattle.counting.specs.ClaimSums.{codes, behindEdge, size, crossing, S, S2, S3}
-use Rattle.counting.specs.theorems.LabelLaws.{rising-of}
 use Rattle.counting.specs.theorems.TreeShape.{shapeOf}
 
 -- the codes into each node of a table, each once

@@ -21,7 +21,7 @@ use Rattle.tree_check.specs.TreeOrder.{isChild}
 use Rattle.tree_check.specs.theorems.TreeCheck.{child-iff}
 use Rattle.tree_check.specs.theorems.RootedTables.{rooted}
 use Rattle.counting.specs.ClaimSums.{codes}
-use Rattle.counting.specs.PassThrough.{PassThrough}
+use Rattle.counting.specs.theorems.PassThrough.{PassThrough}
 use Rattle.counting.specs.theorems.EdgeClaims.{degreeOf, headOf, claims-of-a-code}
 
 module _ (t : Table) where

@@ -24,8 +24,8 @@ use Rattle.tree_check.specs.theorems.RootedTables.{rooted}
 use Rattle.walks.specs.theorems.NodeLabels.{node-at, node-only}
 use Rattle.counting.specs.Labels.{all}
 use Rattle.counting.specs.SplitCounts.{beyondAt, HaveSameSplits}
-use Rattle.counting.specs.LabelsAlone.{LabelsAlone}
-use Rattle.counting.specs.PassThrough.{PassThrough, NextAbove, TakenOut}
+use Rattle.counting.specs.theorems.LabelsAlone.{LabelsAlone}
+use Rattle.counting.specs.theorems.PassThrough.{PassThrough, NextAbove, TakenOut}
 use Rattle.counting.specs.theorems.TipLabels.{labels-alone}
 use Rattle.counting.specs.theorems.TreeSplits.{child-above, zero-here}
 use Rattle.counting.specs.theorems.Renumbered.{parent-node}

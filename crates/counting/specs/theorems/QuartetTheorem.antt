@@ -10,18 +10,24 @@ use Rattle.sums.specs.theorems.FoursLaws.{fours-exact, fours-of-256, fours-mono
 use Rattle.shapes.specs.theorems.ZeroRule.{zero-rule}
 use Rattle.tree_check.specs.Table.{Table, tips, beyond}
 use Rattle.tree_check.specs.IsTree.{IsTree}
-use Rattle.counting.specs.Labels.{Labels, Rising}
+use Rattle.counting.specs.Labels.{Labels}
+use Rattle.counting.specs.theorems.LabelLaws.{Rising, rising-of, number-le}
 use Rattle.counting.specs.ClaimSums.{S, S2, S3}
-use Rattle.counting.specs.Cases.{Case, A, B, C, D, E, caseNumber, quartets}
-use Rattle.counting.specs.QuartetTable.{formulaA, formulaB, formulaC, formulaD, formulaE, formulaDistance}
+use Rattle.counting.specs.declared.Case.{Case}
+use Rattle.counting.specs.declared.Case.the-variants.{A, B, C, D, E}
+use Rattle.counting.specs.Cases.{caseNumber, quartets, distance}
+use Rattle.counting.specs.QuartetTable.{formulaA, formulaB, formulaC, formulaD, formulaE}
 use Rattle.counting.specs.theorems.FiveFormulas.{FormulasCount, formulas-count}
 use Rattle.counting.specs.SplitCounts.{beyondAt, HaveSameSplits}
-use Rattle.counting.specs.theorems.LabelLaws.{rising-of, number-le}
 use Rattle.counting.specs.theorems.TreeShape.{shapeOf}
 use Rattle.counting.specs.theorems.CasesInShapes.{quartets-in-shapes}
 use Rattle.counting.specs.theorems.CountingTheorem.{ClaimCounts, claim-counts}
 
 -- ---- the five formulas, from the four claim sums and n alone
+
+-- the distance B + C + D
+unfoldable pub formulaDistance : ℕ → ℕ → ℕ → ℕ → ℕ
+formulaDistance s s' s2 s3 = formulaB s3 + formulaC s s2 s3 + formulaD s' s2 s3
 
 abbrev pub tableA : Labels → Table → Table → ℕ
 tableA l t u = formulaA (S2 l t u)
@@ -68,7 +74,7 @@ pub record QuartetTheorem (l : Labels) (t u : Table) : Type 0 where
   -- the five add up to all sets of four
   pub total : tableA l t u + tableB l t u + tableC l t u + tableD l t u + tableE l t u ≡ fours (l .number)
   -- the distance is 0 exactly if the two trees have the same splits
-  pub distance-counts : tableDistance l t u ≡ quartets l t u B + quartets l t u C + quartets l t u D
+  pub distance-counts : tableDistance l t u ≡ distance l t u
   pub distance-zero : (tableDistance l t u ≡ 0) ↔ HaveSameSplits l t u
 
 -- ---- the formulas give the counts
@@ -81,8 +87,8 @@ FormulasOf l t u = FormulasCount (l .number) (S l t) (S l u) (S2 l t u) (S3 l t 
 -- ---- the zero rule over tables
 
 zero-rule-of-tables : (l : Labels) (t u : Table) → IsTree t → IsTree u → tips t ≡ tips u → Rising (tips t) l
-    → (quartets l t u B + quartets l t u C + quartets l t u D ≡ 0) ↔ HaveSameSplits l t u
-unfolding shapeOf beyond beyondAt caseNumber
+    → (distance l t u ≡ 0) ↔ HaveSameSplits l t u
+unfolding shapeOf beyond beyondAt
 zero-rule-of-tables l t u g h e r =
     let s = rising-of (tips t) (tips u) l e r in
     let q = quartets-in-shapes l t u g h r s in
@@ -110,10 +116,10 @@ quartet-theorem l t u g h e r = record {
   all-most = most;
   count-most = λ k. omega (arith, in-all k, f .all, most);
   total = omega (arith, f .A-counts, f .B-counts, f .C-counts, f .D-counts, f .E-counts, f .all);
-  distance-counts = distance;
+  distance-counts = counted;
   distance-zero = (
-    λ z. zero-rule-of-tables l t u g h e r .0 (sym distance ∙ z),
-    λ s. distance ∙ zero-rule-of-tables l t u g h e r .1 s,
+    λ z. zero-rule-of-tables l t u g h e r .0 (sym counted ∙ z),
+    λ s. counted ∙ zero-rule-of-tables l t u g h e r .1 s,
   );
 }
   where
@@ -136,5 +142,5 @@ quartet-theorem l t u g h e r = record {
     in-all D = omega arith
     in-all E = omega arith
 
-    distance : tableDistance l t u ≡ quartets l t u B + quartets l t u C + quartets l t u D
-    distance = unfold formulaDistance in omega (arith, f .B-counts, f .C-counts, f .D-counts)
+    counted : tableDistance l t u ≡ distance l t u
+    counted = unfold formulaDistance in omega (arith, f .B-counts, f .C-counts, f .D-counts)

@@ -14,7 +14,8 @@ use Rattle.shapes.specs.Directions.{edge, rising, head, behind}
 use Rattle.shapes.specs.Quartets.{parts, parted}
 use Rattle.shapes.specs.Claims.{sumIf, meet, sumClaimsOf, sumClaims, choose2}
 use Rattle.shapes.specs.Triplets.{lastBelow, lowest, resolved}
-use Rattle.shapes.specs.Splits.{isSplit, sameSides, occurs, isNewSplit, splitsOf, commonOf, allOccur, sameSplitsOf}
+use Rattle.shapes.specs.Splits.{isSplit, sameSides, occurs, isNewSplit, splitsOf, commonOf}
+use Rattle.shapes.specs.theorems.SplitLaws.{allOccur, sameSplitsOf}
 use Rattle.tree_check.specs.Table.{Table, tips, nodes, parents, labels, parent, label, nodeBelow, nodeOf, beyond}
 use Rattle.trees.specs.Topology.{butterfly, partner, named, topology}
 use Rattle.walks.specs.theorems.WalkExamples.{X, P, Q, R, W, TwoTips, ThreeTips}
@@ -22,9 +23,12 @@ use Rattle.marks.specs.Marks.{isKept}
 use Rattle.counting.specs.Labels.{Labels, all}
 use Rattle.counting.specs.Kept.{keptAt, kept}
 use Rattle.counting.specs.ClaimSums.{codes, behindEdge, size, crossing, S, S2, S3}
-use Rattle.counting.specs.Cases.{A, B, C, D, E, caseOf, caseNumber, isCase, topologyAt, quartets}
-use Rattle.counting.specs.QuartetTable.{formulaA, formulaB, formulaC, formulaE, formulaDistance, formulaD}
-use Rattle.counting.specs.SplitCounts.{beyondAt, splits, commonSplits, robinsonFoulds, sameSplits}
+use Rattle.counting.specs.declared.Case.the-variants.{A, B, C, D, E}
+use Rattle.counting.specs.Cases.{caseOf, caseNumber, isCase, topologyAt, quartets, distance}
+use Rattle.counting.specs.QuartetTable.{formulaA, formulaB, formulaC, formulaE, formulaD}
+use Rattle.counting.specs.theorems.QuartetTheorem.{formulaDistance}
+use Rattle.counting.specs.SplitCounts.{beyondAt, splits, commonSplits, robinsonFoulds}
+use Rattle.counting.specs.theorems.TreeSplits.{sameSplits}
 use Rattle.counting.specs.Triplets.{together, triplet, triplets}
 
 -- over labels: S S′ S2 S3, A B C D E, distance, splits of the first, of the second, common, Robinson-Foulds distance
@@ -32,7 +36,7 @@ unfoldable pub figuresOver : Labels → Table → Table → List ℕ
 figuresOver l t u =
     S l t ∷ S l u ∷ S2 l t u ∷ S3 l t u
     ∷ quartets l t u A ∷ quartets l t u B ∷ quartets l t u C ∷ quartets l t u D ∷ quartets l t u E
-    ∷ (quartets l t u B + quartets l t u C + quartets l t u D)
+    ∷ distance l t u
     ∷ splits l t ∷ splits l u ∷ commonSplits l t u ∷ robinsonFoulds l t u ∷ []
 
 -- one line of the reference table: those over all labels, then A B C D E of the triplets
@@ -55,7 +59,7 @@ pub reference-pairs :
     ∷ (0 ∷ 0 ∷ 0 ∷ 0 ∷ 0 ∷ 0 ∷ 0 ∷ 0 ∷ 0 ∷ 0 ∷ 0 ∷ 0 ∷ 0 ∷ 0 ∷ 0 ∷ 0 ∷ 0 ∷ 0 ∷ 0 ∷ [])
     ∷ (0 ∷ 0 ∷ 0 ∷ 0 ∷ 0 ∷ 0 ∷ 0 ∷ 0 ∷ 0 ∷ 0 ∷ 0 ∷ 0 ∷ 0 ∷ 0 ∷ 0 ∷ 0 ∷ 0 ∷ 0 ∷ 0 ∷ []) ∷ []
 unfolding
-    figures figuresOver S S2 S3 codes behindEdge size crossing sumClaims sumClaimsOf sumIf meet choose2 quartets topologyAt isCase caseNumber
+    figures figuresOver S S2 S3 codes behindEdge size crossing sumClaims sumClaimsOf sumIf meet choose2 quartets topologyAt isCase 
     caseOf beyondAt splits commonSplits robinsonFoulds splitsOf commonOf isNewSplit isSplit sameSides occurs
     triplets triplet together resolved lowest lastBelow
     topology named partner butterfly parts parted sets2 sets3 sets4 sum bit some every
@@ -81,7 +85,7 @@ pub struck-pairs :
     ∷ (0 ∷ 0 ∷ 0 ∷ 0 ∷ 0 ∷ 0 ∷ 0 ∷ 0 ∷ 0 ∷ 0 ∷ 0 ∷ 0 ∷ 0 ∷ 0 ∷ []) ∷ []
 unfolding
     isKept keptAt figuresOver S S2 S3 codes behindEdge size crossing sumClaims sumClaimsOf sumIf meet choose2
-    quartets topologyAt isCase caseNumber
+    quartets topologyAt isCase 
     caseOf beyondAt splits commonSplits robinsonFoulds splitsOf commonOf isNewSplit isSplit sameSides occurs
     topology named partner butterfly parts parted sets2 sets3 sets4 sum bit some every
     ancIn anc edge rising head behind tips nodes parents labels parent label nodeBelow nodeOf beyond

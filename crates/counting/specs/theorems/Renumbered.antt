@@ -17,7 +17,7 @@ use Rattle.tree_check.specs.theorems.RootedTables.{rooted}
 use Rattle.walks.specs.theorems.NodeLabels.{node-at, node-only}
 use Rattle.counting.specs.Labels.{all}
 use Rattle.counting.specs.SplitCounts.{beyondAt, HaveSameSplits}
-use Rattle.counting.specs.LabelsAlone.{LabelsAlone}
+use Rattle.counting.specs.theorems.LabelsAlone.{LabelsAlone}
 use Rattle.counting.specs.theorems.TipLabels.{labels-alone}
 
 -- the nodes of t' are those of t under other numbers: label and parent go along

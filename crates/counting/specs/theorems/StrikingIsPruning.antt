@@ -1,77 +1,115 @@
--- Striking is pruning: the figures under marks are those of the two trees' shapes with the kept labels alone, by rank.
+-- Striking is pruning: the figures of two trees under marks are those of the two trees cut down to the kept labels.
 -- Assumes nothing.
-use mathlib.Core.Path.{_≡_, refl, sym}
-use mathlib.Core.Bool.{_&&_}
+use mathlib.Core.Path.{_≡_, refl, sym, _∙_, ap, ap₂, subst}
 use mathlib.Core.List.{List}
-use Prim.Native.Nat.{ℕ, _*_}
+use mathlib.Core.Logic.{Ne·symm}
+use Prim.Native.Nat.{ℕ, _*_, _-_}
+use native.Mathlib.Omega.{arith}
+use lib.Dec.{eqb}
 use Rattle.sums.specs.Bits.{bit}
-use Rattle.sums.specs.Counts.{count}
 use Rattle.sums.specs.SetsOfFour.{sets4}
-use Rattle.shapes.specs.Claims.{sumClaims, claimTerm, equation1, dcount}
-use Rattle.shapes.specs.Splits.{splitsOf, commonOf}
-use Rattle.shapes.specs.theorems.Shape.{Shape, beyondIn, behindIn}
-use Rattle.shapes.specs.theorems.Topologies.{topologyIn, casesIn}
+use Rattle.sums.specs.theorems.SetLaws.{sets4-ext}
+use Rattle.shapes.specs.theorems.FourLabels.{Four}
+use Rattle.shapes.specs.theorems.RobinsonFoulds.{common-turned}
+use Rattle.shapes.specs.theorems.SameSplits.{same-splits-as-many, same-splits-in-common}
+use Rattle.shapes.specs.theorems.Topologies.{topologyIn, caseIn, casesIn}
 use Rattle.trees.specs.Topology.{topology}
-use Rattle.tree_check.specs.Table.{Table, tips, beyond}
+use Rattle.tree_check.specs.Table.{Table, tips, nodes, beyond}
 use Rattle.tree_check.specs.IsTree.{IsTree}
-use Rattle.marks.specs.Marks.{isKept, keptOf}
-use Rattle.counting.specs.Labels.{Labels, all, Rising}
+use Rattle.marks.specs.Marks.{isKept}
+use Rattle.counting.specs.Labels.{Labels, all}
 use Rattle.counting.specs.Kept.{kept}
-use Rattle.counting.specs.ClaimSums.{codes, behindEdge, size, crossing, S, S2, S3}
-use Rattle.counting.specs.Cases.{Case, caseOf, caseNumber, isCase, topologyAt, quartets}
-use Rattle.counting.specs.SplitCounts.{beyondAt, splits, commonSplits}
-use Rattle.counting.specs.theorems.LabelLaws.{all-of, rising-of, at-apart}
+use Rattle.counting.specs.ClaimSums.{S, S2, S3}
+use Rattle.counting.specs.declared.Case.{Case}
+use Rattle.counting.specs.declared.Case.the-variants.{A, B, C, D}
+use Rattle.counting.specs.Cases.{caseOf, caseNumber, isCase, topologyAt, quartets}
+use Rattle.counting.specs.SplitCounts.{beyondAt, splits, commonSplits, robinsonFoulds}
+use Rattle.counting.specs.theorems.LabelLaws.{Rising, rising-of}
 use Rattle.counting.specs.theorems.KeptLaws.{kept-rising, sets4-kept}
-use Rattle.counting.specs.theorems.TreeShape.{shapeOf}
 use Rattle.counting.specs.theorems.CasesInShapes.{quartets-in-shapes}
+use Rattle.counting.specs.theorems.CountingTheorem.{ClaimCounts, claim-counts}
+use Rattle.counting.specs.theorems.CutDown.{CutDown, wholeShape, cutShape, cut-rising, same-fours}
 
--- a shape with some of its labels alone: the label of each rank at its leaf
-unfoldable pub prune : {n : ℕ} → Shape n → (l : Labels) → Rising n l → Shape (l .number)
-prune {n} s l r = record {
-  up = s .up;
-  tree = s .tree;
-  edges = s .edges;
-  node = λ x. s .node (l .at x);
-  node-le = λ x m. s .node-le (l .at x) (r .inside x m);
-  node-ne = λ x y lx ly d. s .node-ne (l .at x) (l .at y) (r .inside x lx) (r .inside y ly) (at-apart n l r x y lx ly d);
-  leaf = λ x m. s .leaf (l .at x) (r .inside x m);
-}
+-- the figures of two tables over l are those of two others over all their k labels
+pub record FiguresOfCut (l : Labels) (t u c d : Table) : Type 0 where
+  pub first : S l t ≡ S (all (l .number)) c
+  pub second : S l u ≡ S (all (l .number)) d
+  pub same : S2 l t u ≡ S2 (all (l .number)) c d
+  pub different : S3 l t u ≡ S3 (all (l .number)) c d
+  pub counts : (k : Case) → quartets l t u k ≡ quartets (all (l .number)) c d k
+  pub first-splits : splits l t ≡ splits (all (l .number)) c
+  pub second-splits : splits l u ≡ splits (all (l .number)) d
+  pub common : commonSplits l t u ≡ commonSplits (all (l .number)) c d
+  pub robinson-foulds : robinsonFoulds l t u ≡ robinsonFoulds (all (l .number)) c d
 
--- the shape of a table with all its n labels, ..
-abbrev pub wholeShape : (t : Table) → IsTree t → (n : ℕ) → tips t ≡ n → Shape n
-wholeShape t g n e = shapeOf t g (all n) (all-of n (tips t) e)
+module _ (l : Labels) (t u c d : Table) (g : IsTree t) (h : IsTree u) (e : tips t ≡ tips u) (r : Rising (tips t) l)
+    (p : CutDown l t c) (q : CutDown l u d) where
+  r' : Rising (tips u) l
+  r' = rising-of (tips t) (tips u) l e r
 
--- .. and with those that are kept
-abbrev pub keptShape : (t : Table) → IsTree t → (n : ℕ) → tips t ≡ n → (marks : List ℕ) → Shape (keptOf marks n)
-keptShape t g n e marks = prune (wholeShape t g n e) (kept marks n) (kept-rising marks n)
+  topologies-in : (t c : Table) (g : IsTree t) (r : Rising (tips t) l) (p : CutDown l t c)
+      (w x y z : ℕ) → Four (l .number) w x y z
+      → topologyIn (wholeShape l t c g r p) w x y z ≡ topologyIn (cutShape l t c g r p) w x y z
+  unfolding topologyIn
+  topologies-in t c g r p w x y z f = rw (
+    same-fours l t c g r p w x y z f,
+    same-fours l t c g r p w y x z (search Ne·symm),
+    same-fours l t c g r p w z x y (search Ne·symm),
+  )
 
--- the figures of two tables over labels are those of two shapes
-pub record FiguresIn {k : ℕ} (s s' : Shape k) (l : Labels) (t u : Table) : Type 0 where
-  pub first : S l t ≡ sumClaims (s .up) (2 * s .edges) (claimTerm (λ c. count k (behindIn s c)))
-  pub second : S l u ≡ sumClaims (s' .up) (2 * s' .edges) (claimTerm (λ c. count k (behindIn s' c)))
-  pub same : S2 l t u ≡ sumClaims (s .up) (2 * s .edges) (λ e f g. sumClaims (s' .up) (2 * s' .edges)
-      (equation1 (λ c d. count k (λ x. behindIn s c x && behindIn s' d x)) e f g))
-  pub different : S3 l t u ≡ sumClaims (s .up) (2 * s .edges) (λ e f g. sumClaims (s' .up) (2 * s' .edges)
-      (dcount (λ c d. count k (λ x. behindIn s c x && behindIn s' d x)) e f g))
-  pub counts : (c : Case) → quartets l t u c ≡ casesIn s s' (caseNumber c)
-  pub first-splits : splits l t ≡ splitsOf k (s .edges) (beyondIn s)
-  pub second-splits : splits l u ≡ splitsOf k (s' .edges) (beyondIn s')
-  pub common : commonSplits l t u ≡ commonOf k (s .edges) (beyondIn s) (s' .edges) (beyondIn s')
+  same-cases : (k : Case) → quartets l t u k ≡ quartets (all (l .number)) c d k
+  unfolding casesIn
+  same-cases k =
+      quartets-in-shapes l t u g h r r' k
+      ∙ sets4-ext (l .number) _ _ (λ w x y z wx xy yz m.
+      ap₂ (λ (a b : ℕ). bit (eqb (caseIn a b) (caseNumber k)))
+      (topologies-in t c g r p w x y z (omega arith)) (topologies-in u d h r' q w x y z (omega arith)))
+      ∙ sym (quartets-in-shapes (all (l .number)) c d (p .tree) (q .tree)
+      (cut-rising l t c g r p) (cut-rising l u d h r' q) k)
 
-pub striking-is-pruning : (t u : Table) (g : IsTree t) (h : IsTree u) (e : tips u ≡ tips t) (marks : List ℕ)
-    → FiguresIn (keptShape t g (tips t) refl marks) (keptShape u h (tips t) e marks) (kept marks (tips t)) t u
-striking-is-pruning t u g h e marks = record {
-  first = unfold S codes size behindEdge prune shapeOf in refl;
-  second = unfold S codes size behindEdge prune shapeOf in refl;
-  same = unfold S2 codes crossing behindEdge prune shapeOf in refl;
-  different = unfold S3 codes crossing behindEdge prune shapeOf in refl;
-  counts = λ c. unfold prune shapeOf casesIn topologyIn in
-      quartets-in-shapes (kept marks (tips t)) t u g h (kept-rising marks (tips t))
-      (rising-of (tips t) (tips u) (kept marks (tips t)) (sym e) (kept-rising marks (tips t))) c;
-  first-splits = unfold splits beyondAt beyond prune shapeOf in refl;
-  second-splits = unfold splits beyondAt beyond prune shapeOf in refl;
-  common = unfold commonSplits beyondAt beyond prune shapeOf in refl;
-}
+  as-many : (t c : Table) → CutDown l t c → splits l t ≡ splits (all (l .number)) c
+  unfolding splits beyondAt
+  as-many t c p = same-splits-as-many (l .number) (nodes t - 1) (beyondAt l t) (nodes c - 1) (beyond c) (p .splits)
+
+  same-common : commonSplits l t u ≡ commonSplits (all (l .number)) c d
+  unfolding commonSplits beyondAt
+  same-common =
+      same-splits-in-common (l .number) (nodes t - 1) (beyondAt l t) (nodes u - 1) (beyondAt l u) (nodes d - 1) (beyond d) (q .splits)
+      ∙ common-turned (l .number) (nodes t - 1) (beyondAt l t) (nodes d - 1) (beyond d)
+      ∙ same-splits-in-common (l .number) (nodes d - 1) (beyond d) (nodes t - 1) (beyondAt l t) (nodes c - 1) (beyond c) (p .splits)
+      ∙ common-turned (l .number) (nodes d - 1) (beyond d) (nodes c - 1) (beyond c)
+
+  pub cut-figures : FiguresOfCut l t u c d
+  cut-figures = record {
+    first = omega (arith, m .first, m' .first, a, b, same-cases C);
+    second = omega (arith, m .second, m' .second, a, b, same-cases D);
+    same = omega (arith, m .same, m' .same, a);
+    different = omega (arith, m .different, m' .different, b);
+    counts = same-cases;
+    first-splits = as-many t c p;
+    second-splits = as-many u d q;
+    common = same-common;
+    robinson-foulds = unfold robinsonFoulds in rw (as-many t c p, as-many u d q, same-common) refl;
+  }
+    where
+      m : ClaimCounts l t u
+      m = claim-counts l t u g h e r
+
+      m' : ClaimCounts (all (l .number)) c d
+      m' = claim-counts (all (l .number)) c d (p .tree) (q .tree)
+          (p .labels ∙ sym (q .labels)) (cut-rising l t c g r p)
+
+      a : quartets l t u A ≡ quartets (all (l .number)) c d A
+      a = same-cases A
+
+      b : quartets l t u B ≡ quartets (all (l .number)) c d B
+      b = same-cases B
+
+-- t' and u' are t and u cut down to the labels that the marks keep
+pub striking-is-pruning : (marks : List ℕ) (t u t' u' : Table) → IsTree t → IsTree u → tips t ≡ tips u
+    → CutDown (kept marks (tips t)) t t' → CutDown (kept marks (tips t)) u u'
+    → FiguresOfCut (kept marks (tips t)) t u t' u'
+striking-is-pruning marks t u t' u' g h e = cut-figures (kept marks (tips t)) t u t' u' g h e (kept-rising marks (tips t))
 
 -- the cases count sets of four labels that are all kept, by the topologies of those labels
 pub kept-cases : (marks : List ℕ) (n : ℕ) (t u : Table) (c : Case)

@@ -21,16 +21,18 @@ use Rattle.trees.specs.LabelOrder.{askedOrder, labelOrder}
 use Rattle.trees.specs.theorems.LabelOrderLaws.{AllBelow, Different, label-check}
 use Rattle.walks.specs.theorems.WalkOrderLaws.{tree-accepted}
 use Rattle.trees.specs.Topology.{butterfly, topology, topologyAnswer}
-use Rattle.counting.specs.Labels.{Labels, all, Rising}
-use Rattle.counting.specs.Cases.{Case, A, B, C, D, caseOf, isCase, topologyAt, quartets}
+use Rattle.counting.specs.Labels.{Labels, all}
+use Rattle.counting.specs.theorems.LabelLaws.{Rising, all-rising, rising-of, at-four}
+use Rattle.counting.specs.declared.Case.{Case}
+use Rattle.counting.specs.declared.Case.the-variants.{A, B, C, D}
+use Rattle.counting.specs.Cases.{caseOf, isCase, topologyAt, quartets}
 use Rattle.counting.specs.SplitCounts.{beyondAt, commonSplits, robinsonFoulds, HaveSameSplits}
 use Rattle.counting.specs.Triplets.{triplets}
-use Rattle.counting.specs.theorems.LabelLaws.{all-rising, rising-of, at-four}
 use Rattle.counting.specs.theorems.TreeShape.{shapeOf}
 use Rattle.counting.specs.theorems.CountingTheorem.{ClaimCounts, claim-counts}
 use Rattle.counting.specs.theorems.TreeSplits.{common-from-either, same-splits-as-many, same-splits-in-common}
 use Rattle.counting.specs.theorems.TripletTheorem.{holdsTip0, quartetsWithTip0, triplets-are-quartets}
-use Rattle.counting.specs.LabelsAlone.{SameFigures, AloneAt, LabelsAlone}
+use Rattle.counting.specs.theorems.LabelsAlone.{SameFigures, AloneAt, LabelsAlone}
 
 -- ---- topologies
 

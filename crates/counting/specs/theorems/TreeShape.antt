@@ -12,8 +12,8 @@ use Rattle.tree_check.specs.Table.{Table, tips, nodes, parent, label, nodeOf}
 use Rattle.tree_check.specs.IsTree.{IsTree, Child}
 use Rattle.tree_check.specs.theorems.RootedTables.{rooted}
 use Rattle.walks.specs.theorems.NodeLabels.{node-at}
-use Rattle.counting.specs.Labels.{Labels, Rising}
-use Rattle.counting.specs.theorems.LabelLaws.{at-apart}
+use Rattle.counting.specs.Labels.{Labels}
+use Rattle.counting.specs.theorems.LabelLaws.{Rising, at-apart}
 
 module _ (t : Table) (g : IsTree t) where
   -- a tip has a child only if it is node 0, and then the child is node 1

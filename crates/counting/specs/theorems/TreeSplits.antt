@@ -2,6 +2,7 @@
 -- are the same counted from either tree.
 -- Assumes nothing.
 use mathlib.Core.Path.{_≡_, refl, sym, _∙_, ap}
+use mathlib.Core.Bool.{Bool}
 use mathlib.Core.Logic.{inl, inr, _≢_, _↔_}
 use lib.Dec.{T}
 use Prim.Native.Nat.{ℕ, zero, suc, _+_, _*_, _-_, _≤_, _<_}
@@ -13,8 +14,8 @@ use Rattle.shapes.specs.Ancestors.{anc}
 use Rattle.shapes.specs.theorems.AncestorLaws.{parent-lt, anc-at-zero, anc-self, anc-down, anc-trans, anc-line}
 use Rattle.shapes.specs.theorems.AncestorLaws.{one-child}
 use Rattle.shapes.specs.theorems.PathLaws.{towards}
-use Rattle.shapes.specs.Splits.{isSplit, isNewSplit, splitsOf, commonOf, robinsonFouldsOf, SameSides, same, turned}
-use Rattle.shapes.specs.theorems.SplitLaws.{Distinct, same-splits-iff}
+use Rattle.shapes.specs.Splits.{isSplit, isNewSplit, splitsOf, commonOf, SameSides, same, turned}
+use Rattle.shapes.specs.theorems.SplitLaws.{robinsonFouldsOf, sameSplitsOf, Distinct, same-splits-iff}
 use Rattle.shapes.specs.theorems.RobinsonFoulds as rf
 use Rattle.shapes.specs.theorems.RobinsonFoulds.{new-where-distinct, common-turned}
 use Rattle.shapes.specs.theorems.SameSplits as ss
@@ -23,7 +24,11 @@ use Rattle.tree_check.specs.IsTree.{IsTree, Child}
 use Rattle.tree_check.specs.theorems.RootedTables.{rooted}
 use Rattle.walks.specs.theorems.NodeLabels.{node-only}
 use Rattle.counting.specs.Labels.{Labels}
-use Rattle.counting.specs.SplitCounts.{beyondAt, splits, commonSplits, robinsonFoulds, sameSplits, HaveSameSplits}
+use Rattle.counting.specs.SplitCounts.{beyondAt, splits, commonSplits, robinsonFoulds, HaveSameSplits}
+
+-- for each split of either tree, the other has one with the same label sets; two trees without a split have the same
+unfoldable pub sameSplits : Labels → Table → Table → Bool
+sameSplits l t u = sameSplitsOf (l .number) (nodes t - 1) (beyondAt l t) (nodes u - 1) (beyondAt l u)
 
 module _ (t : Table) (g : IsTree t) where
   pub child-above : (i j : ℕ) → Child t i j → bit (anc (parent t) i j) ≡ 1

@@ -9,8 +9,7 @@ use Rattle.sums.specs.Bits.{bit, is}
 use Rattle.sums.specs.theorems.BitLaws.{is-self, is-other}
 use Rattle.sums.specs.SetsOfFour.{sets3, sets4}
 use Rattle.sums.specs.theorems.SetLaws.{sets3-ext, sets4-first, sets4-none}
-use Rattle.sums.specs.Threes.{threes}
-use Rattle.sums.specs.theorems.ThreesLaws.{threes-count, threes-exact, threes-none, threes-of-255, threes-mono}
+use Rattle.sums.specs.theorems.ThreesLaws.{threes, threes-count, threes-exact, threes-none, threes-of-255, threes-mono}
 use Rattle.shapes.specs.theorems.FourLabels.{Four}
 use Rattle.shapes.specs.theorems.PartedFours.{AtMostOne}
 use Rattle.shapes.specs.theorems.TripletCounts.{Outgroup, tripletIn, tripletsIn, resolved-butterfly, one-resolved, triplet-sums}
@@ -22,7 +21,9 @@ use Rattle.trees.specs.Topology.{butterfly, topology}
 use Rattle.trees.specs.theorems.PartnerLaws.{partner-of-smallest}
 use Rattle.trees.specs.theorems.TopologyLaws.{any-order, as-is, middle, last-two}
 use Rattle.counting.specs.Labels.{all}
-use Rattle.counting.specs.Cases.{Case, A, B, C, D, E, caseOf, caseNumber, isCase}
+use Rattle.counting.specs.declared.Case.{Case}
+use Rattle.counting.specs.declared.Case.the-variants.{A, B, C, D, E}
+use Rattle.counting.specs.Cases.{caseOf, caseNumber, isCase}
 use Rattle.counting.specs.Triplets.{together, triplet, triplets}
 use Rattle.counting.specs.theorems.CasesInShapes.{case-named}
 use Rattle.counting.specs.theorems.LabelLaws.{all-of}
@@ -165,7 +166,6 @@ module _ (t u : Table) (g : IsTree t) (h : IsTree u) (e : tips t ≡ tips u) whe
   -- the five add up to the sets of three of the labels but 0, and none wraps
   pub triplets-total :
       triplets t u A + triplets t u B + triplets t u C + triplets t u D + triplets t u E ≡ threes (tips t - 1)
-  unfolding caseNumber
   triplets-total =
       let s = triplets-in-shapes in
       rw (s A, s B, s C, s D, s E)

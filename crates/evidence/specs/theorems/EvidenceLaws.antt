@@ -19,12 +19,12 @@ use Rattle.trees.specs.theorems.LabelOrderLaws.{AllBelow, Different, below-iff,
 use Rattle.trees.specs.theorems.AskedFour.{asked-any-order}
 use Rattle.trees.specs.theorems.TopologyLaws.{Rearranged, any-order}
 use Rattle.trees.specs.theorems.WitnessLaws.{witness-any-order}
-use Rattle.counting.specs.Cases.{caseOf, caseNumber, isCase}
-use Rattle.counting.specs.Cases as cases
+use Rattle.counting.specs.declared.Case.{Case}
+use Rattle.counting.specs.Cases.{caseOf, isCase}
 use Rattle.pair_check.specs.PairOrder.{tablesOrder, IsPair}
 use Rattle.pair_check.specs.theorems.PairCheck.{tables-kept, tables-numbered}
 use Rattle.evidence.specs.declared.shown.EvidenceAnswer.{EvidenceAnswer}
-use Rattle.evidence.specs.EvidenceAnswer.{toldCase, whichOf, evidenceOrder, evidenceOf, refusedEvidence, evidenceAnswer}
+use Rattle.evidence.specs.EvidenceAnswer.{evidenceOrder, evidenceOf, refusedEvidence, evidenceAnswer}
 
 -- accepted exactly if the tables are a pair, and the labels are four different ones of its tips
 pub evidence-check : (t u : Table) (xs : List ℕ) → (refusal (evidenceOrder t u xs) ≡ 0)
@@ -41,21 +41,11 @@ evidence-check t u xs =
       λ h. a .1 (k .1 (p .1 (h .0), (b .1 (h .1), (d .1 (h .2), tt)))),
     )
 
--- the number that is told of a case is its own
-pub which-number : (k : cases.Case) → whichOf (toldCase k) ≡ caseNumber k
-unfolding toldCase caseNumber
-which-number cases.A = refl
-which-number cases.B = refl
-which-number cases.C = refl
-which-number cases.D = refl
-which-number cases.E = refl
-
 -- the case that is told is the one in which `quartets`, the number of sets of four in a case, counts the four labels
-pub told-as-counted : (t u : Table) (a b c d : ℕ) (k : cases.Case) → refusal (evidenceOrder t u (a ∷ b ∷ c ∷ d ∷ [])) ≡ 0
-    → isCase (caseOf (topology t a b c d) (topology u a b c d)) k ≡ eqb (whichOf (evidenceAnswer t u a b c d .which)) (caseNumber k)
-unfolding evidenceAnswer isCase
-told-as-counted t u a b c d k z = rw (if-accepted _ (evidenceOf t u a b c d) (refusedEvidence _) z)
-    (ap (λ (x : ℕ). eqb x (caseNumber k)) (sym (which-number (caseOf (topology t a b c d) (topology u a b c d)))))
+pub told-as-counted : (t u : Table) (a b c d : ℕ) (k : Case) → refusal (evidenceOrder t u (a ∷ b ∷ c ∷ d ∷ [])) ≡ 0
+    → isCase (caseOf (topology t a b c d) (topology u a b c d)) k ≡ isCase (evidenceAnswer t u a b c d .which) k
+unfolding evidenceAnswer
+told-as-counted t u a b c d k z = rw (if-accepted _ (evidenceOf t u a b c d) (refusedEvidence _) z) refl
 
 -- ---- any order
 

@@ -2,7 +2,7 @@
 -- Assumes nothing.
 use mathlib.Core.Path.{_≡_, refl, _∙_, ap}
 use mathlib.Core.Bool.{true}
-use mathlib.Core.List.{List, _∷_}
+use mathlib.Core.List.{List, [], _∷_}
 use Prim.Native.Nat.{ℕ, zero, suc, _*_, _≤_, _<_}
 use native.Mathlib.Omega.{arith}
 use borrow.Author.Tests.{eq-eqb}
@@ -11,7 +11,12 @@ use Rattle.sums.specs.Sum.{sum}
 use Rattle.sums.specs.theorems.SumLaws.{sum-ext, sum-const}
 use Rattle.sums.specs.Bits.{bit}
 use Rattle.tree_check.specs.Table.{word}
-use Rattle.marks.specs.Marks.{isKept, keptOf, AreMarks, ones}
+use Rattle.marks.specs.Marks.{isKept, keptOf, AreMarks}
+
+-- n marks of 1: every label kept
+unfoldable pub ones : ℕ → List ℕ
+ones zero = []
+ones (suc n) = 1 ∷ ones n
 
 ones-long : (n : ℕ) → length (ones n) ≡ n
 unfolding ones

@@ -6,7 +6,7 @@ use native.Mathlib.Nat.{mul-left-comm}
 use native.Mathlib.Omega.{arith}
 use Rattle.sums.specs.Sum.{sum}
 use Rattle.sums.specs.theorems.SumLaws.{sum-cong, sum-add, sum-mul-left}
-use Rattle.sums.specs.Bits.{ne}
+use Rattle.sums.specs.theorems.BitLaws.{ne}
 use Rattle.sums.specs.theorems.Products.{sum-ne}
 
 -- the matrix whose rows are the columns of I

@@ -6,7 +6,8 @@ use native.Mathlib.Nat.{mul-left-comm}
 use native.Mathlib.Omega.{arith}
 use Rattle.sums.specs.Sum.{sum}
 use Rattle.sums.specs.theorems.SumLaws.{sum-cong, sum-mul-left, sum-swap}
-use Rattle.sums.specs.Bits.{bit, ne}
+use Rattle.sums.specs.Bits.{bit}
+use Rattle.sums.specs.theorems.BitLaws.{ne}
 use Rattle.sums.specs.theorems.Exclusion.{threeApart, twoApart}
 use Rattle.sums.specs.theorems.Grids.{grid-mul-left}
 use Rattle.node_pairs.specs.theorems.Cells.{apart, sumApart}

@@ -6,8 +6,7 @@ use native.Mathlib.Nat.{mul-assoc}
 use native.Mathlib.Omega.{arith}
 use Rattle.sums.specs.Sum.{sum}
 use Rattle.sums.specs.theorems.SumLaws.{sum-cong, sum-swap}
-use Rattle.sums.specs.Bits.{ne}
-use Rattle.sums.specs.theorems.BitLaws.{ne-sym}
+use Rattle.sums.specs.theorems.BitLaws.{ne, ne-sym}
 use Rattle.sums.specs.theorems.Grids.{grid-mul-left, grid-sum}
 use Rattle.shapes.specs.Claims.{choose2}
 use Rattle.node_pairs.specs.theorems.Cells.{apart, sumApart, pairS2, pairS3}

@@ -2,7 +2,7 @@
 -- Assumes nothing.
 use Prim.Native.Nat.{ℕ, _*_}
 use Rattle.sums.specs.Sum.{sum}
-use Rattle.sums.specs.Bits.{ne}
+use Rattle.sums.specs.theorems.BitLaws.{ne}
 use Rattle.shapes.specs.Claims.{choose2}
 
 -- 1 if the three are different

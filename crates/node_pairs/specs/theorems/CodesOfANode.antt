@@ -12,7 +12,8 @@ use Rattle.sums.specs.Sum.{sum}
 use Rattle.sums.specs.theorems.SumLaws.{sum-suc, sum-ext, sum-cong, sum-none, sum-ge, sum-two}
 use Rattle.sums.specs.Bits.{bit}
 use Rattle.sums.specs.theorems.BitLaws.{bit-le, bit-cases, bit-T, bit-no}
-use Rattle.sums.specs.Bits.{is, ne}
+use Rattle.sums.specs.Bits.{is}
+use Rattle.sums.specs.theorems.BitLaws.{ne}
 use Rattle.sums.specs.theorems.BitLaws.{is-self, is-other, ne-self, ne-other, alike, sum-is}
 use Rattle.sums.specs.theorems.TestLaws.{not-lt-iff}
 use Rattle.node_pairs.specs.CodesInto.{degreeOf, codeAt}

@@ -7,7 +7,7 @@ use native.Mathlib.Omega.{arith}
 use lib.Dec.{eqb}
 use Rattle.sums.specs.Sum.{sum}
 use Rattle.sums.specs.theorems.SumLaws.{sum-ext, sum-cong, sum-add, sum-mul-left, sum-mul-right}
-use Rattle.sums.specs.Bits.{ne}
+use Rattle.sums.specs.theorems.BitLaws.{ne}
 use Rattle.sums.specs.theorems.Products.{bit-sq, ne-once, sum-ne}
 use Rattle.node_pairs.specs.theorems.Aggregates.{transposed, rowWithout, columnWithout, down, along}
 use Rattle.node_pairs.specs.theorems.Aggregates.{struckOut, rest, struck-row, struck-column, rest-cell}

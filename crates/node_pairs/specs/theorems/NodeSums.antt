@@ -6,8 +6,8 @@ use native.Mathlib.Nat.{mul-assoc, mul-add}
 use native.Mathlib.Omega.{arith}
 use Rattle.sums.specs.Sum.{sum}
 use Rattle.sums.specs.theorems.SumLaws.{sum-ext, sum-cong, sum-add, sum-mul-left, sum-swap}
-use Rattle.sums.specs.Bits.{is, ne}
-use Rattle.sums.specs.theorems.BitLaws.{is-sym, sum-is}
+use Rattle.sums.specs.Bits.{is}
+use Rattle.sums.specs.theorems.BitLaws.{ne, is-sym, sum-is}
 use Rattle.sums.specs.theorems.Products.{sum-ne}
 use Rattle.sums.specs.theorems.Exclusion.{twoApart, two-apart}
 use Rattle.shapes.specs.theorems.AncestorLaws.{Rooted}

@@ -7,7 +7,7 @@ use native.Mathlib.Omega.{arith}
 use lib.Dec.{eqb}
 use Rattle.sums.specs.Sum.{sum}
 use Rattle.sums.specs.theorems.SumLaws.{sum-cong, sum-add, sum-mul-left, sum-swap}
-use Rattle.sums.specs.Bits.{ne}
+use Rattle.sums.specs.theorems.BitLaws.{ne}
 use Rattle.sums.specs.theorems.Products.{bit-sq, ne-once, sum-ne}
 use Rattle.sums.specs.theorems.Exclusion.{pair-apart}
 use Rattle.sums.specs.theorems.Grids.{grid-add, grid-sum}

@@ -1,13 +1,14 @@
 -- The pair's number and answer, as code finds them.
 -- Assumes nothing.
 use mathlib.Core.Path.{_≡_, refl, sym, _∙_, ap, subst}
-use mathlib.Core.Bool.{not}
+use mathlib.Core.Bool.{true, false, not}
 use mathlib.Core.Logic.{_≢_}
 use mathlib.Core.List.{List}
 use Prim.Native.Nat.{ℕ, zero, suc, _+_, _*_, _-_, _≤_, _<_}
 use native.Mathlib.Nat.{mul-le-mul, lt-of-le-of-lt}
 use native.Mathlib.Decide.{decLe}
 use native.Mathlib.Omega.{arith}
+use lib.Dec.{ltb}
 use borrow.Author.Tests.{lt-ltb, le-ltb, ne-eqb}
 use Rattle.table_words.specs.Sizes.{nodesMost}
 use Rattle.tree_check.specs.Table.{Table, tips, nodes}
@@ -23,7 +24,7 @@ use Rattle.pair_check.specs.declared.pairs.CheckedPair.{CheckedPair}
 use Rattle.pair_check.specs.declared.pairs.CheckedPair.the-variants.{Pair, Refused}
 use Rattle.pair_check.specs.PairOrder.{plus, tipsOrder, tablesOrder, cellsNeeded, workOrder, cellsOrder, pairOrder}
 use Rattle.pair_check.specs.PairOrder.{IsPair, PairWithCells, MarkedPair}
-use Rattle.pair_check.specs.CheckedPair.{verdict, checkedPair, checkedCells, checkedWork, measuredPair, Told}
+use Rattle.pair_check.specs.CheckedPair.{verdict, checkedPair, checkedCells, checkedWork, Told}
 use Rattle.pair_check.specs.CheckedPair.{numberOf, tipsOf, countedOf, rowsOf, columnsOf}
 use Rattle.pair_check.specs.theorems.PairCheck.{plus-kept, plus-refusal, tables-check, tables-kept}
 use Rattle.pair_check.specs.theorems.PairCheck.{cells-check, pair-check, order-kept}
@@ -84,6 +85,11 @@ module _ (t u : Table) where
           ∙ sym e
 
 -- ---- the answers
+
+-- a pair that needs no more cells than there are, or 9
+unfoldable pub measuredPair : ℕ → ℕ → ℕ → ℕ → ℕ → CheckedPair
+measuredPair n counted rows columns cells =
+    elim (ltb cells (rows * columns)) [ true ↦ Refused 9 | false ↦ Pair n counted rows columns ]
 
 -- cells enough, or not
 pub measured-pair : (n j rows columns cells : ℕ) → rows * columns ≤ cells

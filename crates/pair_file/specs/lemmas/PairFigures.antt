@@ -12,9 +12,8 @@ use Rattle.tree_check.specs.Refusals.{refusal, ifAccepted}
 use Rattle.tree_check.specs.theorems.RefusalLaws.{if-refused}
 use Rattle.table_words.specs.Sizes.{tipsMost}
 use Rattle.sums.specs.Bits.{bit}
-use Rattle.marks.specs.Marks.{ones}
-use Rattle.marks.specs.theorems.Ones.{ones-marks, ones-keep, ones-taken}
-use Rattle.counting.specs.Cases.{A, B, C, D, E}
+use Rattle.marks.specs.theorems.Ones.{ones, ones-marks, ones-keep, ones-taken}
+use Rattle.counting.specs.declared.Case.the-variants.{A, B, C, D, E}
 use Rattle.counting.specs.theorems.AllKept.{all-kept}
 use Rattle.pair_check.specs.PairOrder.{PairWithCells, cellsOrder, pairOrder}
 use Rattle.pair_check.specs.theorems.PairCheck.{cells-check, pair-check}

@@ -15,9 +15,10 @@ use Rattle.marks.specs.theorems.MarksCheck.{kept-few}
 use Rattle.counting.specs.Labels.{Labels}
 use Rattle.counting.specs.Kept.{kept}
 use Rattle.counting.specs.ClaimSums.{S, S2, S3}
-use Rattle.counting.specs.Cases.{A, B, C, D, E, quartets}
-use Rattle.counting.specs.QuartetTable.{formulaA, formulaB, formulaC, formulaD, formulaE, formulaDistance}
-use Rattle.counting.specs.theorems.QuartetTheorem.{QuartetTheorem}
+use Rattle.counting.specs.declared.Case.the-variants.{A, B, C, D, E}
+use Rattle.counting.specs.Cases.{quartets}
+use Rattle.counting.specs.QuartetTable.{formulaA, formulaB, formulaC, formulaD, formulaE}
+use Rattle.counting.specs.theorems.QuartetTheorem.{formulaDistance, QuartetTheorem}
 use Rattle.pair_check.specs.PairOrder.{MarkedPair, pairOrder}
 use Rattle.pair_check.specs.theorems.PairCheck.{pair-check}
 use Rattle.claims.specs.declared.totals.ClaimSums.{ClaimSums}

@@ -11,11 +11,12 @@ use Rattle.tree_check.specs.theorems.RefusalLaws.{if-accepted, if-refused}
 use Rattle.counting.specs.Labels.{Labels}
 use Rattle.counting.specs.Kept.{kept}
 use Rattle.counting.specs.theorems.KeptLaws.{kept-rising}
-use Rattle.counting.specs.Cases.{A, B, C, D, E, quartets}
+use Rattle.counting.specs.declared.Case.the-variants.{A, B, C, D, E}
+use Rattle.counting.specs.Cases.{quartets}
 use Rattle.counting.specs.theorems.QuartetTheorem.{QuartetTheorem, quartet-theorem}
 use Rattle.pair_check.specs.PairOrder.{MarkedPair, pairOrder}
 use Rattle.pair_check.specs.theorems.PairCheck.{pair-check}
-use Rattle.quartets.specs.QuartetAnswer.{casesOver, refusedTable, quartetAnswer, DemandThree}
+use Rattle.quartets.specs.QuartetAnswer.{casesOver, refusedTable, quartetAnswer, CountedRight, DemandThree}
 
 module _ (t u : Table) (marks : List ℕ) (cells : ℕ) where
   -- the kept labels
@@ -44,22 +45,12 @@ module _ (t u : Table) (marks : List ℕ) (cells : ℕ) where
   multiple : (x y : ℕ) → 24 * x ≡ y → y % 24 ≡ 0
   multiple x y e = omega arith
 
-  pub demand-three : DemandThree t u marks cells (quartetAnswer t u marks cells)
-  unfolding quartetAnswer
-  demand-three = record {
-    number = own-number (refusal (pairOrder t u marks cells));
-    refused = λ n. rw (refused (λ z. n (own-number (refusal (pairOrder t u marks cells)) ∙ z)))
-        (refl, refl, refl, refl, refl, refl);
-    formulas = λ p. rw (accepted p) (let h = theorem p in (
-      sym (h .A-counts),
-      sym (h .B-counts),
-      sym (h .C-counts),
-      sym (h .D-counts),
-      sym (h .E-counts),
-    ));
-    counts = λ p. rw (accepted p) (refl, refl, refl, refl, refl);
-    exact = λ p. let h = theorem p in (h .S-even, h .S'-even, h .S2-even, h .S3-fourfold, multiple _ _ (h .all-exact));
-    fits = λ p. rw (accepted p) (let h = theorem p in (
+  counted-right : MarkedPair t u marks cells → CountedRight l t u (casesOver l t u)
+  counted-right p = let h = theorem p in record {
+    formulas = (sym (h .A-counts), sym (h .B-counts), sym (h .C-counts), sym (h .D-counts), sym (h .E-counts));
+    counts = (refl, refl, refl, refl, refl);
+    exact = (h .S-even, h .S'-even, h .S2-even, h .S3-fourfold, multiple _ _ (h .all-exact));
+    fits = (
       h .S-most,
       h .S'-most,
       h .S2-most,
@@ -72,19 +63,23 @@ module _ (t u : Table) (marks : List ℕ) (cells : ℕ) where
       omega (arith, h .C-fits, h .A-counts, h .B-counts),
       omega (arith, h .D-fits, h .A-counts, h .B-counts),
       omega (arith, h .E-fits, h .A-counts, h .B-counts, h .C-counts, h .D-counts),
-    ));
-    total = λ p. rw (accepted p) (let h = theorem p in omega (
-      arith,
-      h .total,
-      h .A-counts,
-      h .B-counts,
-      h .C-counts,
-      h .D-counts,
-      h .E-counts,
-    ));
-    distance = λ p. rw (accepted p) refl;
-    zero-distance = λ p. rw (accepted p) (let h = theorem p in (
+    );
+    total = omega (arith, h .total, h .A-counts, h .B-counts, h .C-counts, h .D-counts, h .E-counts);
+    distance = refl;
+    zero-distance = (
       λ z. h .distance-zero .0 (h .distance-counts ∙ z),
       λ s. sym (h .distance-counts) ∙ h .distance-zero .1 s,
-    ));
+    );
   }
+
+  pub demand-three : DemandThree t u marks cells (quartetAnswer t u marks cells)
+  unfolding quartetAnswer
+  demand-three =
+      let own = own-number (refusal (pairOrder t u marks cells)) in
+      let check = pair-check t u marks cells in
+      record {
+        number = own;
+        accepted = (λ z. check .0 (sym own ∙ z), λ p. own ∙ check .1 p);
+        refused = λ n. rw (refused (λ z. n (own ∙ z))) (refl, refl, refl, refl, refl, refl);
+        counted = λ p. rw (accepted p) (counted-right p);
+      }

@@ -8,8 +8,8 @@ use native.Mathlib.Omega.{arith}
 use lib.Dec.{eqb}
 use Rattle.sums.specs.Sum.{sum}
 use Rattle.sums.specs.theorems.SumLaws.{sum-cong}
-use Rattle.sums.specs.Bits.{bit, is, ne}
-use Rattle.sums.specs.theorems.BitLaws.{bit-or, is-self, is-other, is-sym, alike}
+use Rattle.sums.specs.Bits.{bit, is}
+use Rattle.sums.specs.theorems.BitLaws.{ne, bit-or, is-self, is-other, is-sym, alike}
 use Rattle.sums.specs.Counts.{count}
 use Rattle.sums.specs.theorems.SetLaws.{tuples2-cong}
 use Rattle.sums.specs.theorems.Products.{bit-sq, sum-ne}

@@ -10,8 +10,8 @@ use native.Mathlib.Omega.{arith}
 use lib.Dec.{eqb}
 use Rattle.sums.specs.Sum.{sum}
 use Rattle.sums.specs.theorems.SumLaws.{sum-cong, sum-add, sum-none, sum-one, sum-two}
-use Rattle.sums.specs.Bits.{bit, is, ne}
-use Rattle.sums.specs.theorems.BitLaws.{bit-not, is-self, is-other, is-ne, alike}
+use Rattle.sums.specs.Bits.{bit, is}
+use Rattle.sums.specs.theorems.BitLaws.{ne, bit-not, is-self, is-other, is-ne, alike}
 use Rattle.shapes.specs.theorems.AncestorLaws.{Rooted, up-ind, anc-at-zero, anc-lt, anc-up, anc-self, anc-root}
 use Rattle.shapes.specs.Ancestors.{anc}
 use Rattle.shapes.specs.Directions.{edge, rising, head, behind}

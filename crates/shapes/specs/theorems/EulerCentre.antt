@@ -9,8 +9,8 @@ use lib.Dec.{eqb}
 use Rattle.sums.specs.Sum.{sum}
 use Rattle.sums.specs.theorems.SumLaws.{sum-ext, sum-cong, sum-const, sum-add, sum-mul-left, sum-one, sum-pos}
 use Rattle.sums.specs.theorems.SumLaws.{sum-swap}
-use Rattle.sums.specs.Bits.{bit, is, ne}
-use Rattle.sums.specs.theorems.BitLaws.{bit-le, is-other, is-sym, ne-other, alike, sum-is}
+use Rattle.sums.specs.Bits.{bit, is}
+use Rattle.sums.specs.theorems.BitLaws.{ne, bit-le, is-other, is-sym, ne-other, alike, sum-is}
 use Rattle.sums.specs.theorems.Products.{bit-sq}
 use Rattle.sums.specs.theorems.Exclusion.{threeApart, inclusion-exclusion}
 use Rattle.shapes.specs.theorems.AncestorLaws.{Rooted}

@@ -8,7 +8,7 @@ use native.Mathlib.Decide.{decLt, ℕ-discrete}
 use native.Mathlib.Omega.{arith}
 use Rattle.sums.specs.Bits.{bit}
 use Rattle.sums.specs.theorems.BitLaws.{bit-le, bit-T}
-use Rattle.sums.specs.theorems.CountLaws.{Twice}
+use Rattle.sums.specs.Counts.{Twice}
 use Rattle.shapes.specs.theorems.AncestorLaws.{anc-root}
 use Rattle.shapes.specs.theorems.PathLaws.{OnPath, towards, across, end-on, fork}
 use Rattle.shapes.specs.theorems.Shape.{Shape, beyondIn}

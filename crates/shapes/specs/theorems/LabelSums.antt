@@ -8,8 +8,8 @@ use native.Mathlib.Nat.{mul-comm, mul-assoc, eq-zero-or-pos}
 use native.Mathlib.Omega.{arith}
 use lib.Dec.{eqb}
 use Rattle.sums.specs.Sum.{sum}
-use Rattle.sums.specs.Bits.{bit, ne}
-use Rattle.sums.specs.theorems.BitLaws.{ne-self, ne-sym, alike}
+use Rattle.sums.specs.Bits.{bit}
+use Rattle.sums.specs.theorems.BitLaws.{ne, ne-self, ne-sym, alike}
 use Rattle.sums.specs.theorems.SetLaws.{tuples4, tuples4-cong, tuples4-ext}
 use Rattle.sums.specs.theorems.Products.{bit-sq, tuples2-times-sums, four-sums}
 use Rattle.shapes.specs.Ancestors.{anc}

@@ -9,8 +9,8 @@ use native.Mathlib.Omega.{arith}
 use lib.Dec.{eqb}
 use Rattle.sums.specs.Sum.{sum}
 use Rattle.sums.specs.theorems.SumLaws.{sum-ext, sum-cong, sum-add, sum-mul-left, sum-mul-right, sum-swap}
-use Rattle.sums.specs.Bits.{bit, is, ne}
-use Rattle.sums.specs.theorems.BitLaws.{is-sym, ne-self, ne-sym, alike, sum-is}
+use Rattle.sums.specs.Bits.{bit, is}
+use Rattle.sums.specs.theorems.BitLaws.{ne, is-sym, ne-self, ne-sym, alike, sum-is}
 use Rattle.sums.specs.theorems.SetLaws.{tuples2, tuples3, tuples4, twice}
 use Rattle.sums.specs.SetsOfFour.{sets2}
 use Rattle.sums.specs.theorems.Products.{bit-sq, bit-and, sum-ne}

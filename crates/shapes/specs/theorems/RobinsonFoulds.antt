@@ -13,8 +13,10 @@ use Rattle.sums.specs.theorems.TestLaws.{and-iff, same-test, some-ext, some-iff
 use Rattle.sums.specs.Tests.{some}
 use Rattle.sums.specs.Counts.{count}
 use Rattle.sums.specs.theorems.Matchings.{count-mono, count-same, partners}
-use Rattle.shapes.specs.Splits.{Sides, isSplit, sameSides, occurs, isNewSplit, splitsOf, commonOf, robinsonFouldsOf}
-use Rattle.shapes.specs.Splits.{Split, SameSides, same, NewSplit, AllOccur, SameSplits}
+use Rattle.shapes.specs.Splits.{Sides, isSplit, sameSides, occurs, isNewSplit, splitsOf, commonOf}
+use Rattle.shapes.specs.theorems.SplitLaws.{robinsonFouldsOf}
+use Rattle.shapes.specs.Splits.{Split, SameSides, same, AllOccur, SameSplits}
+use Rattle.shapes.specs.theorems.SplitLaws.{NewSplit}
 use Rattle.shapes.specs.theorems.SplitLaws.{Distinct, sides-sym}
 use Rattle.shapes.specs.theorems.SplitLaws.{sides-trans, split-moves, split-iff, same-sides-iff, occurs-iff}
 

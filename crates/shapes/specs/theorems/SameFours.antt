@@ -10,7 +10,7 @@ use lib.Dec.{T}
 use Rattle.sums.specs.Bits.{bit}
 use Rattle.sums.specs.theorems.BitLaws.{bit-le, bit-cases, bit-not, bit-T, T-bit, bit-inj}
 use Rattle.sums.specs.theorems.TestLaws.{same-test}
-use Rattle.sums.specs.theorems.CountLaws.{Twice}
+use Rattle.sums.specs.Counts.{Twice}
 use Rattle.shapes.specs.theorems.AncestorLaws.{anc-root}
 use Rattle.shapes.specs.theorems.PathLaws.{path-side}
 use Rattle.shapes.specs.Quartets.{Apart}

@@ -1,18 +1,38 @@
 -- What the tests of splits say in ordinary mathematics, and edges with the same tip sets.
 -- Assumes nothing.
 use mathlib.Core.Path.{_≡_, sym, _∙_, ap, subst}
-use mathlib.Core.Bool.{Bool, not, Bool·beq, Bool·not-not}
+use mathlib.Core.Bool.{Bool, not, _&&_, _||_, Bool·beq, Bool·not-not}
 use mathlib.Core.Logic.{inl, inr, _↔_}
-use Prim.Native.Nat.{ℕ, zero, suc, _-_, _≤_, _<_}
+use Prim.Native.Nat.{ℕ, zero, suc, _+_, _*_, _-_, _≤_, _<_}
 use native.Mathlib.Omega.{arith}
 use lib.Dec.{T}
 use Rattle.sums.specs.theorems.TestLaws.{and-iff, or-iff, implies-iff, beq-iff, le-iff, some-iff, every-iff}
 use Rattle.sums.specs.Tests.{every}
-use Rattle.sums.specs.theorems.CountLaws.{count-twice, Twice}
-use Rattle.shapes.specs.Splits.{Sides, isSplit, sameSides, occurs, allOccur}
-use Rattle.shapes.specs.Splits.{sameSplitsOf, Split, SameSides, same, turned, Occurs, AllOccur, SameSplits}
+use Rattle.sums.specs.theorems.CountLaws.{count-twice}
+use Rattle.sums.specs.Counts.{Twice}
+use Rattle.shapes.specs.Splits.{Sides, isSplit, sameSides, occurs, splitsOf, commonOf}
+use Rattle.shapes.specs.Splits.{Split, SameSides, same, turned, Occurs, AllOccur, SameSplits}
+
+-- ---- executable
+
+-- the Robinson-Foulds distance, first + second − 2 · common
+unfoldable pub robinsonFouldsOf : ℕ → ℕ → Sides → ℕ → Sides → ℕ
+robinsonFouldsOf n k b l c = splitsOf n k b + splitsOf n l c - 2 * commonOf n k b l c
+
+-- the two tip sets of each split also occur in the other tree, where they are those of a split
+unfoldable pub allOccur : ℕ → ℕ → Sides → ℕ → Sides → Bool
+allOccur n k b l c = every k (λ i. not (isSplit n b (suc i)) || occurs n b l c (suc i))
+
+-- for each split of either tree, the other has one with the same tip sets
+unfoldable pub sameSplitsOf : ℕ → ℕ → Sides → ℕ → Sides → Bool
+sameSplitsOf n k b l c = allOccur n k b l c && allOccur n l c k b
 
 -- ---- in ordinary mathematics
+
+-- edge i + 1 is the first with its two tip sets
+pub record NewSplit (n k : ℕ) (b : Sides) (i : ℕ) : Type 0 where
+  pub split : Split n k b (suc i)
+  pub new : (j : ℕ) → j < i → SameSides n b b (suc i) (suc j) → ⊥
 
 -- different splits of a tree have different tip sets
 abbrev pub Distinct : ℕ → ℕ → Sides → Type 0

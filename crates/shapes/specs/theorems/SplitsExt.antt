@@ -9,7 +9,8 @@ use Rattle.sums.specs.theorems.TestLaws.{some-ext, every-ext}
 use Rattle.sums.specs.Bits.{bit}
 use Rattle.sums.specs.Counts.{count}
 use Rattle.sums.specs.theorems.SumLaws.{sum-ext}
-use Rattle.shapes.specs.Splits.{Sides, isSplit, sameSides, occurs, isNewSplit, splitsOf, commonOf, robinsonFouldsOf}
+use Rattle.shapes.specs.Splits.{Sides, isSplit, sameSides, occurs, isNewSplit, splitsOf, commonOf}
+use Rattle.shapes.specs.theorems.SplitLaws.{robinsonFouldsOf}
 
 -- on n labels the two are the same
 abbrev pub Agree : ℕ → Sides → Sides → Type 0

@@ -6,8 +6,8 @@ use mathlib.Core.Logic.{_↔_}
 use Prim.Native.Nat.{ℕ, zero, suc, _+_}
 use native.Mathlib.Omega.{arith}
 use lib.Dec.{eqb, eqb·zero-suc, eqb·suc-zero, eqb·suc-suc}
-use Rattle.sums.specs.Bits.{bit, is, ne}
-use Rattle.sums.specs.theorems.BitLaws.{bit-inj}
+use Rattle.sums.specs.Bits.{bit, is}
+use Rattle.sums.specs.theorems.BitLaws.{ne, bit-inj}
 use Rattle.sums.specs.SetsOfFour.{sets4}
 use Rattle.sums.specs.theorems.SetLaws.{sets4-ext, sets4-add}
 use Rattle.shapes.specs.theorems.PartedFours.{AtMostOne, none, first, second, third, one-pairing}

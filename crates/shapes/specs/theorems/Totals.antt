@@ -13,9 +13,8 @@ use Rattle.sums.specs.Sum.{sum}
 use Rattle.sums.specs.theorems.SumLaws.{sum-first, sum-ext, sum-cong, sum-mono, sum-none}
 use Rattle.sums.specs.theorems.SumLaws.{sum-add, sum-mul-left, sum-mul-right, sum-swap}
 use Rattle.sums.specs.Bits.{bit}
-use Rattle.sums.specs.theorems.BitLaws.{bit-no, bit-mono, T-true, T-false}
-use Rattle.sums.specs.Bits.{is, ne}
-use Rattle.sums.specs.theorems.BitLaws.{is-self, is-other, is-sym, alike, sum-is}
+use Rattle.sums.specs.theorems.BitLaws.{bit-no, bit-mono, T-true, T-false, ne, is-self, is-other, is-sym, alike, sum-is}
+use Rattle.sums.specs.Bits.{is}
 use Rattle.sums.specs.theorems.TestLaws.{and-iff, eq-iff, le-iff, same-test}
 use Rattle.shapes.specs.theorems.AncestorLaws.{Rooted, parent-lt, anc-self}
 use Rattle.shapes.specs.Ancestors.{anc}

@@ -8,8 +8,8 @@ use native.Mathlib.Omega.{arith}
 use lib.Dec.{T, eqb}
 use Rattle.sums.specs.Sum.{sum}
 use Rattle.sums.specs.theorems.SumLaws.{sum-cong, sum-add, sum-none, sum-first}
-use Rattle.sums.specs.Bits.{bit, is, ne}
-use Rattle.sums.specs.theorems.BitLaws.{bit-le, bit-cases, bit-not, bit-T, T-bit, is-other, ne-self, ne-other}
+use Rattle.sums.specs.Bits.{bit, is}
+use Rattle.sums.specs.theorems.BitLaws.{ne, bit-le, bit-cases, bit-not, bit-T, T-bit, is-other, ne-self, ne-other}
 use Rattle.sums.specs.theorems.TestLaws.{same-test}
 use Rattle.sums.specs.theorems.Products.{bit-sq}
 use Rattle.sums.specs.SetsOfFour.{sets2, sets3}

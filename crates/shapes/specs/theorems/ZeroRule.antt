@@ -4,8 +4,7 @@ use mathlib.Core.Path.{_≡_, sym, _∙_}
 use mathlib.Core.Logic.{inl, inr, _↔_}
 use Prim.Native.Nat.{ℕ, _+_, _<_}
 use native.Mathlib.Omega.{arith}
-use Rattle.sums.specs.Bits.{ne}
-use Rattle.sums.specs.theorems.BitLaws.{alike}
+use Rattle.sums.specs.theorems.BitLaws.{ne, alike}
 use Rattle.sums.specs.theorems.SetLaws.{sets4-none}
 use Rattle.shapes.specs.theorems.PartedFours.{parted-swap-left, parted-swap-right, parted-turn}
 use Rattle.shapes.specs.theorems.Shape.{Shape, beyondIn, butterflyIn}

@@ -24,7 +24,8 @@ use Rattle.tree_check.specs.Table.{Table, word, tips, nodes, parents, parent, n
 use Rattle.tree_check.specs.IsTree.{IsTree}
 use Rattle.tree_check.specs.theorems.RootedTables.{rooted}
 use Rattle.tree_check.specs.lemmas.TableParts.{parents-length}
-use Rattle.counting.specs.Labels.{Labels, Rising}
+use Rattle.counting.specs.Labels.{Labels}
+use Rattle.counting.specs.theorems.LabelLaws.{Rising}
 use Rattle.counting.specs.SplitCounts.{beyondAt}
 use Rattle.counting.specs.theorems.NewSplits.{halves, half-turned, new-by-sizes}
 use Rattle.tree_pairs.specs.lemmas.CellSizes.{all-beyond}

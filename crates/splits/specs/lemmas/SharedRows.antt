@@ -16,7 +16,8 @@ use Rattle.sums.specs.Counts.{count}
 use Rattle.shapes.specs.Splits.{Sides, occurs}
 use Rattle.tree_check.specs.Table.{Table, word, tips, nodes, beyond}
 use Rattle.tree_check.specs.IsTree.{IsTree}
-use Rattle.counting.specs.Labels.{Labels, Rising}
+use Rattle.counting.specs.Labels.{Labels}
+use Rattle.counting.specs.theorems.LabelLaws.{Rising}
 use Rattle.counting.specs.SplitCounts.{beyondAt}
 use Rattle.counting.specs.theorems.TreeSplits.{zero-here}
 use Rattle.tree_pairs.specs.Crossings.{edgeCrossing, crossed}

@@ -13,10 +13,10 @@ use Rattle.sums.specs.theorems.TestLaws.{and-iff}
 use Rattle.shapes.specs.Splits.{occurs, isNewSplit, splitsOf, commonOf}
 use Rattle.counting.specs.SplitCounts.{beyondAt, splits, commonSplits, robinsonFoulds}
 use Rattle.marks.specs.Marks.{keptOf}
-use Rattle.counting.specs.Labels.{Labels, Rising}
+use Rattle.counting.specs.Labels.{Labels}
+use Rattle.counting.specs.theorems.LabelLaws.{Rising, rising-of}
 use Rattle.counting.specs.Kept.{kept}
 use Rattle.counting.specs.theorems.KeptLaws.{kept-rising}
-use Rattle.counting.specs.theorems.LabelLaws.{rising-of}
 use Rattle.counting.specs.theorems.TreeSplits.{robinson-foulds-fits}
 use Rattle.tree_check.specs.Table.{Table, tips, nodes, parents}
 use Rattle.tree_check.specs.lemmas.TableParts.{parents-length}

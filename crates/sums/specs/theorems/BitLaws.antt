@@ -9,7 +9,11 @@ use native.Mathlib.Omega.{arith}
 use lib.Dec.{T, eqb, eqb→eq, eqb-refl}
 use Rattle.sums.specs.Sum.{sum}
 use Rattle.sums.specs.theorems.SumLaws.{sum-one}
-use Rattle.sums.specs.Bits.{bit, is, ne}
+use Rattle.sums.specs.Bits.{bit, is}
+
+-- different numbers, as a bit
+abbrev pub ne : ℕ → ℕ → ℕ
+ne a b = bit (not (eqb a b))
 
 pub bit-le : (b : Bool) → bit b ≤ 1
 unfolding bit

@@ -12,7 +12,7 @@ use Rattle.sums.specs.theorems.SumLaws.{sum-none, sum-one, sum-ge, sum-t
 use Rattle.sums.specs.Bits.{bit}
 use Rattle.sums.specs.theorems.BitLaws.{bit-le, bit-T, bit-no, T-bit}
 use Rattle.sums.specs.theorems.TestLaws.{T-dec}
-use Rattle.sums.specs.Counts.{count}
+use Rattle.sums.specs.Counts.{count, Twice}
 
 pub count-le : (n : ℕ) (q : ℕ → Bool) → count n q ≤ n
 count-le n q =
@@ -51,10 +51,6 @@ count-once n q = (
         bit-T (q (r .0)) (r .2),
       ))
     ]
-
--- two different ones
-abbrev pub Twice : ℕ → (ℕ → Bool) → Type 0
-Twice n q = (i : ℕ) × (j : ℕ) × (i < j) × (j < n) × T (q i) × T (q j)
 
 twice-of : (n : ℕ) (q : ℕ → Bool) → 2 ≤ count n q → Twice n q
 unfolding sum

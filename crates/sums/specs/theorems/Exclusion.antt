@@ -6,7 +6,7 @@ use Prim.Native.Nat.{ℕ, _+_, _*_, _≤_, _<_}
 use native.Mathlib.Omega.{arith}
 use Rattle.sums.specs.Sum.{sum}
 use Rattle.sums.specs.theorems.SumLaws.{sum-ext, sum-cong, sum-add, sum-mul-left, sum-mul-right, sum-pos}
-use Rattle.sums.specs.Bits.{ne}
+use Rattle.sums.specs.theorems.BitLaws.{ne}
 use Rattle.sums.specs.theorems.Products.{ne-once, sum-ne, times-pos, ne-times-pos}
 
 -- the sum of q f * r g over different indices f and g below n, both other than e

@@ -9,8 +9,8 @@ use native.Mathlib.Omega.{arith}
 use lib.Dec.{eqb}
 use Rattle.sums.specs.Sum.{sum}
 use Rattle.sums.specs.theorems.SumLaws.{sum-ext, sum-cong, sum-add, sum-mul-left, sum-mul-right}
-use Rattle.sums.specs.Bits.{bit, is, ne}
-use Rattle.sums.specs.theorems.BitLaws.{is-ne, ne-self, ne-other, ne-sym, alike, sum-is}
+use Rattle.sums.specs.Bits.{bit, is}
+use Rattle.sums.specs.theorems.BitLaws.{ne, is-ne, ne-self, ne-other, ne-sym, alike, sum-is}
 use Rattle.sums.specs.theorems.SetLaws.{tuples2, tuples3, tuples4, twice}
 use Rattle.sums.specs.SetsOfFour.{sets2}
 

@@ -149,7 +149,39 @@ first-passes n q t =
     let r = some-first n q t in
     rw (first-is n q (r .0) (r .1) (r .2) (r .3)) (r .1, r .2, r .3)
 
+pub first-le : (n : ℕ) (q : ℕ → Bool) → first n q ≤ n
+unfolding first
+first-le zero q = omega arith
+first-le (suc n) q = either (q 0) (first-le n (λ i. q (suc i)))
+  where
+    either : (b : Bool) {x n : ℕ} → x ≤ n → elim b as (λ z. ℕ) [ true ↦ 0 | false ↦ suc x ] ≤ suc n
+    either true h = omega arith
+    either false h = omega arith
+
+-- an index that is told passes
+pub first-hit : (n : ℕ) (q : ℕ → Bool) → first n q < n → T (q (first n q))
+unfolding first
+first-hit zero q l = absurd (omega arith)
+first-hit (suc n) q l = go (q 0) refl (λ m. first-hit n (λ i. q (suc i)) m) l
+  where
+    go : (b : Bool) → q 0 ≡ b → (first n (λ i. q (suc i)) < n → T (q (suc (first n (λ i. q (suc i))))))
+        → elim b as (λ z. ℕ) [ true ↦ 0 | false ↦ suc (first n (λ i. q (suc i))) ] < suc n
+        → T (q (elim b as (λ z. ℕ) [ true ↦ 0 | false ↦ suc (first n (λ i. q (suc i))) ]))
+    go true e r m = rw e tt
+    go false e r m = r (omega arith)
+
 -- ---- as a loop finds them
+
+-- an index passed, and none before it did
+pub first-found : (n : ℕ) (q : ℕ → Bool) (i : ℕ) → i < n → q i ≡ true → ((j : ℕ) → j < i → q j ≡ false) → first n q ≡ i
+first-found n q i l e h = first-is n q i l (rw e tt) (λ j m t. subst T (h j m) t)
+
+-- no index passed
+pub first-none : (n : ℕ) (q : ℕ → Bool) → ((j : ℕ) → j < n → q j ≡ false) → first n q ≡ n
+unfolding first
+first-none zero q h = refl
+first-none (suc n) q h =
+    rw (h 0 (omega arith), first) (ap suc (first-none n (λ i. q (suc i)) (λ j m. h (suc j) (omega arith))))
 
 -- all indices were looked at, and each passed
 pub every-true : (n : ℕ) (q : ℕ → Bool) → ((i : ℕ) → i < n → q i ≡ true) → every n q ≡ true

@@ -7,8 +7,11 @@ use native.Mathlib.Decide.{decLe}
 use native.Mathlib.Omega.{arith}
 use Rattle.sums.specs.Sum.{sum}
 use Rattle.sums.specs.SetsOfFour.{sets2, sets3}
-use Rattle.sums.specs.Threes.{threes}
 use Rattle.sums.specs.theorems.FoursLaws.{three-sets}
+
+-- all sets of three of k labels
+unfoldable pub threes : ℕ → ℕ
+threes k = k * (k - 1) * (k - 2) / 6
 
 -- how many sets of three labels below k there are: x < y < z, each counted once
 unfoldable pub setsOfThree : ℕ → ℕ

@@ -12,8 +12,8 @@ use Rattle.sums.specs.Counts.{count}
 use Rattle.sums.specs.theorems.SumLaws.{sum-ext}
 use Rattle.tree_check.specs.Table.{Table, tips, nodes}
 use Rattle.tree_check.specs.IsTree.{IsTree}
-use Rattle.marks.specs.Marks.{isKept, ones}
-use Rattle.marks.specs.theorems.Ones.{ones-keep}
+use Rattle.marks.specs.Marks.{isKept}
+use Rattle.marks.specs.theorems.Ones.{ones, ones-keep}
 use Rattle.counting.specs.Labels.{Labels, all}
 use Rattle.counting.specs.Kept.{kept}
 use Rattle.counting.specs.SplitCounts.{beyondAt}

@@ -15,7 +15,8 @@ use Rattle.tree_check.specs.Table.{Table, word, tips, nodes, parent, label, nod
 use Rattle.tree_check.specs.IsTree.{IsTree}
 use Rattle.tree_check.specs.theorems.RootedTables.{rooted}
 use Rattle.walks.specs.theorems.NodeLabels.{node-at}
-use Rattle.counting.specs.Labels.{Labels, Rising}
+use Rattle.counting.specs.Labels.{Labels}
+use Rattle.counting.specs.theorems.LabelLaws.{Rising}
 use Rattle.counting.specs.SplitCounts.{beyondAt}
 use Rattle.counting.specs.theorems.TreeSplits.{zero-here}
 use Rattle.tree_pairs.specs.Crossings.{edgeCrossing, crossed}

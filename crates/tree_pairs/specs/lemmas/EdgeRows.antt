@@ -12,7 +12,8 @@ use Rattle.sums.specs.theorems.Products.{product-le}
 use Rattle.tree_check.specs.Table.{Table, word, tips, nodes, parents, parent}
 use Rattle.tree_check.specs.IsTree.{IsTree}
 use Rattle.tree_check.specs.lemmas.TableParts.{parents-length}
-use Rattle.counting.specs.Labels.{Labels, Rising}
+use Rattle.counting.specs.Labels.{Labels}
+use Rattle.counting.specs.theorems.LabelLaws.{Rising}
 use Rattle.counting.specs.SplitCounts.{beyondAt}
 use Rattle.tree_pairs.specs.Crossings.{crossed}
 use Rattle.tree_pairs.specs.lemmas.CellSizes.{row-cell, column-cell}

@@ -14,10 +14,10 @@ use Rattle.sums.specs.theorems.Products.{bit-and}
 use Rattle.sums.specs.theorems.SumLaws.{sum-first}
 use Rattle.tree_check.specs.Table.{Table, word, tips, nodes, beyond}
 use Rattle.tree_check.specs.IsTree.{IsTree}
-use Rattle.counting.specs.Labels.{Labels, Rising}
+use Rattle.counting.specs.Labels.{Labels}
+use Rattle.counting.specs.theorems.LabelLaws.{Rising, all-rising}
 use Rattle.counting.specs.SplitCounts.{beyondAt}
 use Rattle.counting.specs.theorems.KeptLaws.{kept-rising}
-use Rattle.counting.specs.theorems.LabelLaws.{all-rising}
 use Rattle.counting.specs.theorems.TreeSplits.{zero-here}
 use Rattle.pair_check.specs.PairOrder.{cellsNeeded}
 use Rattle.tree_pairs.specs.Crossings.{edgeCrossing, inOrder, cellOf, crossed, crossedAll, crossedKept}

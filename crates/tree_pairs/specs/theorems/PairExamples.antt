@@ -11,7 +11,8 @@ use Rattle.tree_check.specs.Refusals.{refusal}
 use Rattle.tree_check.specs.TreeOrder.{tipsFit, nodesFit, parentFits, labelFits, standing, labelsFit, labelsOnce}
 use Rattle.tree_check.specs.TreeOrder.{isChild, children, misplaced, arraysOrder, treeOrder}
 use Rattle.walks.specs.theorems.WalkExamples.{P, Q, TwoTips}
-use Rattle.marks.specs.Marks.{isKept, marksOrder, ones}
+use Rattle.marks.specs.Marks.{isKept, marksOrder}
+use Rattle.marks.specs.theorems.Ones.{ones}
 use Rattle.counting.specs.Labels.{all}
 use Rattle.counting.specs.Kept.{keptAt, kept}
 use Rattle.counting.specs.SplitCounts.{beyondAt}

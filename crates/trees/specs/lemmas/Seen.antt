@@ -1,6 +1,6 @@
 -- What `witness_of` answers, as its code finds it: the first edge that shows a pairing, or none.
 -- Assumes nothing.
-use mathlib.Core.Path.{_≡_, refl, sym, _∙_, ap, ap₂}
+use mathlib.Core.Path.{_≡_, refl, sym, _∙_, ap, ap₂, subst}
 use mathlib.Core.Bool.{Bool, true, false}
 use mathlib.Core.List.{List, [], _∷_}
 use mathlib.Core.Logic.{_⊎_, inl, inr, _≢_}
@@ -33,9 +33,10 @@ use Rattle.trees.specs.declared.witness.Witness.the-variants.{Edge, Meet
 use Rattle.trees.specs.declared.witness.WitnessAnswer.{WitnessAnswer}
 use Rattle.trees.specs.Centre.{centre}
 use Rattle.trees.specs.LabelOrder.{askedOrder, labelOrder}
-use Rattle.trees.specs.Topology.{topology}
-use Rattle.trees.specs.Witness.{partsLabels, partingEdge, meetingNode, witness, witnessAnswer}
+use Rattle.trees.specs.Topology.{topology, butterflyOf}
+use Rattle.trees.specs.Witness.{partsLabels, partingEdge, meetingNode, witness, witnessAnswer, isEdge, numberOf, WitnessTold}
 use Rattle.trees.specs.theorems.LabelOrderLaws.{label-check}
+use Rattle.trees.specs.theorems.WitnessLaws.{butterfly-by-edge, witness-shown}
 use Rattle.trees.specs.lemmas.CentreOutcomes.{centreOver, centre-of-parts}
 use Rattle.trees.specs.lemmas.Sides.{sides, pairing, pairing-le, apart-shown, SidesAre, Shown, topologyShown}
 use Rattle.trees.specs.lemmas.TopologyOutcomes.{shown-at, topology-shown}
@@ -221,3 +222,32 @@ module _ (t : Table) (a b c d : ℕ) where
         (if-accepted 0 (witness t a b c d) (Meet 0) refl
         ∙ witness-seen (s .cells) (s .sides-are) i (s .edge-is) (below 0 (omega arith)) (below 1 (omega arith)) (below 2 (omega arith)))
         ∙ sym (s .answer-is)
+
+-- ---- what the answer tells
+
+module _ (t : Table) (a b c d : ℕ) where
+  accepted : refusal (labelOrder t (a ∷ b ∷ c ∷ d ∷ [])) ≡ 0
+      → IsTree t × (a < tips t) × (b < tips t) × (c < tips t)
+  accepted z =
+      let h = label-check t (a ∷ b ∷ c ∷ d ∷ []) .0 z in
+      (h .0, h .1 0 (omega arith), h .1 1 (omega arith), h .1 2 (omega arith))
+
+  kinds : (k : ℕ) → butterflyOf (ifAccepted k (topology t a b c d) Star) ≡ isEdge (ifAccepted k (witness t a b c d) (Meet 0))
+  unfolding ifAccepted
+  kinds zero = butterfly-by-edge t a b c d
+  kinds (suc k) = refl
+
+  own-told : WitnessTold t a b c d (witnessAnswer t a b c d)
+  unfolding witnessAnswer
+  own-told = record {
+    number-told = refl;
+    refused = λ n. rw (if-refused _ (witness t a b c d) (Meet 0) n) (refl, refl);
+    by-kind = kinds (refusal (labelOrder t (a ∷ b ∷ c ∷ d ∷ [])));
+    shown = λ z. let h = accepted z in
+        rw (if-accepted _ (witness t a b c d) (Meet 0) z) (witness-shown t (h .0) a b c d (h .1) (h .2) (h .3));
+  }
+
+  -- an answer, and what it tells
+  pub witness-told : (r : WitnessAnswer) → r ≡ witnessAnswer t a b c d
+      → (r ≡ witnessAnswer t a b c d) × WitnessTold t a b c d r
+  witness-told r e = (e, subst (WitnessTold t a b c d) (sym e) own-told)

@@ -10,7 +10,7 @@ use lib.Dec.{T, T-not}
 use Rattle.sums.specs.Tests.{some, first}
 use Rattle.sums.specs.theorems.BitLaws.{T-true, T-false}
 use Rattle.sums.specs.theorems.TestLaws.{T-dec, some-iff, first-passes}
-use Rattle.shapes.specs.Quartets.{Apart, TwoAndTwo, with-b, with-c, with-d}
+use Rattle.shapes.specs.Quartets.{Apart, with-b, with-c, with-d}
 use Rattle.shapes.specs.Centres.{onSix}
 use Rattle.shapes.specs.theorems.Meeting.{parts-four-iff, four-first-two, four-middle, four-last-two}
 use Rattle.shapes.specs.theorems.Meeting.{meet-first-two, meet-middle, meet-last-two}
@@ -23,25 +23,15 @@ use Rattle.trees.specs.declared.quartet.Topology.{Topology}
 use Rattle.trees.specs.declared.quartet.Topology.the-variants.{Butterfly, Star}
 use Rattle.trees.specs.declared.witness.Witness.{Witness}
 use Rattle.trees.specs.declared.witness.Witness.the-variants.{Edge, Meet}
-use Rattle.trees.specs.Topology.{partner, topology, PartedIn}
+use Rattle.trees.specs.Topology.{partner, topology, butterflyOf, PartedIn}
 use Rattle.trees.specs.Witness.{partsLabels, partingEdge, meetingNode, witness, isEdge, numberOf}
+use Rattle.trees.specs.Witness.{PartsAt, LowestParting, OnAllPaths, OneMeeting, ShownBy}
 use Rattle.trees.specs.theorems.TopologyLaws.{star-iff, parted-butterfly, parted-with-c, parted-with-d}
 use Rattle.trees.specs.theorems.TopologyLaws.{Rearranged, as-is, first-two, middle, last-two}
 
 -- edge i has a, b on one side and c, d on the other
 abbrev pub ApartAt : Table → ℕ → ℕ → ℕ → ℕ → ℕ → Type 0
 ApartAt t i a b c d = Apart (parent t) i (nodeOf t a) (nodeOf t b) (nodeOf t c) (nodeOf t d)
-
--- edge i has two of the four labels on each side
-abbrev pub PartsAt : Table → ℕ → ℕ → ℕ → ℕ → ℕ → Type 0
-PartsAt t i a b c d = TwoAndTwo (parent t) i (nodeOf t a) (nodeOf t b) (nodeOf t c) (nodeOf t d)
-
--- .. and none before it does
-pub record LowestParting (t : Table) (a b c d i : ℕ) : Type 0 where
-  pub above : 1 ≤ i
-  pub edge : i < nodes t
-  pub parts : PartsAt t i a b c d
-  pub lowest : (j : ℕ) → 1 ≤ j → j < i → PartsAt t j a b c d → ⊥
 
 module _ (t : Table) (a b c d : ℕ) where
   labels-iff : (j : ℕ) → T (partsLabels t a b c d j) ↔ PartsAt t (suc j) a b c d
@@ -115,6 +105,17 @@ module _ (t : Table) (a b c d : ℕ) where
       not-star s i l m (with-c h) = s .1 (i, l, m, h)
       not-star s i l m (with-d h) = s .2 (i, l, m, h)
 
+  -- in numbers
+  pub butterfly-by-edge : butterflyOf (topology t a b c d) ≡ isEdge (witness t a b c d)
+  butterfly-by-edge = elim told [
+    | inl y ↦ go (topology t a b c d) (λ e. omega (arith, star-meets .0 e, ap isEdge (by-edge y))) ∙ sym (ap isEdge (by-edge y))
+    | inr n ↦ ap butterflyOf (star-meets .1 (ap isEdge (by-node n))) ∙ sym (ap isEdge (by-node n))
+  ]
+    where
+      go : (x : Topology) → (x ≡ Star → ⊥) → butterflyOf x ≡ 1
+      go (Butterfly p) n = refl
+      go Star n = absurd (n refl)
+
 -- the pairing that edge i shows is the topology's
 pub data Pairing (t : Table) (i a b c d : ℕ) : Topology → Type 0 where
   ab-cd : ApartAt t i a b c d → Pairing t i a b c d (Butterfly (partner a b c d))
@@ -132,9 +133,6 @@ module _ (t : Table) (g : IsTree t) (a b c d : ℕ) where
 
   -- the meeting node is on every path between two of them, and no other node is
   module _ (la : a < tips t) (lb : b < tips t) (lc : c < tips t) (v : ℕ) (e : witness t a b c d ≡ Meet v) where
-    abbrev on-six : ℕ → Bool
-    on-six w = onSix (parent t) (nodes t - 1) w (nodeOf t a) (nodeOf t b) (nodeOf t c) (nodeOf t d)
-
     last-node : (x : ℕ) → x < tips t → nodeOf t x ≤ nodes t - 1
     last-node x l = omega (arith, node-at t g x l .0)
 
@@ -144,13 +142,27 @@ module _ (t : Table) (g : IsTree t) (a b c d : ℕ) where
       | inr n ↦ ap numberOf (sym e ∙ by-node t a b c d n)
     ]
 
-    pub one-meeting : (v < nodes t) × T (on-six v) × ((w : ℕ) → w < nodes t → T (on-six w) → w ≡ v)
+    pub one-meeting : OneMeeting t a b c d v
     unfolding meetingNode
     one-meeting =
         let some = node-at t g a la .0 in
         let m = meeting.one-meeting (parent t) (rooted t g) (nodes t - 1) _ _ _ _
         (last-node a la) (last-node b lb) (last-node c lc) (λ i l h. meet-told t a b c d v e i l (omega arith)) in
-        rw is-meeting (omega (arith, m .0), m .1, λ w l p. m .2 w (omega arith) p)
+        rw is-meeting (record { node = omega (arith, m .0); on-paths = m .1; only = λ w l p. m .2 w (omega arith) p })
+
+  pub witness-shown : a < tips t → b < tips t → c < tips t → ShownBy t a b c d (witness t a b c d)
+  witness-shown la lb lc = elim (told t a b c d) [
+    | inl y ↦ (let e = by-edge t a b c d y in rw e (record {
+      edge = λ z. edge-told t a b c d (partingEdge t a b c d) e;
+      no-edge = λ z. absurd (omega (arith, z));
+      meets = λ z. absurd (omega (arith, z));
+    }))
+    | inr n ↦ (let e = by-node t a b c d n in rw e (record {
+      edge = λ z. absurd (omega (arith, z));
+      no-edge = λ z. meet-told t a b c d (meetingNode t a b c d) e;
+      meets = λ z. one-meeting la lb lc (meetingNode t a b c d) e;
+    }))
+  ]
 
 -- ---- any order
 

@@ -4,8 +4,7 @@ use mathlib.Core.Path.{_≡_, refl, sym, ap, ap₂}
 use Prim.Native.Nat.{ℕ, _+_, _*_, _-_, _/_, _≤_, _<_}
 use native.Mathlib.Omega.{arith}
 use Rattle.sums.specs.theorems.Products.{product-le}
-use Rattle.sums.specs.Threes.{threes}
-use Rattle.sums.specs.theorems.ThreesLaws.{threes-none}
+use Rattle.sums.specs.theorems.ThreesLaws.{threes, threes-none}
 use Rattle.triplets.specs.declared.tables.TripletTable.{TripletTable}
 
 -- A is half of what is summed over pairs of edges that agree, B what is summed over those that differ; half of a tree's sum

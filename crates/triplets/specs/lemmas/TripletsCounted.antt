@@ -17,7 +17,7 @@ use Rattle.sums.specs.theorems.CountLaws.{count-le}
 use Rattle.sums.specs.theorems.Matchings.{count-mono}
 use Rattle.sums.specs.theorems.TestLaws.{and-iff}
 use Rattle.sums.specs.theorems.Products.{bit-and}
-use Rattle.sums.specs.Threes.{threes}
+use Rattle.sums.specs.theorems.ThreesLaws.{threes}
 use Rattle.shapes.specs.Ancestors.{anc}
 use Rattle.shapes.specs.theorems.LowestAncestors.{leaves-once}
 use Rattle.shapes.specs.theorems.Shape.{Shape}
@@ -32,7 +32,8 @@ use Rattle.tree_check.specs.theorems.RootedTables.{rooted}
 use Rattle.counting.specs.Labels.{all}
 use Rattle.counting.specs.SplitCounts.{beyondAt}
 use Rattle.counting.specs.theorems.LabelLaws.{all-rising, all-of}
-use Rattle.counting.specs.Cases.{A, B, C, D, E, caseNumber}
+use Rattle.counting.specs.declared.Case.the-variants.{A, B, C, D, E}
+use Rattle.counting.specs.Cases.{caseNumber}
 use Rattle.counting.specs.Triplets.{triplets}
 use Rattle.counting.specs.theorems.TreeShape.{shapeOf}
 use Rattle.counting.specs.theorems.TripletTheorem.{outgroup, triplets-in-shapes, triplets-total, all-triplets}
@@ -299,7 +300,7 @@ module _ (t u : Table) (work : List ℕ) (p : PairWithCells t u (length work)) w
   one-more k f = sum-cong k (λ i. ap f (add-one i))
 
   first-sum : edgeSum cells (length (parents u) - 1) (parents t) ≡ 2 * (triplets t u A + triplets t u B + triplets t u C)
-  unfolding edgeSum caseNumber shapeOf beyond beyondAt
+  unfolding edgeSum shapeOf beyond beyondAt
   first-sum =
       let s = triplets-in-shapes t u g h e in
       one-more (length (parents t) - 2)
@@ -311,7 +312,7 @@ module _ (t u : Table) (work : List ℕ) (p : PairWithCells t u (length work)) w
       ∙ sym (rw (s A, s B, s C) refl)
 
   second-sum : edgeSum cells 1 (parents u) ≡ 2 * (triplets t u A + triplets t u B + triplets t u D)
-  unfolding edgeSum caseNumber shapeOf beyond beyondAt
+  unfolding edgeSum shapeOf beyond beyondAt
   second-sum =
       let s = triplets-in-shapes t u g h e in
       one-more (length (parents u) - 2)
@@ -323,7 +324,7 @@ module _ (t u : Table) (work : List ℕ) (p : PairWithCells t u (length work)) w
       ∙ sym (rw (s A, s B, s D) refl)
 
   alike-sum : alikeSum cells (parents t) (parents u) ≡ 2 * triplets t u A
-  unfolding alikeSum alikeRow caseNumber shapeOf
+  unfolding alikeSum alikeRow shapeOf
   alike-sum =
       let s = triplets-in-shapes t u g h e in
       one-more (length (parents t) - 2) (λ i. alikeRow cells (parents t) (parents u) i)
@@ -338,7 +339,7 @@ module _ (t u : Table) (work : List ℕ) (p : PairWithCells t u (length work)) w
       ∙ sym (rw (s A) refl)
 
   apart-sum : apartSum cells (parents t) (parents u) ≡ triplets t u B
-  unfolding apartSum apartRow caseNumber shapeOf
+  unfolding apartSum apartRow shapeOf
   apart-sum =
       let s = triplets-in-shapes t u g h e in
       one-more (length (parents t) - 2) (λ i. apartRow cells (parents t) (parents u) i)

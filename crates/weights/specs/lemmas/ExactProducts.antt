@@ -15,8 +15,8 @@ use lib.Ieee.Exact.{HasValue}
 use lib.Ieee.Back.{round-whole}
 use lib.Ieee.Scale.{round-same}
 use Rattle.sums.specs.theorems.TestLaws.{le-iff}
-use Rattle.weights.specs.Weights.{over256}
-use Rattle.weights.specs.theorems.Fractions.{IsFraction, signed-exact, over-256-exact}
+use Rattle.weights.specs.Weights.{over256, IsFraction}
+use Rattle.weights.specs.theorems.Fractions.{signed-exact, over-256-exact}
 
 -- ---- whole numbers
 

@@ -1,6 +1,6 @@
 -- What the weighted distance's call answers, as its code finds it.
 -- Assumes nothing.
-use mathlib.Core.Path.{_≡_, refl, sym, _∙_, ap}
+use mathlib.Core.Path.{_≡_, refl, sym, _∙_, ap, subst}
 use mathlib.Core.Logic.{_≢_}
 use mathlib.Core.List.{List}
 use Prim.Native.Nat.{ℕ, _+_, _*_, _≤_}
@@ -15,14 +15,17 @@ use Rattle.marks.specs.Marks.{keptOf}
 use Rattle.counting.specs.Labels.{Labels}
 use Rattle.counting.specs.Kept.{kept}
 use Rattle.counting.specs.theorems.KeptLaws.{kept-rising}
-use Rattle.counting.specs.Cases.{B, C, D, quartets}
+use Rattle.counting.specs.declared.Case.the-variants.{B, C, D}
+use Rattle.counting.specs.Cases.{quartets}
 use Rattle.counting.specs.theorems.QuartetTheorem.{quartet-theorem}
 use Rattle.pair_check.specs.PairOrder.{pairOrder, MarkedPair}
 use Rattle.tree_pairs.specs.Crossings.{crossedKept}
 use Rattle.weights.specs.declared.weight.Weight.{Weight}
 use Rattle.weights.specs.Weights.{over256, pOf, numeratorOf}
 use Rattle.weights.specs.WeightedAnswer.{fractionOrder, weightedOrder, weightedOver, refusedWeight, weightedAnswer, afterWeighted}
-use Rattle.weights.specs.theorems.WeightedDistance.{fraction-check, then-fraction, tables-first}
+use Rattle.weights.specs.WeightedAnswer.{WeightTold}
+use Rattle.weights.specs.declared.distances.WeightedDistance.{WeightedDistance}
+use Rattle.weights.specs.theorems.WeightedDistance.{fraction-check, then-fraction, tables-first, weight-told}
 
 -- ---- the number of a fraction
 
@@ -82,3 +85,11 @@ module _ (t u : Table) (marks work : List ℕ) (w : Weight) where
       rw (z, er, ep) (sym (if-accepted _ (weightedOver l t u w) _ (sym number ∙ z))),
       en ∙ sym (if-accepted _ _ _ (sym number ∙ z)),
     )
+
+-- an answer, the cells afterwards, and what it tells
+pub weight-says : (t u : Table) (marks work : List ℕ) (w : Weight) (r : WeightedDistance) (new : List ℕ)
+    → (r ≡ weightedAnswer t u marks (length work) w) × (new ≡ afterWeighted t u marks w work)
+    → (r ≡ weightedAnswer t u marks (length work) w) × (new ≡ afterWeighted t u marks w work)
+    × WeightTold t u marks (length work) w r
+weight-says t u marks work w r new h =
+    (h .0, h .1, subst (WeightTold t u marks (length work) w) (sym (h .0)) (weight-told t u marks (length work) w))

@@ -13,8 +13,8 @@ use lib.IntN.{pos}
 use lib.Ieee.{Float, nan, inf, fin, binary64, up, down, round, eq}
 use lib.Ieee.Fits.{down-pos, and-i, eq→eqb, and-l, and-r}
 use lib.Ieee.Exact.{HasValue, round-exact}
-use Rattle.sums.specs.theorems.BitLaws.{T-true, T-false}
-use Rattle.weights.specs.Weights.{over256, firstBelow, numeratorOf}
+use Rattle.sums.specs.theorems.TestLaws.{first-is, first-le, first-hit}
+use Rattle.weights.specs.Weights.{over256, numeratorOf, IsFraction}
 
 -- ---- n/256 is exact below 2 to the power 53
 
@@ -28,12 +28,6 @@ pub over-256-exact : (n : ℕ) → n < 2 ^ 53 → HasValue (over256 n) false n 2
 over-256-exact n h = signed-exact false n h
 
 -- ---- fractions
-
--- x is finite, k/256 in size, and negative only where k is 0: minus zero is taken as zero
-pub record IsFraction (x : Float) (k : ℕ) : Type 0 where
-  pub sign : Bool
-  pub value : HasValue x sign k 256
-  pub zero-if : sign ≡ true → k ≡ 0
 
 -- m/e = n/d and n/d = k/256 give m/e = k/256
 carry : (x dx y dy k : ℕ) → 0 < dy → x * dy ≡ y * dx → y * 256 ≡ k * dy → x * 256 ≡ k * dx
@@ -103,42 +97,6 @@ one-fraction nan j k a b = absurd (a .value)
 one-fraction (inf s) j k a b = absurd (a .value)
 one-fraction (fin s m e) j k a b = eq-of-mul-eq-mul-right (down e) (down-pos e) j k (sym (a .value .1) ∙ b .value .1)
 
--- ---- the first index that passes
-
-pub first-is : (n : ℕ) (q : ℕ → Bool) (k : ℕ) → k < n → q k ≡ true → ((j : ℕ) → j < k → q j ≡ false) → firstBelow n q ≡ k
-unfolding firstBelow
-first-is zero q k l h z = absurd (omega arith)
-first-is (suc n) q zero l h z = rw (h, firstBelow)
-first-is (suc n) q (suc k) l h z =
-    rw (z 0 (omega arith), firstBelow)
-    (ap suc (first-is n (λ i. q (suc i)) k (omega arith) h (λ j m. z (suc j) (omega arith))))
-
-pub first-none : (n : ℕ) (q : ℕ → Bool) → ((j : ℕ) → j < n → q j ≡ false) → firstBelow n q ≡ n
-unfolding firstBelow
-first-none zero q z = refl
-first-none (suc n) q z =
-    rw (z 0 (omega arith), firstBelow) (ap suc (first-none n (λ i. q (suc i)) (λ j m. z (suc j) (omega arith))))
-
-pub first-le : (n : ℕ) (q : ℕ → Bool) → firstBelow n q ≤ n
-unfolding firstBelow
-first-le zero q = omega arith
-first-le (suc n) q = either (q 0) (first-le n (λ i. q (suc i)))
-  where
-    either : (b : Bool) {x n : ℕ} → x ≤ n → elim b as (λ z. ℕ) [ true ↦ 0 | false ↦ suc x ] ≤ suc n
-    either true h = omega arith
-    either false h = omega arith
-
-first-hit : (n : ℕ) (q : ℕ → Bool) → firstBelow n q < n → q (firstBelow n q) ≡ true
-unfolding firstBelow
-first-hit zero q l = absurd (omega arith)
-first-hit (suc n) q l = go (q 0) refl (λ m. first-hit n (λ i. q (suc i)) m) l
-  where
-    go : (b : Bool) → q 0 ≡ b → (firstBelow n (λ i. q (suc i)) < n → q (suc (firstBelow n (λ i. q (suc i)))) ≡ true)
-        → elim b as (λ z. ℕ) [ true ↦ 0 | false ↦ suc (firstBelow n (λ i. q (suc i))) ] < suc n
-        → q (elim b as (λ z. ℕ) [ true ↦ 0 | false ↦ suc (firstBelow n (λ i. q (suc i))) ]) ≡ true
-    go true e r m = e
-    go false e r m = r (omega arith)
-
 -- ---- the numerator
 
 pub numerator-le : (p : Float) → numeratorOf p ≤ 257
@@ -156,12 +114,10 @@ pub numerator-iff : (p : Float) (k : ℕ) → k ≤ 256 → (numeratorOf p ≡ k
 unfolding numeratorOf
 numerator-iff p k l = (
   λ e. equal-fraction p (over256 k) k (exact k l)
-      (subst T (sym (subst (λ (j : ℕ). eq p (over256 j) ≡ true) e
-      (first-hit 257 (λ j. eq p (over256 j)) (omega arith)))) tt),
+      (subst (λ (j : ℕ). T (eq p (over256 j))) e (first-hit 257 (λ j. eq p (over256 j)) (omega arith))),
   λ h. first-is 257 (λ j. eq p (over256 j)) k (omega arith)
-      (T-true (eq p (over256 k)) (fraction-equal p (over256 k) k (exact k l) h))
-      (λ j m. T-false (eq p (over256 j)) (λ y.
-      let d = one-fraction p j k (equal-fraction p (over256 j) j (exact j (omega arith)) y) h in omega arith)),
+      (fraction-equal p (over256 k) k (exact k l) h)
+      (λ j m y. let d = one-fraction p j k (equal-fraction p (over256 j) j (exact j (omega arith)) y) h in omega arith),
 )
 
 -- ---- a fraction that is none

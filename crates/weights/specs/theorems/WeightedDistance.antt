@@ -4,7 +4,7 @@ use mathlib.Core.Path.{_≡_, refl, sym, _∙_, subst}
 use mathlib.Core.Bool.{Bool, false, not}
 use mathlib.Core.List.{List, [], _++_}
 use mathlib.Core.Logic.{_≢_, _↔_}
-use Prim.Native.Nat.{ℕ, _+_, _*_, _≤_, _<_}
+use Prim.Native.Nat.{ℕ, zero, suc, _+_, _*_, _≤_, _<_}
 use native.Mathlib.Nat.{mul-le-mul-right, lt-of-lt-of-le}
 use native.Mathlib.Decide.{ℕ-discrete}
 use native.Mathlib.Omega.{arith}
@@ -17,10 +17,15 @@ use lib.Ieee.Scale.{round-same}
 use borrow.Author.Tests.{eq-eqb, ne-eqb}
 use Rattle.sums.specs.theorems.TestLaws.{not-lt-iff}
 use Rattle.tree_check.specs.Table.{Table, tips}
-use Rattle.tree_check.specs.Refusals.{refusal}
+use Rattle.tree_check.specs.Refusals.{refusal, ifAccepted}
 use Rattle.tree_check.specs.theorems.RefusalLaws.{Kept, refusal-none, refusal-here, refusal-next, refusal-first, refusal-kept, kept-append}
-use Rattle.counting.specs.Labels.{Labels, Rising}
-use Rattle.counting.specs.Cases.{B, C, D, quartets}
+use Rattle.tree_check.specs.theorems.RefusalLaws.{if-accepted, if-refused}
+use Rattle.counting.specs.Labels.{Labels}
+use Rattle.counting.specs.theorems.LabelLaws.{Rising}
+use Rattle.counting.specs.declared.Case.the-variants.{B, C, D}
+use Rattle.counting.specs.Cases.{quartets}
+use Rattle.counting.specs.Kept.{kept}
+use Rattle.counting.specs.theorems.KeptLaws.{kept-rising}
 use Rattle.counting.specs.theorems.QuartetTheorem.{quartet-theorem}
 use Rattle.marks.specs.Marks.{marksOrder}
 use Rattle.marks.specs.theorems.MarksCheck.{marks-kept}
@@ -28,8 +33,9 @@ use Rattle.pair_check.specs.PairOrder.{tablesOrder, workOrder, pairOrder, IsPai
 use Rattle.pair_check.specs.theorems.PairCheck.{tables-kept, pair-check}
 use Rattle.weights.specs.declared.weight.Weight.{Weight}
 use Rattle.weights.specs.declared.weight.Weight.the-variants.{None, Full}
-use Rattle.weights.specs.Weights.{over256, pOf, numeratorOf}
-use Rattle.weights.specs.WeightedAnswer.{fractionOrder, weightedOrder, weightedOver}
+use Rattle.weights.specs.Weights.{over256, pOf, numeratorOf, IsFraction}
+use Rattle.weights.specs.declared.distances.WeightedDistance.{WeightedDistance}
+use Rattle.weights.specs.WeightedAnswer.{fractionOrder, weightedOrder, weightedOver, refusedWeight, weightedAnswer, WeightTold}
 use Rattle.weights.specs.theorems.Fractions.{over-256-exact, numerator-iff, numerator-le}
 
 -- ---- acceptance
@@ -131,3 +137,44 @@ grows-with-k l t u w w' m =
   where
     more : (x y : ℕ) → x ≤ y → 256 * quartets l t u B + x ≤ 256 * quartets l t u B + y
     more x y h = omega arith
+
+-- ---- what the call tells
+
+module _ (t u : Table) (marks : List ℕ) (cells : ℕ) (w : Weight) where
+  abbrev order-number : ℕ
+  order-number = refusal (weightedOrder t u marks cells w)
+
+  abbrev answer-at : ℕ → WeightedDistance
+  answer-at k = ifAccepted k (weightedOver (kept marks (tips t)) t u w) (refusedWeight k)
+
+  number-at : (k : ℕ) → answer-at k .refusal ≡ k
+  unfolding ifAccepted
+  number-at zero = refl
+  number-at (suc k) = refl
+
+  -- a numerator of at most 256 is that of a fraction
+  of-fraction : (k : ℕ) → k ≤ 256 → IsFraction (pOf w) k → numeratorOf (pOf w) ≡ k
+  of-fraction k l h = numerator-iff (pOf w) k l .1 h
+
+  pub weight-told : WeightTold t u marks cells w (weightedAnswer t u marks cells w)
+  unfolding weightedAnswer
+  weight-told = record {
+    number = number-at order-number;
+    accepted = (
+      λ e. let h = weighted-check t u marks cells w .0 (sym (number-at order-number) ∙ e) in
+          (h .0, numeratorOf (pOf w), h .1, numerator-iff (pOf w) (numeratorOf (pOf w)) (h .1) .0 refl),
+      λ h. number-at order-number
+          ∙ weighted-check t u marks cells w .1 (h .0, subst (λ (j : ℕ). j ≤ 256) (sym (of-fraction (h .1) (h .2) (h .3))) (h .2)),
+    );
+    exact = λ p k l h.
+        let e = of-fraction k l h in
+        let m : numeratorOf (pOf w) ≤ 256 = subst (λ (j : ℕ). j ≤ 256) (sym e) l in
+        rw (if-accepted order-number (weightedOver (kept marks (tips t)) t u w) (refusedWeight order-number)
+        (weighted-check t u marks cells w .1 (p, m)))
+        (subst (λ (j : ℕ). HasValue (weightedOver (kept marks (tips t)) t u w .distance) false
+        (256 * quartets (kept marks (tips t)) t u B
+        + j * (quartets (kept marks (tips t)) t u C + quartets (kept marks (tips t)) t u D)) 256) e
+        (weighted-exact (kept marks (tips t)) t u (p .with-cells .pair) (kept-rising marks (tips t)) w m));
+    refused = λ n. rw (if-refused order-number (weightedOver (kept marks (tips t)) t u w) (refusedWeight order-number)
+        (λ z. n (number-at order-number ∙ z))) refl;
+  }

@@ -26,7 +26,7 @@ returns c =
     let e = f .before in
     evidence-plain (e .evidence .result) _ _ _ _ _ (c .which-of .ensures)
     (f .plain-witness .ensures .0) (f .plain-witness .ensures .1) (s .plain-witness2 .ensures .0) (s .plain-witness2 .ensures .1)
-    ∙ ap plainEvidence (e .evidence .ensures)
+    ∙ ap plainEvidence (e .evidence .ensures .0)
 
 pub leskwyn-evidence-spec : {M : Type 1} → statement M
 leskwyn-evidence-spec =

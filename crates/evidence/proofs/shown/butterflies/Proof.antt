@@ -1,7 +1,7 @@
 -- The same partner, or another.
 -- Assumes nothing.
 use borrow.Author.Tests.{eq-eqb, ne-eqb}
-use Rattle.evidence.specs.EvidenceAnswer.{twoButterflies}
+use Rattle.evidence.specs.lemmas.EvidenceFound.{twoButterflies}
 use Rattle.evidence.proofs.shown.butterflies.Statement.{statement}
 use Rattle.evidence.proofs.shown.butterflies.Tie as tie
 

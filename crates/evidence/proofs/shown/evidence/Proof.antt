@@ -3,7 +3,7 @@
 use mathlib.Core.Path.{sym, _∙_}
 use Rattle.pair_check.specs.PairOrder.{IsPair}
 use Rattle.pair_check.specs.lemmas.PairOutcomes.{check-says, pair-passed}
-use Rattle.evidence.specs.lemmas.EvidenceFound.{tables-turned-away, labels-turned-away, shown}
+use Rattle.evidence.specs.lemmas.EvidenceFound.{tables-turned-away, labels-turned-away, shown, evidence-told}
 use borrow.Author.Needs.{needs}
 use Rattle.evidence.proofs.shown.evidence.Statement.{statement}
 use Rattle.evidence.proofs.shown.evidence.Tie as tie
@@ -38,7 +38,7 @@ returns : tie.Need-returns
 returns c =
     let e = c .before .before in
     let h = pair-passed _ _ _ _ _ (e .before .before .check-pair .ensures .0) (e .enum-told2 .given .1) (c .before .pair-refusal .ensures) in
-    c .refused .ensures ∙ tables-turned-away _ _ _ _ _ _ _ (h .0) (h .1)
+    evidence-told _ _ _ _ _ _ _ (c .refused .ensures ∙ tables-turned-away _ _ _ _ _ _ _ (h .0) (h .1))
 
 witness-of-requires : tie.Need-witness-of-requires
 witness-of-requires c κs = search needs
@@ -50,7 +50,8 @@ returns-2 : tie.Need-returns-2
 returns-2 c =
     let i = c .before in
     let w = i .before .before in
-    c .refused2 .ensures ∙ labels-turned-away _ _ _ _ _ _ (pair (w .before)) _ (w .witness-of .ensures) (i .if1 .taken)
+    evidence-told _ _ _ _ _ _ _ (c .refused2 .ensures
+    ∙ labels-turned-away _ _ _ _ _ _ (pair (w .before)) _ (w .witness-of .ensures .0) (i .if1 .taken))
 
 witness-of-requires-2 : tie.Need-witness-of-requires-2
 witness-of-requires-2 c κs = search needs
@@ -63,7 +64,8 @@ returns-3 c =
     let o = c .before in
     let i = o .before in
     let w = i .before .before in
-    shown _ _ _ _ _ _ (pair (w .before)) _ _ _ (w .witness-of .ensures) (o .witness-of2 .ensures) (i .if1 .left) (c .case-of .ensures)
+    evidence-told _ _ _ _ _ _ _ (shown _ _ _ _ _ _ (pair (w .before)) _ _ _
+    (w .witness-of .ensures .0) (o .witness-of2 .ensures .0) (i .if1 .left) (c .case-of .ensures))
 
 pub evidence-spec : {M : Type 1} → statement M
 evidence-spec =

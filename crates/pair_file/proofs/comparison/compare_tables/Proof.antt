@@ -5,7 +5,7 @@ use Prim.Native.Nat.{_≤_}
 use native.Mathlib.Omega.{arith}
 use Rattle.table_words.specs.Sizes.{tipsMost}
 use Rattle.tree_check.specs.Table.{tips}
-use Rattle.marks.specs.Marks.{ones}
+use Rattle.marks.specs.theorems.Ones.{ones}
 use Rattle.pair_check.specs.PairOrder.{PairWithCells}
 use Rattle.pair_check.specs.lemmas.PairOutcomes.{cells-says, cells-passed}
 use Rattle.pair_file.specs.PairFile.{cellsLent}

@@ -1,7 +1,7 @@
 -- Marks of 1 keep every label.
 -- Assumes nothing.
 use mathlib.Core.Path.{_∙_}
-use Rattle.marks.specs.Marks.{ones}
+use Rattle.marks.specs.theorems.Ones.{ones}
 use Rattle.tree_pairs.specs.lemmas.AllLabels.{crossed-ones}
 use borrow.Author.Needs.{needs}
 use Rattle.tree_pairs.proofs.crosses.fill_all.Statement.{statement}

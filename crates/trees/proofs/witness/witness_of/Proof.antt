@@ -11,7 +11,7 @@ use Rattle.tree_check.specs.Check.{numberOf}
 use Rattle.tree_check.specs.theorems.CheckLaws.{checked-accepted, checked-refusal}
 use Rattle.trees.specs.LabelOrder.{askedOrder}
 use Rattle.trees.specs.lemmas.RootedArrays.{RootedArrays, rooted-arrays}
-use Rattle.trees.specs.lemmas.Seen.{Seen, witness-refused, witness-asked-refused, witness-found}
+use Rattle.trees.specs.lemmas.Seen.{Seen, witness-refused, witness-asked-refused, witness-found, witness-told}
 use borrow.Author.Needs.{needs}
 use Rattle.trees.proofs.witness.witness_of.Statement.{statement}
 use Rattle.trees.proofs.witness.witness_of.Tie as tie
@@ -70,7 +70,7 @@ returns : tie.Need-returns
 returns c =
     let q = c .before .enum-told .given .1 in
     let r = checked-refusal _ _ (sym (c .before .before .before .check .ensures .0) ∙ q) in
-    rw (c .refusal-of .ensures ∙ ap numberOf q) (sym (witness-refused _ _ _ _ _ _ (r .0) (r .1)))
+    witness-told _ _ _ _ _ _ (rw (c .refusal-of .ensures ∙ ap numberOf q) (sym (witness-refused _ _ _ _ _ _ (r .0) (r .1))))
 
 slice-aggregate-asked-refusal : tie.Need-slice-aggregate-asked-refusal
 slice-aggregate-asked-refusal c = search needs
@@ -84,7 +84,7 @@ asked-refusal-requires c κs = search needs
 returns-2 : tie.Need-returns-2
 returns-2 c =
     let g = tree (told (c .before)) in
-    sym (witness-asked-refused _ _ _ _ _ (g .0) _ (asked (c .before)) (c .if1 .taken))
+    witness-told _ _ _ _ _ _ (sym (witness-asked-refused _ _ _ _ _ (g .0) _ (asked (c .before)) (c .if1 .taken)))
 
 as-index-requires-2 : tie.Need-as-index-requires-2
 as-index-requires-2 c κs = search needs
@@ -132,9 +132,9 @@ returns-3 c =
     let b = c .before .before .before in
     let s = start (told (labels-tested b)) .args in
     let k = table b in
-    sym (witness-found _ _ _ _ _ (k .0) (asked (labels-tested b) ∙ b .before .if1 .left) _
+    witness-told _ _ _ _ _ _ (sym (witness-found _ _ _ _ _ (k .0) (asked (labels-tested b) ∙ b .before .if1 .left) _
     (of-parts (λ n ps ls. Seen ps ls (s .a) (s .b) (s .c) (s .d) (c .seen .result))
-    _ _ _ (k .0 .words) refl (k .1) (c .seen .ensures)))
+    _ _ _ (k .0 .words) refl (k .1) (c .seen .ensures))))
 
 pub witness-of-spec : {M : Type 1} → statement M
 witness-of-spec =

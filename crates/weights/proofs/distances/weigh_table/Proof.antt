@@ -27,7 +27,7 @@ few : (c : tie.After-struct-known)
     → (let r = c .before .before .before .quartet-table .result in (r .b ≤ 174792640) × (r .c + r .d ≤ 174792640))
 few c =
     let h = start c .pre .0 in
-    let f = demand c .fits h in
+    let f = demand c .counted h .fits in
     (f .5, omega (arith, f .11, fours-few _ _ _ _ h))
 
 -- ---- the needs
@@ -48,7 +48,7 @@ same-length c = search needs
 returns : tie.Need-returns
 returns c =
     let x = c .before in
-    let n = demand x .counts (start x .pre .0) in (
+    let n = demand x .counted (start x .pre .0) .counts in (
       c .weigh .ensures ∙ weighed-counts _ _ _ _ _ _ _ (n .1) (n .2) (n .3),
       crossings-are _ _ _ _ _ (start x .pre .0) (x .before .before .before .quartet-table .ensures .2),
     )

@@ -5,7 +5,7 @@ use lib.ListN.{length}
 use lib.Ieee.{ofBits}
 use Rattle.pair_check.specs.PairOrder.{MarkedPair}
 use Rattle.pair_check.specs.lemmas.PairOutcomes.{work-says, work-passed}
-use Rattle.weights.specs.lemmas.WeightedOutcomes.{pair-refused, fraction-refused, fraction-fits, weighed}
+use Rattle.weights.specs.lemmas.WeightedOutcomes.{pair-refused, fraction-refused, fraction-fits, weighed, weight-says}
 use borrow.Author.Needs.{needs}
 use Rattle.weights.proofs.distances.weighted_distance.Statement.{statement}
 use Rattle.weights.proofs.distances.weighted_distance.Tie as tie
@@ -44,7 +44,7 @@ unfolding ofBits
 returns c =
     let x = c .before .before .before .check-work .ensures in
     let h = work-passed _ _ _ _ _ _ _ (x .0) (c .before .enum-told2 .given .1) (c .pair-refusal .ensures) in
-    pair-refused _ _ _ _ _ _ (h .0) (h .1)
+    weight-says _ _ _ _ _ _ _ (pair-refused _ _ _ _ _ _ (h .0) (h .1))
 
 fraction-of-requires : tie.Need-fraction-of-requires
 fraction-of-requires c κs = search needs
@@ -68,14 +68,15 @@ returns-2 : tie.Need-returns-2
 returns-2 c =
     let x = c .before .before in
     let k = x .before .before .before in
-    weighed _ _ _ _ _ (pair (known k)) _ (k .before .fraction-of .ensures) _ (k .fraction-refusal .ensures) (x .before .before .if1 .taken)
-    _ _ (x .weigh-table .ensures .0) (x .weigh-table .ensures .1)
+    weight-says _ _ _ _ _ _ _ (weighed _ _ _ _ _ (pair (known k)) _ (k .before .fraction-of .ensures) _
+    (k .fraction-refusal .ensures) (x .before .before .if1 .taken) _ _ (x .weigh-table .ensures .0) (x .weigh-table .ensures .1))
 
 returns-3 : tie.Need-returns-3
 unfolding ofBits
 returns-3 c =
     let k = c .before in
-    fraction-refused _ _ _ _ _ (pair (known k)) _ (k .before .fraction-of .ensures) _ (k .fraction-refusal .ensures) (c .if1 .left)
+    weight-says _ _ _ _ _ _ _ (fraction-refused _ _ _ _ _ (pair (known k)) _ (k .before .fraction-of .ensures) _
+    (k .fraction-refusal .ensures) (c .if1 .left))
 
 pub weighted-distance-spec : {M : Type 1} → statement M
 weighted-distance-spec =

@@ -8,7 +8,7 @@ use native.Mathlib.Omega.{arith}
 use borrow.Author.Count.{below-more}
 use lib.Ieee.{Float, eq, ofBits}
 use Rattle.weights.specs.Weights.{over256, numeratorOf}
-use Rattle.weights.specs.theorems.Fractions.{first-is, first-none}
+use Rattle.sums.specs.theorems.TestLaws.{first-found, first-none}
 use Rattle.weights.specs.lemmas.ExactProducts.{quotient}
 use borrow.Author.Needs.{needs}
 use Rattle.weights.proofs.weight.numerator_of.Statement.{statement}
@@ -31,7 +31,7 @@ returns : tie.Need-returns Inv-loop μ-loop
 unfolding numeratorOf ofBits
 returns c =
     let l = c .before .before in
-    sym (first-is 257 (λ j. eq (l .before .before .args .p) (over256 j)) (l .before .loop .k) (l .loop-test .taken)
+    sym (first-found 257 (λ j. eq (l .before .before .args .p) (over256 j)) (l .before .loop .k) (l .loop-test .taken)
     (ap (λ (y : Float). eq (l .before .before .args .p) y) (sym (quotient (l .before .loop .k) (omega (arith, l .loop-test .taken))))
     ∙ c .if1 .taken) (l .before .loop .inv .1))
 

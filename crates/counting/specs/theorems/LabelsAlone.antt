@@ -2,14 +2,16 @@
 -- published figures, labels alone').
 -- Assumes nothing.
 use mathlib.Core.Path.{_≡_}
-use Prim.Native.Nat.{ℕ, _+_}
+use Prim.Native.Nat.{ℕ}
 use Rattle.shapes.specs.theorems.FourLabels.{Four}
 use Rattle.tree_check.specs.Table.{Table, tips}
 use Rattle.tree_check.specs.IsTree.{IsTree}
 use Rattle.trees.specs.Topology.{topologyAnswer}
-use Rattle.counting.specs.Labels.{Labels, Rising}
+use Rattle.counting.specs.Labels.{Labels}
+use Rattle.counting.specs.theorems.LabelLaws.{Rising}
 use Rattle.counting.specs.ClaimSums.{S, S2, S3}
-use Rattle.counting.specs.Cases.{Case, B, C, D, topologyAt, quartets}
+use Rattle.counting.specs.declared.Case.{Case}
+use Rattle.counting.specs.Cases.{topologyAt, quartets, distance}
 use Rattle.counting.specs.SplitCounts.{splits, commonSplits, robinsonFoulds}
 use Rattle.counting.specs.Triplets.{triplets}
 
@@ -20,8 +22,7 @@ pub record SameFigures (l : Labels) (t u t' u' : Table) : Type 0 where
   pub same : S2 l t u ≡ S2 l t' u'
   pub different : S3 l t u ≡ S3 l t' u'
   pub counts : (k : Case) → quartets l t u k ≡ quartets l t' u' k
-  pub distance : quartets l t u B + quartets l t u C + quartets l t u D
-      ≡ quartets l t' u' B + quartets l t' u' C + quartets l t' u' D
+  pub distance : distance l t u ≡ distance l t' u'
   pub first-splits : splits l t ≡ splits l t'
   pub second-splits : splits l u ≡ splits l u'
   pub common : commonSplits l t u ≡ commonSplits l t' u'
