@@ -13,12 +13,14 @@ pub mod LabelsAlone
 pub mod NewSplits
 pub mod NodePairSums
 pub mod PassThrough
+pub mod PassThroughExample
 pub mod PassThroughNodes
 pub mod PassingThrough
 pub mod QuartetTheorem
 pub mod ReferencePairs
 pub mod Renumbered
 pub mod StrikingIsPruning
+pub mod TakenOutTests
 pub mod TipLabels
 pub mod TreeShape
 pub mod TreeSplits

@@ -1,16 +1,17 @@
 -- One comparison file: its words, its two tables, its order of refusals, and what is answered.
 -- Assumes nothing.
-use mathlib.Core.Bool.{true, false, not}
+use mathlib.Core.Bool.{not}
 use mathlib.Core.List.{List, [], _∷_}
 use Prim.Native.Nat.{ℕ, _+_, _*_, _%_}
 use lib.Dec.{eqb, ltb}
-use lib.ListN.{length, take, drop}
-use Rattle.tree_check.specs.Table.{Table, tips, nodes}
+use lib.ListN.{length}
+use Rattle.table_words.specs.Cutting.{firstTable, laterWords}
+use Rattle.tree_check.specs.Table.{Table, tips}
 use Rattle.tree_check.specs.Refusals.{Rule, refusal, ifAccepted}
 use Rattle.counting.specs.Labels.{all}
 use Rattle.counting.specs.ClaimSums.{S, S2, S3}
 use Rattle.counting.specs.declared.Case.the-variants.{A, B, C, D, E}
-use Rattle.counting.specs.Cases.{quartets}
+use Rattle.counting.specs.Cases.{quartets, distance}
 use Rattle.counting.specs.SplitCounts.{splits, commonSplits, robinsonFoulds}
 use Rattle.counting.specs.Triplets.{triplets}
 use Rattle.pair_check.specs.PairOrder.{cellsOrder}
@@ -34,25 +35,10 @@ fileWords [] = []
 fileWords (x ∷ []) = []
 fileWords (x ∷ y ∷ bytes) = (x + 256 * y) ∷ fileWords bytes
 
--- the first table has 2 + 2m words by its own word 1, or all words of the file if there are fewer than that, or fewer
--- than two
-unfoldable pub firstLength : List ℕ → ℕ
-firstLength words =
-    elim (ltb (length words) 2) [
-      | true ↦ length words
-      | false ↦ elim (ltb (length words) (2 + 2 * nodes words)) [ true ↦ length words | false ↦ 2 + 2 * nodes words ]
-    ]
-
-unfoldable pub firstTable : List ℕ → Table
-firstTable words = take (firstLength words) words
-
--- the second table has the other words
-unfoldable pub secondTable : List ℕ → Table
-secondTable words = drop (firstLength words) words
-
--- the order of a pair without marks on the two tables of a file, with 15625 cells
+-- the first table of a file by its own length, then the other words as the second; their order is that of a pair without
+-- marks, with 15625 cells
 unfoldable pub wordsOrder : List ℕ → List Rule
-wordsOrder words = cellsOrder (firstTable words) (secondTable words) cellsLent
+wordsOrder words = cellsOrder (firstTable words) (laterWords words) cellsLent
 
 unfoldable pub fileOrder : List ℕ → List Rule
 fileOrder bytes =
@@ -76,7 +62,7 @@ figuresOfPair t u = let l = all (tips t) in record {
     d = quartets l t u D;
     e = quartets l t u E;
   };
-  distance = quartets l t u B + quartets l t u C + quartets l t u D;
+  distance = distance l t u;
   splits = record {
     first = splits l t;
     second = splits l u;
@@ -99,4 +85,4 @@ figuresOf number t u = ifAccepted number (figuresOfPair t u) (ofRefusal number)
 -- what the comparison of a file gives
 unfoldable pub comparison : List ℕ → Figures
 comparison bytes =
-    figuresOf (refusal (fileOrder bytes)) (firstTable (fileWords bytes)) (secondTable (fileWords bytes))
+    figuresOf (refusal (fileOrder bytes)) (firstTable (fileWords bytes)) (laterWords (fileWords bytes))

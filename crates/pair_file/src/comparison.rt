@@ -1,6 +1,5 @@
 // One comparison file, compared: its bytes cut into two tables, and the four counts of the pair.
 use super::words::decode;
-use super::words::first_length;
 use listings::Claims;
 use listings::Figures;
 use listings::Quartets;
@@ -20,6 +19,7 @@ use quartets::triplet_table;
 use table_words::Cell;
 use table_words::TIPS;
 use table_words::as_index;
+use table_words::table_length;
 ghost use mathlib.Core.Path.{_≡_};
 ghost use Rattle.splits.specs.SplitAnswer.{splitAnswer};
 ghost use Rattle.triplets.specs.TripletAnswer.{tripletAnswer};
@@ -170,7 +170,7 @@ fn compare_tables(first: &[u16], second: &[u16]) -> Figures
 fn compare_words(words: &[u16]) -> Figures
     ensures { λ r. ⌜ r ≡ wordFigures (now (words .entry)) ⌝ }
 {
-    let k = first_length(words);
+    let k = table_length(words);
     compare_tables(&words[..k], &words[k..])
 }
 

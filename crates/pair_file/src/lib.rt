@@ -1,5 +1,5 @@
 // One comparison file: its bytes compared.
-mod words; // words.rt: the words of a file, and the first table's length
+mod words; // words.rt: the words of a file
 mod comparison; // comparison.rt: a file compared
 
 pub use comparison::compare;

@@ -1,9 +1,8 @@
-// The words of a comparison file, and how many of them the first tree takes.
-use table_words::as_index;
+// The words of a comparison file.
 ghost use mathlib.Core.Path.{_≡_};
-ghost use Prim.Native.Nat.{_+_, _*_, _/_, _≤_, _<_};
+ghost use Prim.Native.Nat.{_+_, _*_, _/_, _≤_};
 ghost use lib.ListN.{length, take};
-ghost use Rattle.pair_file.specs.PairFile.{fileWords, firstLength};
+ghost use Rattle.pair_file.specs.PairFile.{fileWords};
 
 // The word of two bytes, the lower first.
 fn word_of(low: u8, high: u8) -> u16
@@ -27,18 +26,4 @@ pub(crate) fn decode(bytes: &[u8], words: &mut [u16]) -> usize
         i += 1;
     }
     i
-}
-
-// 2 + 2m by word 1, or every word present if there are fewer than that, or fewer than two.
-pub(crate) fn first_length(words: &[u16]) -> usize
-    ensures { λ r. ⌜ (r ≡ firstLength (now (words .entry))) × (r ≤ length (now (words .entry))) ⌝ }
-{
-    if words.len() < 2 {
-        return words.len();
-    }
-    let whole = 2 + 2 * as_index(words[1]);
-    if words.len() < whole {
-        return words.len();
-    }
-    whole
 }

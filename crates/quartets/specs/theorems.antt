@@ -1,2 +1,3 @@
+pub mod AllMarksOne
 pub mod DemandThree
 pub mod FourArithmetic

@@ -4,4 +4,5 @@ pub mod Tests
 pub mod Counts
 pub mod SetsOfFour
 pub mod Fours
+pub mod Lists
 pub mod theorems

@@ -4,6 +4,7 @@ pub mod CountSteps
 pub mod Exclusion
 pub mod FoursLaws
 pub mod Grids
+pub mod ListLaws
 pub mod Matchings
 pub mod Pairings
 pub mod Products

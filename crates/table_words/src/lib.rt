@@ -1,7 +1,10 @@
 // The words of tables and the cells of the work: their sizes, and the numbers that code makes of them.
 // specs/Sizes has the same sizes for contracts.
+mod cutting; // cutting.rt: how many words a table takes of those that begin with it
+pub use cutting::table_length;
+
 ghost use mathlib.Core.Path.{_≡_};
-ghost use Prim.Native.Nat.{_≤_, _<_};
+ghost use Prim.Native.Nat.{_%_, _≤_, _<_};
 ghost use Rattle.table_words.specs.Sizes.{cellMost};
 
 // The most tips of a tree.
@@ -51,4 +54,18 @@ pub fn cell_count(x: Cell) -> u64
     ensures { λ r. ⌜ (r ≡ x) × (r ≤ cellMost) ⌝ }
 {
     x as u64
+}
+
+// An index as a word, modulo 2^16.
+pub fn as_word(x: usize) -> u16
+    ensures { λ r. ⌜ r ≡ x % 65536 ⌝ }
+{
+    (x % 65536) as u16
+}
+
+// An index as a cell, modulo 2^8.
+pub fn as_cell(x: usize) -> Cell
+    ensures { λ r. ⌜ r ≡ x % 256 ⌝ }
+{
+    (x % 256) as Cell
 }

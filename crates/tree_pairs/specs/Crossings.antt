@@ -2,10 +2,11 @@
 -- cells').
 -- Assumes nothing.
 use mathlib.Core.Bool.{_&&_}
-use mathlib.Core.List.{List, [], _∷_, _++_}
-use Prim.Native.Nat.{ℕ, zero, suc, _+_, _-_, _/_, _%_}
-use lib.ListN.{length, drop}
+use mathlib.Core.List.{List}
+use Prim.Native.Nat.{ℕ, suc, _-_, _/_, _%_}
+use lib.ListN.{length}
 use Rattle.sums.specs.Counts.{count}
+use Rattle.sums.specs.Lists.{inFront}
 use Rattle.tree_check.specs.Table.{Table, tips, nodes}
 use Rattle.tree_check.specs.Refusals.{refusal, ifAccepted}
 use Rattle.counting.specs.Labels.{Labels, all}
@@ -17,18 +18,13 @@ use Rattle.pair_check.specs.PairOrder.{cellsNeeded, cellsOrder, pairOrder}
 unfoldable pub edgeCrossing : Labels → Table → Table → ℕ → ℕ → ℕ
 edgeCrossing l t u i j = count (l .number) (λ x. beyondAt l t i x && beyondAt l u j x)
 
--- f 0, f 1, .., f (k − 1)
-unfoldable pub inOrder : ℕ → (ℕ → ℕ) → List ℕ
-inOrder zero f = []
-inOrder (suc k) f = f 0 ∷ inOrder k (λ i. f (suc i))
-
 -- the crossing in the cell c = (i − 1)(m′ − 1) + (j − 1)
 unfoldable pub cellOf : Labels → Table → Table → ℕ → ℕ
 cellOf l t u c = edgeCrossing l t u (suc (c / (nodes u - 1))) (suc (c % (nodes u - 1)))
 
 -- the cells once the crossings are written; later cells stay
 unfoldable pub crossed : Labels → Table → Table → List ℕ → List ℕ
-crossed l t u work = inOrder (cellsNeeded t u) (cellOf l t u) ++ drop (cellsNeeded t u) work
+crossed l t u work = inFront (cellsNeeded t u) (cellOf l t u) work
 
 -- .. of all labels
 abbrev pub crossedAll : Table → Table → List ℕ → List ℕ

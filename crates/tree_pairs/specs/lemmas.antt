@@ -7,8 +7,6 @@ pub mod Filling
 pub mod Grid
 pub mod LentTables
 pub mod Listed
-pub mod NodeCells
 pub mod Rows
 pub mod RowsUp
-pub mod Spans
 pub mod TipRows

@@ -1,9 +1,7 @@
 // The crossing counts of two trees.
 use super::rows::add_rows;
 use super::rows_of_tips::clear;
-use super::rows_of_tips::nodes_of;
 use super::rows_of_tips::tip_rows;
-use super::spans::spans_of;
 use pair_check::CheckedPair;
 use pair_check::check_cells;
 use pair_check::check_work;
@@ -12,6 +10,7 @@ use table_words::Cell;
 use table_words::NODES;
 use table_words::TIPS;
 use table_words::as_index;
+use walks::spans;
 ghost use mathlib.Core.Path.{_≡_};
 ghost use lib.ListN.{length};
 ghost use Rattle.tree_check.specs.lemmas.TableParts.{tableOf};
@@ -27,33 +26,30 @@ ghost use Rattle.tree_pairs.specs.lemmas.Filling.{PairArrays};
 fn fill_arrays(
     first_parents: &[u16],
     first_labels: &[u16],
-    second_parents: &[u16],
-    second_labels: &[u16],
+    second: &[u16],
     marks: &[u8],
     n: usize,
     work: &mut [Cell],
 )
-    requires { ⌜ PairArrays n (now «first_parents») (now «first_labels») (now «second_parents»)
-        (now «second_labels») (now work) ⌝ }
+    requires { ⌜ PairArrays n (now «first_parents») (now «first_labels») (now second) (now work) ⌝ }
     ensures { λ _. ⌜
         now (work .exit)
-        ≡ crossedKept (tableOf n (now («first_parents» .entry)) (now («first_labels» .entry)))
-        (tableOf n (now («second_parents» .entry)) (now («second_labels» .entry))) (now (marks .entry)) (now (work .entry))
+        ≡ crossedKept (tableOf n (now («first_parents» .entry)) (now («first_labels» .entry))) (now (second .entry))
+        (now (marks .entry)) (now (work .entry))
         ⌝ }
 {
-    let width = second_parents.len() - 1;
+    let width = as_index(second[1]) - 1;
     clear(work, (first_parents.len() - 1) * width);
-    let mut nodes = [0usize; NODES];
-    nodes_of(second_labels, &mut nodes);
+    let mut labelled = [0u16; TIPS];
     let mut begin = [0; NODES];
     let mut end = [0; NODES];
-    spans_of(second_parents, second_labels, n, &mut begin, &mut end);
+    spans(second, &mut labelled, &mut begin, &mut end);
     tip_rows(
         first_labels,
         marks,
         n,
-        second_parents,
-        &nodes,
+        width,
+        &labelled,
         &begin,
         &end,
         work,
@@ -71,12 +67,10 @@ pub(crate) fn fill(first: &[u16], second: &[u16], marks: &[u8], work: &mut [Cell
 {
     let n = as_index(first[0]);
     let m = as_index(first[1]);
-    let k = as_index(second[1]);
     fill_arrays(
         &first[2..2 + m],
         &first[2 + m..],
-        &second[2..2 + k],
-        &second[2 + k..],
+        second,
         marks,
         n,
         work,

@@ -1,17 +1,15 @@
-// The rows of the first tree's tips: cells cleared, the node of each label found, and each tip's row filled from the spans of
-// the second tree's nodes.
+// The rows of the first tree's tips: cells cleared, and each tip's row filled from the spans of the second tree's nodes.
 use marks::is_kept;
 use table_words::Cell;
 use table_words::NODES;
+use table_words::TIPS;
 use table_words::as_index;
 ghost use mathlib.Core.Path.{_≡_};
 ghost use Prim.Native.Nat.{_≤_};
 ghost use lib.ListN.{length};
-ghost use Rattle.table_words.specs.Sizes.{nodeRoom};
 ghost use Rattle.sums.specs.Bits.{bit};
 ghost use Rattle.tree_pairs.specs.lemmas.Cleared.{Cleared};
-ghost use Rattle.tree_pairs.specs.lemmas.NodeCells.{NodesOf};
-ghost use Rattle.tree_pairs.specs.lemmas.Spans.{inSpan};
+ghost use Rattle.walks.specs.theorems.SpanLaws.{inSpan};
 ghost use Rattle.tree_pairs.specs.lemmas.TipRows.{SpanRoom, RowSpanned, countedLabel, TipRoom, TipRows};
 
 // The first `count` cells become 0.
@@ -23,21 +21,6 @@ pub(crate) fn clear(work: &mut [Cell], count: usize)
     while c < count {
         work[c] = 0;
         c += 1;
-    }
-}
-
-// The node of each label: the last one that has it, or 0.
-pub(crate) fn nodes_of(labels: &[u16], nodes: &mut [usize; NODES])
-    requires { ⌜ (length (now labels) ≤ nodeRoom) × NodesOf (now labels) 0 (now nodes) ⌝ }
-    ensures { λ _. ⌜ NodesOf (now (labels .entry)) (length (now (labels .entry))) (now (nodes .exit)) ⌝ }
-{
-    let mut v = 0;
-    while v < labels.len() {
-        let x = as_index(labels[v]);
-        if x < NODES {
-            nodes[x] = v;
-        }
-        v += 1;
     }
 }
 
@@ -90,22 +73,21 @@ pub(crate) fn tip_rows(
     labels: &[u16],
     marks: &[u8],
     n: usize,
-    parents: &[u16],
-    nodes: &[usize; NODES],
+    width: usize,
+    labelled: &[u16; TIPS],
     begin: &[Cell; NODES],
     end: &[Cell; NODES],
     work: &mut [Cell],
 )
-    requires { ⌜ TipRoom (now labels) n (now parents) (now nodes) (now begin) (now end) (now work) ⌝ }
-    ensures { λ _. ⌜ TipRows (now (labels .entry)) (now (marks .entry)) n (now (parents .entry)) (now (nodes .entry))
-        (length (now (labels .entry))) (now (work .entry)) (now (work .exit)) ⌝ }
+    requires { ⌜ TipRoom (now labels) n width (now labelled) (now work) ⌝ }
+    ensures { λ _. ⌜ TipRows (now (labels .entry)) (now (marks .entry)) n width (now (labelled .entry)) (now (begin .entry))
+        (now (end .entry)) (length (now (labels .entry))) (now (work .entry)) (now (work .exit)) ⌝ }
 {
-    let width = parents.len() - 1;
     let mut v = 1;
     while v < labels.len() {
         let x = as_index(labels[v]);
         if is_counted(marks, n, x) {
-            let node = nodes[x];
+            let node = as_index(labelled[x]);
             tip_row(work, (v - 1) * width, width, begin[node], begin, end);
         }
         v += 1;

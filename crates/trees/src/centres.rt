@@ -1,8 +1,8 @@
 // The centre of three labels.
 use super::asked::asked_refusal;
 use super::asked::node_of;
-use super::words::narrow;
 use table_words::as_index;
+use table_words::as_word;
 use tree_check::Checked;
 use tree_check::check;
 use tree_check::refusal_of;
@@ -94,5 +94,5 @@ pub(crate) fn centre_node(parents: &[u16], labels: &[u16], a: u16, b: u16, c: u1
     let x = node_of(labels, a);
     let y = node_of(labels, b);
     let z = node_of(labels, c);
-    narrow(join(parents, x, y, z))
+    as_word(join(parents, x, y, z))
 }

@@ -1,6 +1,5 @@
 // The tree library: a table of words is checked, walked, and asked for centres and topologies.
 // Every public function takes any words in slices of any length, and answers in full or refuses with one number.
-mod words; // words.rt: words as indices, and indices as words
 mod asked; // asked.rt: the labels that a caller asks about
 mod centres; // centres.rt: the centre of three labels
 mod quartet; // quartet.rt: the topology of four labels
@@ -18,6 +17,7 @@ pub use walks::PartBeyond;
 pub use walks::beyond;
 pub use walks::beyond_refusal;
 pub use walks::part_beyond;
+pub use walks::spans;
 pub use walks::walk;
 pub use witness::Witness;
 pub use witness::WitnessAnswer;

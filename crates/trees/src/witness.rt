@@ -5,9 +5,9 @@ use super::quartet::Topology;
 use super::quartet::named_pairing;
 use super::quartet::pairing_of;
 use super::quartet::sides_of;
-use super::words::narrow;
 use table_words::NODES;
 use table_words::as_index;
+use table_words::as_word;
 use tree_check::Checked;
 use tree_check::check;
 use tree_check::refusal_of;
@@ -55,7 +55,7 @@ fn witness_at(i: usize, parents: &[u16], labels: &[u16], a: u16, b: u16, c: u16)
     if i == 0 {
         return Witness::Meet(centre_node(parents, labels, a, b, c));
     }
-    Witness::Edge(narrow(i))
+    Witness::Edge(as_word(i))
 }
 
 // The answer over the two parts of a checked table.

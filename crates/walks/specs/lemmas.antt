@@ -1,5 +1,6 @@
 pub mod Adding
 pub mod Positions
+pub mod SpanLists
 pub mod TreeArrays
 pub mod WalkOutcomes
 pub mod Writing

@@ -2,6 +2,7 @@ pub mod AddUpLaws
 pub mod BeyondAfterWalk
 pub mod NodeLabels
 pub mod Reach
+pub mod SpanLaws
 pub mod WalkExamples
 pub mod WalkFrom
 pub mod WalkLaws

@@ -1,8 +1,8 @@
 // The part of a walk that belongs to an edge, by position alone.
 use super::sizes::ends;
 use super::sizes::sizes;
-use super::words::narrow;
 use table_words::as_index;
+use table_words::as_word;
 use tree_check::Checked;
 use tree_check::check;
 use tree_check::refusal_of;
@@ -47,8 +47,8 @@ fn part_of(parents: &[u16], labels: &[u16], n: usize, i: usize) -> PartBeyond
     let from = end[i] - count;
     PartBeyond {
         refusal: 0,
-        start: narrow(from),
-        count: narrow(count),
+        start: as_word(from),
+        count: as_word(count),
     }
 }
 

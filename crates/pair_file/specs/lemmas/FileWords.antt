@@ -2,16 +2,15 @@
 -- Assumes nothing.
 use mathlib.Core.Path.{_≡_, refl, sym, _∙_, ap, ap₂}
 use mathlib.Core.List.{List, [], _∷_, _++_}
-use Prim.Native.Nat.{ℕ, zero, suc, _+_, _*_, _/_, _≤_, _<_}
+use Prim.Native.Nat.{ℕ, zero, suc, _+_, _*_, _/_, _<_}
 use native.Mathlib.Numerals.{add-one}
-use native.Mathlib.Decide.{decLt}
 use native.Mathlib.Omega.{arith}
-use lib.ListN.{length, take, drop, set, length-drop}
-use lib.Seq.{take-suc, take-suc-set, take-all, length-take-le}
-use borrow.Author.Tests.{lt-ltb, le-ltb}
-use Rattle.tree_check.specs.Table.{word, nodes}
+use lib.ListN.{length, take, drop, set}
+use lib.Seq.{take-suc, take-suc-set, take-all}
+use Rattle.table_words.specs.Cutting.{tableLength, firstTable, laterWords}
+use Rattle.tree_check.specs.Table.{word}
 use Rattle.tree_check.specs.lemmas.TableParts.{rest, rest-drop}
-use Rattle.pair_file.specs.PairFile.{fileWords, firstLength, firstTable, secondTable}
+use Rattle.pair_file.specs.PairFile.{fileWords}
 
 -- ---- the words
 
@@ -54,50 +53,11 @@ words-all bytes words i e h = h ∙ take-all i (fileWords bytes) (omega (arith, 
 -- ---- the two tables
 
 module _ (words : List ℕ) where
-  -- fewer than two words: all of them
-  pub first-few : length words < 2 → length words ≡ firstLength words
-  unfolding firstLength
-  first-few l = rw (lt-ltb (length words) 2 l, firstLength)
-
-  module _ (m : ℕ) (e : m ≡ word words 1) (l : 2 ≤ length words) where
-    -- fewer than 2 + 2m words: all of them
-    pub first-short : length words < 2 + 2 * m → length words ≡ firstLength words
-    unfolding firstLength nodes
-    first-short s =
-        rw (le-ltb (length words) 2 l, firstLength) (rw (sym e) (rw (lt-ltb (length words) (2 + 2 * m) s) refl))
-
-    -- 2 + 2m words by word 1
-    pub first-whole : 2 + 2 * m ≤ length words → 2 + 2 * m ≡ firstLength words
-    unfolding firstLength nodes
-    first-whole s =
-        rw (le-ltb (length words) 2 l, firstLength) (rw (sym e) (rw (le-ltb (length words) (2 + 2 * m) s)
-        (ap (λ (x : ℕ). 2 + 2 * x) e)))
-
-  -- the first table is inside the file
-  first-inside : firstLength words ≤ length words
-  first-inside = elim (decLt (length words) 2) [
-    | yes l ↦ omega (arith, first-few l)
-    | no d ↦ elim (decLt (length words) (2 + 2 * word words 1)) [
-      | yes l ↦ omega (arith, first-short _ refl (omega arith) l)
-      | no e ↦ omega (arith, first-whole _ refl (omega arith) (omega arith))
-    ]
-  ]
-
-  -- the tables have every word between them
-  pub tables-length : length (firstTable words) + length (secondTable words) ≡ length words
-  unfolding firstTable secondTable
-  tables-length = omega (
-    arith,
-    length-take-le (firstLength words) words first-inside,
-    length-drop (firstLength words) words,
-    first-inside,
-  )
-
   -- `&words[..k]` and `&words[k..]`
-  pub first-part : (k : ℕ) → k ≡ firstLength words → take k words ≡ firstTable words
+  pub first-part : (k : ℕ) → k ≡ tableLength words → take k words ≡ firstTable words
   unfolding firstTable
   first-part k e = ap (λ (j : ℕ). take j words) e
 
-  pub second-part : (k : ℕ) → k ≡ firstLength words → rest k words ≡ secondTable words
-  unfolding secondTable
+  pub second-part : (k : ℕ) → k ≡ tableLength words → rest k words ≡ laterWords words
+  unfolding laterWords
   second-part k e = rest-drop k words ∙ ap (λ (j : ℕ). drop j words) e

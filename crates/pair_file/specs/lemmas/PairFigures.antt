@@ -27,7 +27,8 @@ use Rattle.quartets.specs.QuartetAnswer.{quartetAnswer}
 use Rattle.quartets.specs.declared.tables.QuartetTable.{QuartetTable}
 use Rattle.listings.specs.declared.figures.Figures.{Figures}
 use Rattle.listings.specs.Listing.{ofRefusal}
-use Rattle.pair_file.specs.PairFile.{fileWords, firstLength, firstTable, secondTable, wordsOrder}
+use Rattle.table_words.specs.Cutting.{tableLength, firstTable, laterWords}
+use Rattle.pair_file.specs.PairFile.{fileWords, wordsOrder}
 use Rattle.pair_file.specs.PairFile.{fileOrder, figuresOf, comparison}
 use Rattle.pair_file.specs.lemmas.FileWords.{first-part, second-part}
 use Rattle.pair_file.specs.lemmas.FileOrder.{too-long, odd-length, even-length}
@@ -39,7 +40,7 @@ pairFigures t u = figuresOf (refusal (cellsOrder t u cellsLent)) t u
 
 -- the figures of a file's words
 unfoldable pub wordFigures : List ℕ → Figures
-wordFigures words = pairFigures (firstTable words) (secondTable words)
+wordFigures words = pairFigures (firstTable words) (laterWords words)
 
 -- the figures of four answers that are no refusals
 abbrev pub answered : ℕ → ClaimSums → QuartetTable → SplitCounts → TripletTable → Figures
@@ -125,7 +126,7 @@ pair-accepted t u p n k e d =
 -- ---- a whole file
 
 -- the parts of the words that are lent: `&words[..k]` and `&words[k..]`
-pub parts-compared : (words : List ℕ) (k : ℕ) → k ≡ firstLength words
+pub parts-compared : (words : List ℕ) (k : ℕ) → k ≡ tableLength words
     → pairFigures (take k words) (rest k words) ≡ wordFigures words
 unfolding wordFigures
 parts-compared words k e = ap₂ pairFigures (first-part words k e) (second-part words k e)
@@ -135,7 +136,7 @@ module _ (bytes : List ℕ) where
   unfolding comparison
   file-refused k d e =
       let t = firstTable (fileWords bytes) in
-      let u = secondTable (fileWords bytes) in
+      let u = laterWords (fileWords bytes) in
       figures-refused k t u d ∙ ap (λ (j : ℕ). figuresOf j t u) (sym e)
 
   pub file-too-long : bytesMost < length bytes → ofRefusal 14 ≡ comparison bytes
@@ -149,5 +150,5 @@ module _ (bytes : List ℕ) where
     unfolding comparison wordFigures pairFigures wordsOrder
     file-compared e =
         let t = firstTable (fileWords bytes) in
-        let u = secondTable (fileWords bytes) in
+        let u = laterWords (fileWords bytes) in
         ap (λ (j : ℕ). figuresOf j t u) (sym (even-length bytes l e))

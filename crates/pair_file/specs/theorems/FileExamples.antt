@@ -24,7 +24,8 @@ use Rattle.counting.specs.Cases.{caseOf, caseNumber, isCase, topologyAt, quarte
 use Rattle.counting.specs.SplitCounts.{beyondAt, splits, commonSplits, robinsonFoulds}
 use Rattle.counting.specs.Triplets.{together, triplet, triplets}
 use Rattle.pair_check.specs.PairOrder.{plus, tipsOrder, tablesOrder, workOrder, cellsOrder}
-use Rattle.pair_file.specs.PairFile.{fileWords, firstLength, firstTable, secondTable, wordsOrder, fileOrder}
+use Rattle.table_words.specs.Cutting.{tableLength, firstTable, laterWords}
+use Rattle.pair_file.specs.PairFile.{fileWords, wordsOrder, fileOrder}
 use Rattle.pair_file.specs.PairFile.{figuresOf, comparison}
 use Rattle.listings.specs.theorems.ListingExamples.{ofPAndQ}
 
@@ -46,7 +47,7 @@ bytesOfQ =
 -- the figures of the bytes of P, then Q
 pub comparison-of-P-and-Q : comparison (bytesOfP ++ bytesOfQ) ≡ ofPAndQ
 unfolding
-    comparison fileOrder wordsOrder fileWords firstTable secondTable firstLength refusal ifAccepted
+    comparison fileOrder wordsOrder fileWords firstTable laterWords tableLength refusal ifAccepted
     cellsOrder tablesOrder tipsOrder workOrder plus treeOrder arraysOrder tipsFit nodesFit parentFits labelFits standing labelsFit labelsOnce
     isChild children misplaced
     S S2 S3 codes behindEdge size crossing sumClaims sumClaimsOf sumIf meet choose2 quartets topologyAt isCase
@@ -66,7 +67,7 @@ pub edges-of-a-file :
     ∷ []
     ≡ 1 ∷ 15 ∷ 4 ∷ 101 ∷ 104 ∷ []
 unfolding
-    fileOrder wordsOrder fileWords firstTable secondTable firstLength refusal
+    fileOrder wordsOrder fileWords firstTable laterWords tableLength refusal
     cellsOrder tablesOrder tipsOrder workOrder plus treeOrder arraysOrder tipsFit nodesFit parentFits labelFits standing labelsFit labelsOnce
     isChild children misplaced sum bit some every tips nodes parents labels parent label
 edges-of-a-file = refl

@@ -17,8 +17,10 @@ use Rattle.pair_check.specs.PairOrder.{tablesOrder, cellsOrder, cellsNeeded}
 use Rattle.pair_check.specs.theorems.PairCheck.{tables-check, cells-check, tree-never-nine}
 use Rattle.pair_check.specs.lemmas.PairOutcomes.{first-refused, second-refused, tips-differ, tables-accepted}
 use Rattle.pair_check.specs.lemmas.PairOutcomes.{tables-refused}
-use Rattle.pair_file.specs.PairFile.{fileWords, firstTable, secondTable, wordsOrder, fileOrder}
-use Rattle.pair_file.specs.lemmas.FileWords.{words-length, tables-length}
+use Rattle.table_words.specs.Cutting.{firstTable, laterWords}
+use Rattle.table_words.specs.lemmas.CutWords.{cut-length}
+use Rattle.pair_file.specs.PairFile.{fileWords, wordsOrder, fileOrder}
+use Rattle.pair_file.specs.lemmas.FileWords.{words-length}
 use Rattle.pair_file.specs.lemmas.FileOrder.{too-long, odd-length, even-length}
 use Rattle.pair_file.specs.PairFile.{bytesMost, cellsLent, wordsMost}
 
@@ -76,5 +78,5 @@ never-nine bytes z = elim (decLe (length bytes) bytesMost) [
 ]
   where
     short : length bytes ≤ bytesMost → refusal (wordsOrder (fileWords bytes)) ≢ 9
-    short l = unfold wordsOrder in never-pair (firstTable (fileWords bytes)) (secondTable (fileWords bytes))
-        (omega (arith, tables-length (fileWords bytes), words-length bytes))
+    short l = unfold wordsOrder in never-pair (firstTable (fileWords bytes)) (laterWords (fileWords bytes))
+        (omega (arith, cut-length (fileWords bytes), words-length bytes))

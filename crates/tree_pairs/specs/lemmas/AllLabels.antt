@@ -2,13 +2,13 @@
 -- Assumes nothing.
 use mathlib.Core.Path.{_≡_, refl, _∙_, ap, fun-ext}
 use mathlib.Core.Bool.{_&&_}
-use mathlib.Core.List.{List, _++_}
+use mathlib.Core.List.{List}
 use Prim.Native.Nat.{ℕ, suc, _-_, _/_, _%_}
 use native.Mathlib.Omega.{arith}
-use lib.ListN.{drop}
 use Rattle.table_words.specs.Sizes.{tipsMost}
 use Rattle.sums.specs.Bits.{bit}
 use Rattle.sums.specs.Counts.{count}
+use Rattle.sums.specs.Lists.{inFront}
 use Rattle.sums.specs.theorems.SumLaws.{sum-ext}
 use Rattle.tree_check.specs.Table.{Table, tips, nodes}
 use Rattle.tree_check.specs.IsTree.{IsTree}
@@ -19,7 +19,7 @@ use Rattle.counting.specs.Kept.{kept}
 use Rattle.counting.specs.SplitCounts.{beyondAt}
 use Rattle.counting.specs.theorems.AllKept.{Alike, all-alike, sides-alike}
 use Rattle.pair_check.specs.PairOrder.{cellsNeeded}
-use Rattle.tree_pairs.specs.Crossings.{edgeCrossing, inOrder, cellOf, crossed, crossedKept, crossedAll}
+use Rattle.tree_pairs.specs.Crossings.{edgeCrossing, cellOf, crossed, crossedKept, crossedAll}
 
 module _ (l m : Labels) (a : Alike l m) (t u : Table) where
   crossing-alike : (i j : ℕ) → edgeCrossing l t u i j ≡ edgeCrossing m t u i j
@@ -32,7 +32,7 @@ module _ (l m : Labels) (a : Alike l m) (t u : Table) where
   pub crossed-alike : (work : List ℕ) → crossed l t u work ≡ crossed m t u work
   unfolding crossed cellOf
   crossed-alike work =
-      ap (λ (f : ℕ → ℕ). inOrder (cellsNeeded t u) f ++ drop (cellsNeeded t u) work)
+      ap (λ (f : ℕ → ℕ). inFront (cellsNeeded t u) f work)
       (fun-ext (λ c. crossing-alike (suc (c / (nodes u - 1))) (suc (c % (nodes u - 1)))))
 
 -- marks of 1, one for each label that a tree may have

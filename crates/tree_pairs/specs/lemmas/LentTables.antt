@@ -1,6 +1,6 @@
 -- Two tables filled through their arrays, as code lends them.
 -- Assumes nothing.
-use mathlib.Core.Path.{_≡_, refl, sym, _∙_, ap₂, subst}
+use mathlib.Core.Path.{_≡_, refl, sym, _∙_, ap, subst}
 use mathlib.Core.Logic.{_≢_}
 use mathlib.Core.List.{List}
 use Prim.Native.Nat.{ℕ, _+_, _*_, _-_, _≤_}
@@ -11,7 +11,7 @@ use Rattle.tree_check.specs.lemmas.TableParts.{rest, tableOf, to-parts, of-part
 use Rattle.tree_check.specs.lemmas.TableParts.{parents-length, table-of-parts}
 use Rattle.tree_check.specs.Refusals.{refusal}
 use Rattle.tree_check.specs.theorems.RefusalLaws.{if-accepted, if-refused}
-use Rattle.walks.specs.lemmas.TreeArrays.{TreeArrays, tree-arrays}
+use Rattle.walks.specs.lemmas.TreeArrays.{tree-arrays}
 use Rattle.counting.specs.Labels.{Labels}
 use Rattle.pair_check.specs.PairOrder.{PairWithCells, MarkedPair, cellsOrder, pairOrder}
 use Rattle.pair_check.specs.theorems.PairCheck.{cells-check, pair-check}
@@ -37,35 +37,26 @@ lentParents t m = take (2 + m - 2) (drop 2 t)
 abbrev lentLabels : Table → ℕ → List ℕ
 lentLabels t m = rest (2 + m) t
 
-module _ (t u : Table) (work : List ℕ) (h : PairWithCells t u (length work)) (n m k : ℕ)
-    (en : n ≡ word t 0) (em : m ≡ word t 1) (ek : k ≡ word u 1) where
-  pub lent-lengths : (length t ≡ 2 + 2 * m) × (length u ≡ 2 + 2 * k)
-  lent-lengths = (omega (arith, h .pair .first .words, lent-nodes t m em), omega (arith, h .pair .second .words, lent-nodes u k ek))
+module _ (t u : Table) (work : List ℕ) (h : PairWithCells t u (length work)) (n m : ℕ)
+    (en : n ≡ word t 0) (em : m ≡ word t 1) where
+  pub lent-length : length t ≡ 2 + 2 * m
+  lent-length = omega (arith, h .pair .first .words, lent-nodes t m em)
 
-  own-arrays : PairArrays (tips u) (parents t) (labels t) (parents u) (labels u) work
-  own-arrays = record {
-    first = subst (λ (x : ℕ). TreeArrays x (parents t) (labels t)) (h .pair .same-tips) (tree-arrays t (h .pair .first));
-    second = tree-arrays u (h .pair .second);
-    room = rw (parents-length t (h .pair .first .words), parents-length u (h .pair .second .words)) (h .room);
-  }
+  pub lent-arrays : PairArrays n (lentParents t m) (lentLabels t m) u work
+  lent-arrays = to-parts (λ x ps ls. PairArrays x ps ls u work) t n m (h .pair .first .words) (lent-tips t n en) (lent-nodes t m em)
+      (record {
+        first = tree-arrays t (h .pair .first);
+        second = h .pair .second;
+        tips-are = sym (h .pair .same-tips);
+        room = rw (parents-length t (h .pair .first .words)) (h .room);
+      })
 
-  pub lent-arrays : PairArrays n (lentParents t m) (lentLabels t m) (lentParents u k) (lentLabels u k) work
-  lent-arrays =
-      to-parts (λ x ps ls. PairArrays x ps ls (lentParents u k) (lentLabels u k) work)
-      t n m (h .pair .first .words) (lent-tips t n en) (lent-nodes t m em)
-      (to-parts (λ x qs ms. PairArrays x (parents t) (labels t) qs ms work)
-      u (tips t) k (h .pair .second .words) (h .pair .same-tips) (lent-nodes u k ek) own-arrays)
-
-  pub lent-crossed : (ks new : List ℕ)
-      → new ≡ crossedKept (tableOf n (lentParents t m) (lentLabels t m)) (tableOf n (lentParents u k) (lentLabels u k)) ks work
+  pub lent-crossed : (ks new : List ℕ) → new ≡ crossedKept (tableOf n (lentParents t m) (lentLabels t m)) u ks work
       → new ≡ crossedKept t u ks work
   lent-crossed ks new e =
-      of-parts (λ x qs ms. new ≡ crossedKept (tableOf (tips t) (parents t) (labels t)) (tableOf x qs ms) ks work)
-      u (tips t) k (h .pair .second .words) (h .pair .same-tips) (lent-nodes u k ek)
-      (of-parts (λ x ps ls. new ≡ crossedKept (tableOf x ps ls) (tableOf x (lentParents u k) (lentLabels u k)) ks work)
-      t n m (h .pair .first .words) (lent-tips t n en) (lent-nodes t m em) e)
-      ∙ ap₂ (λ (x y : Table). crossedKept x y ks work)
-      (table-of-parts t (h .pair .first .words)) (table-of-parts u (h .pair .second .words))
+      of-parts (λ x ps ls. new ≡ crossedKept (tableOf x ps ls) u ks work)
+      t n m (h .pair .first .words) (lent-tips t n en) (lent-nodes t m em) e
+      ∙ ap (λ (x : Table). crossedKept x u ks work) (table-of-parts t (h .pair .first .words))
 
 -- ---- a pair that was checked, as its answer tells it
 

@@ -1,6 +1,6 @@
--- The rows of the first tree's tips: 1 at the second tree's nodes at or above the tip with the same label.
+-- The rows of the first tree's tips: 1 at the second tree's nodes in whose spans the tip with the same label is.
 -- Assumes nothing.
-use mathlib.Core.Path.{_≡_, refl, sym, _∙_, ap, ap₂, subst}
+use mathlib.Core.Path.{_≡_, refl, sym, _∙_, ap, subst}
 use mathlib.Core.Bool.{Bool, true, false, _&&_}
 use mathlib.Core.List.{List}
 use Prim.Native.Nat.{ℕ, _+_, _*_, _-_, _≤_, _<_}
@@ -10,16 +10,15 @@ use native.Mathlib.Omega.{arith}
 use lib.Dec.{T, ltb}
 use lib.ListN.{length, set, length-set}
 use lib.Seq.{getD-set-same, getD-set-other}
-use Rattle.table_words.specs.Sizes.{nodeRoom, workRoom}
+use Rattle.table_words.specs.Sizes.{tipsMost, nodeRoom, workRoom}
 use Rattle.sums.specs.theorems.Products.{product-le}
 use Rattle.sums.specs.Bits.{bit}
 use Rattle.sums.specs.theorems.BitLaws.{bit-T, bit-no}
 use Rattle.sums.specs.theorems.TestLaws.{and-iff, lt-iff}
-use Rattle.shapes.specs.Ancestors.{anc}
 use Rattle.tree_check.specs.Table.{word}
 use Rattle.marks.specs.Marks.{isKept}
 use Rattle.tree_pairs.specs.lemmas.Grid.{cellAt}
-use Rattle.tree_pairs.specs.lemmas.Spans.{inSpan}
+use Rattle.walks.specs.theorems.SpanLaws.{inSpan}
 
 -- ---- one row
 
@@ -73,33 +72,30 @@ pub counted-inside : (ks : List ℕ) (n x : ℕ) → true ≡ countedLabel ks n 
 unfolding countedLabel
 counted-inside ks n x e = lt-iff x n .0 (and-iff (isKept ks x) (ltb x n) .0 (subst T e tt) .1)
 
--- room for the rows, all of them 0, and spans that tell which nodes of the second tree are at or above a tip's
-pub record TipRoom (ls : List ℕ) (n : ℕ) (ps nodes begin end work : List ℕ) : Type 0 where
-  pub some : 2 ≤ length ps
-  pub few : length ps ≤ nodeRoom
+-- room for the rows, all of them 0, and nodes that have spans
+pub record TipRoom (ls : List ℕ) (n w : ℕ) (labelled work : List ℕ) : Type 0 where
+  pub narrow : w < nodeRoom
   pub rows : (1 ≤ length ls) × (length ls ≤ nodeRoom)
-  pub tips : n ≤ nodeRoom
-  pub long : length nodes ≡ nodeRoom
-  pub node : (v : ℕ) → 1 ≤ v → v < length ls → word ls v < n
-      → (1 ≤ word nodes (word ls v)) × (word nodes (word ls v) < length ps)
-  pub spans : (v j : ℕ) → 1 ≤ v → v < length ls → word ls v < n → 1 ≤ j → j < length ps
-      → bit (inSpan (word begin (word nodes (word ls v))) (word begin j) (word end j))
-      ≡ bit (anc (word ps) j (word nodes (word ls v)))
-  pub inside : (length ls - 1) * (length ps - 1) ≤ length work
-  pub zeros : (c : ℕ) → c < (length ls - 1) * (length ps - 1) → word work c ≡ 0
+  pub tips : n ≤ tipsMost
+  pub node : (x : ℕ) → x < n → word labelled x < nodeRoom
+  pub inside : (length ls - 1) * w ≤ length work
+  pub zeros : (c : ℕ) → c < (length ls - 1) * w → word work c ≡ 0
 
--- the rows of the nodes below k are filled, and the cells after them are as they were
-pub record TipRows (ls ks : List ℕ) (n : ℕ) (ps nodes : List ℕ) (k : ℕ) (old new : List ℕ) : Type 0 where
+-- the rows of the nodes below k are filled: of a counted label, 1 at the nodes in whose spans its node begins; the cells after
+-- them are as they were
+pub record TipRows (ls ks : List ℕ) (n w : ℕ) (labelled begin end : List ℕ) (k : ℕ) (old new : List ℕ) : Type 0 where
   pub long : length new ≡ length old
-  pub rows : (v j : ℕ) → 1 ≤ v → v < k → 1 ≤ j → j < length ps
-      → cellAt new (length ps - 1) v (j - 1)
-      ≡ bit (countedLabel ks n (word ls v)) * bit (anc (word ps) j (word nodes (word ls v)))
-  pub rest : (c : ℕ) → (k - 1) * (length ps - 1) ≤ c → word new c ≡ word old c
+  pub rows : (v j : ℕ) → 1 ≤ v → v < k → j < w
+      → cellAt new w v j
+      ≡ bit (countedLabel ks n (word ls v))
+      * bit (inSpan (word begin (word labelled (word ls v))) (word begin (j + 1)) (word end (j + 1)))
+  pub rest : (c : ℕ) → (k - 1) * w ≤ c → word new c ≡ word old c
 
-pub rows-none : (ls ks : List ℕ) (n : ℕ) (ps nodes old : List ℕ) → TipRows ls ks n ps nodes 1 old old
-rows-none ls ks n ps nodes old = record {
+pub rows-none : (ls ks : List ℕ) (n w : ℕ) (labelled begin end old : List ℕ)
+    → TipRows ls ks n w labelled begin end 1 old old
+rows-none ls ks n w labelled begin end old = record {
   long = refl;
-  rows = λ v j o l p q. absurd (omega arith);
+  rows = λ v j o l p. absurd (omega arith);
   rest = λ c l. refl;
 }
 
@@ -118,91 +114,70 @@ next-row v w l =
 row-before : (u v w : ℕ) → u ≤ v → u * w ≤ v * w
 row-before u v w l = mul-le-mul-right w l
 
-module _ (ls ks : List ℕ) (n : ℕ) (ps nodes begin end old : List ℕ) (a : TipRoom ls n ps nodes begin end old)
-    (new : List ℕ) (v : ℕ) (o : 1 ≤ v) (l : v < length ls) (h : TipRows ls ks n ps nodes v old new) where
-  ends : (v - 1) * (length ps - 1) + (length ps - 1) ≤ (length ls - 1) * (length ps - 1)
-  ends = omega (
-    arith,
-    row-end v (length ps - 1) o,
-    row-before v (length ls - 1) (length ps - 1) (omega arith),
-  )
+module _ (ls ks : List ℕ) (n w : ℕ) (labelled begin end old : List ℕ) (a : TipRoom ls n w labelled old)
+    (new : List ℕ) (v : ℕ) (o : 1 ≤ v) (l : v < length ls) (h : TipRows ls ks n w labelled begin end v old new) where
+  ends : (v - 1) * w + w ≤ (length ls - 1) * w
+  ends = omega (arith, row-end v w o, row-before v (length ls - 1) w (omega arith))
 
   -- the row of node v is still 0
-  still : (c : ℕ) → (v - 1) * (length ps - 1) ≤ c → c < (v - 1) * (length ps - 1) + (length ps - 1)
-      → word new c ≡ 0
+  still : (c : ℕ) → (v - 1) * w ≤ c → c < (v - 1) * w + w → word new c ≡ 0
   still c p q = h .rest c p ∙ a .zeros c (omega (arith, ends))
 
-  pub base-low : (v - 1) * (length ps - 1) ≤ workRoom
+  pub base-low : (v - 1) * w ≤ workRoom
   base-low = omega (
     arith,
-    product-le nodeRoom nodeRoom (v - 1) (length ps - 1) (omega (arith, a .rows)) (omega (arith, a .few)),
+    product-le nodeRoom nodeRoom (v - 1) w (omega (arith, a .rows)) (omega (arith, a .narrow)),
   )
 
-  pub span-room : SpanRoom new ((v - 1) * (length ps - 1)) (length ps - 1)
-  span-room = record {
-    low = base-low;
-    narrow = omega (arith, a .some, a .few);
-    inside = omega (arith, ends, a .inside, h .long);
-  }
+  pub span-room : SpanRoom new ((v - 1) * w) w
+  span-room = record { low = base-low; narrow = a .narrow; inside = omega (arith, ends, a .inside, h .long) }
 
   -- no row before node v's is touched
-  earlier : (u j : ℕ) → 1 ≤ u → u < v → 1 ≤ j → j < length ps
-      → (u - 1) * (length ps - 1) + (j - 1) < (v - 1) * (length ps - 1)
-  earlier u j p q s t = omega (
-    arith,
-    row-end u (length ps - 1) p,
-    row-before u (v - 1) (length ps - 1) (omega arith),
-  )
+  earlier : (u j : ℕ) → 1 ≤ u → u < v → j < w → (u - 1) * w + j < (v - 1) * w
+  earlier u j p q s = omega (arith, row-end u w p, row-before u (v - 1) w (omega arith))
 
   -- node v is no tip, or its label is struck
-  pub rows-skip : false ≡ countedLabel ks n (word ls v) → TipRows ls ks n ps nodes (v + 1) old new
+  pub rows-skip : false ≡ countedLabel ks n (word ls v) → TipRows ls ks n w labelled begin end (v + 1) old new
   rows-skip m = record {
     long = h .long;
-    rows = λ u j p q s t. elim (ℕ-discrete u v) [
+    rows = λ u j p q s. elim (ℕ-discrete u v) [
       | yes d ↦ rw d (
-          still ((v - 1) * (length ps - 1) + (j - 1)) (omega arith) (omega arith)
-          ∙ sym (ap (λ (b : ℕ). b * bit (anc (word ps) j (word nodes (word ls v))))
+          still ((v - 1) * w + j) (omega arith) (omega arith)
+          ∙ sym (ap (λ (b : ℕ). b * bit (inSpan (word begin (word labelled (word ls v))) (word begin (j + 1)) (word end (j + 1))))
           (bit-no (countedLabel ks n (word ls v)) (λ y. subst T (sym m) y))
-          ∙ zero-mul (bit (anc (word ps) j (word nodes (word ls v))))))
-      | no d ↦ h .rows u j p (omega arith) s t
+          ∙ zero-mul (bit (inSpan (word begin (word labelled (word ls v))) (word begin (j + 1)) (word end (j + 1))))))
+      | no d ↦ h .rows u j p (omega arith) s
     ];
-    rest = λ c q. h .rest c (omega (arith, next-row v (length ps - 1) o, q));
+    rest = λ c q. h .rest c (omega (arith, next-row v w o, q));
   }
 
   -- node v is a tip whose label is kept, and its row has been filled
-  pub rows-next : (x : ℕ) → x ≡ word ls v → true ≡ countedLabel ks n x → (made : List ℕ)
-      → RowSpanned begin end (word begin (word nodes x)) ((v - 1) * (length ps - 1)) (length ps - 1) new made
-      → TipRows ls ks n ps nodes (v + 1) old made
-  rows-next x e m made g = record {
+  pub rows-next : (x : ℕ) → x ≡ word ls v → true ≡ countedLabel ks n x → (node : ℕ) → node ≡ word labelled x
+      → (made : List ℕ) → RowSpanned begin end (word begin node) ((v - 1) * w) w new made
+      → TipRows ls ks n w labelled begin end (v + 1) old made
+  rows-next x e m node en made g = record {
     long = g .long ∙ h .long;
-    rows = λ u j p q s t. elim (ℕ-discrete u v) [
+    rows = λ u j p q s. elim (ℕ-discrete u v) [
       | yes d ↦ rw d (
-          cell j s t
+          cell j s
           ∙ omega (
             arith,
-            ap (λ (b : ℕ). b * bit (anc (word ps) j (word nodes (word ls v))))
+            ap (λ (b : ℕ). b * bit (inSpan (word begin (word labelled (word ls v))) (word begin (j + 1)) (word end (j + 1))))
                 (bit-T (countedLabel ks n (word ls v)) (subst T (rw e at m) tt)),
           ))
-      | no d ↦ g .before ((u - 1) * (length ps - 1) + (j - 1)) (earlier u j p (omega arith) s t)
-          ∙ h .rows u j p (omega arith) s t
+      | no d ↦ g .before ((u - 1) * w + j) (earlier u j p (omega arith) s) ∙ h .rows u j p (omega arith) s
     ];
-    rest = λ c q. g .after c (omega (arith, next-row v (length ps - 1) o, q))
-        ∙ h .rest c (omega (arith, next-row v (length ps - 1) o, q));
+    rest = λ c q. g .after c (omega (arith, next-row v w o, q)) ∙ h .rest c (omega (arith, next-row v w o, q));
   }
     where
-      inside : word ls v < n
-      inside = omega (arith, e, counted-inside ks n x m)
+      cell : (j : ℕ) → j < w
+          → cellAt made w v j ≡ bit (inSpan (word begin (word labelled (word ls v))) (word begin (j + 1)) (word end (j + 1)))
+      cell j s =
+          g .cells j s
+          ∙ ap (λ (y : ℕ). bit (inSpan (word begin y) (word begin (j + 1)) (word end (j + 1)))) (en ∙ ap (word labelled) e)
 
-      cell : (j : ℕ) → 1 ≤ j → j < length ps
-          → cellAt made (length ps - 1) v (j - 1) ≡ bit (anc (word ps) j (word nodes (word ls v)))
-      cell j s t =
-          let k : j - 1 + 1 ≡ j = omega arith in
-          g .cells (j - 1) (omega arith)
-          ∙ ap₂ (λ (y i : ℕ). bit (inSpan (word begin (word nodes y)) (word begin i) (word end i))) e k
-          ∙ a .spans v j o l inside s t
-
-pub rows-all : (ls ks : List ℕ) (n : ℕ) (ps nodes old new : List ℕ) (v : ℕ) → v ≤ length ls → length ls ≤ v
-    → TipRows ls ks n ps nodes v old new → TipRows ls ks n ps nodes (length ls) old new
-rows-all ls ks n ps nodes old new v l m h =
+pub rows-all : (ls ks : List ℕ) (n w : ℕ) (labelled begin end old new : List ℕ) (v : ℕ) → v ≤ length ls → length ls ≤ v
+    → TipRows ls ks n w labelled begin end v old new → TipRows ls ks n w labelled begin end (length ls) old new
+rows-all ls ks n w labelled begin end old new v l m h =
     let e : v ≡ length ls = omega arith in
-    subst (λ (k : ℕ). TipRows ls ks n ps nodes k old new) e h
+    subst (λ (k : ℕ). TipRows ls ks n w labelled begin end k old new) e h

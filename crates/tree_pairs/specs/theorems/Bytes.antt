@@ -6,10 +6,10 @@ use mathlib.Core.Bool.{Bool, _&&_}
 use mathlib.Core.List.{List}
 use Prim.Native.Nat.{ℕ, zero, suc, _+_, _*_, _-_, _/_, _%_, _≤_, _<_}
 use native.Mathlib.Omega.{arith}
-use lib.ListN.{drop, List·getD-append}
 use Rattle.sums.specs.Bits.{bit}
 use Rattle.sums.specs.Counts.{count}
 use Rattle.sums.specs.theorems.CountLaws.{count-le}
+use Rattle.sums.specs.theorems.ListLaws.{in-front-at}
 use Rattle.sums.specs.theorems.Products.{bit-and}
 use Rattle.sums.specs.theorems.SumLaws.{sum-first}
 use Rattle.tree_check.specs.Table.{Table, word, tips, nodes, beyond}
@@ -20,8 +20,7 @@ use Rattle.counting.specs.SplitCounts.{beyondAt}
 use Rattle.counting.specs.theorems.KeptLaws.{kept-rising}
 use Rattle.counting.specs.theorems.TreeSplits.{zero-here}
 use Rattle.pair_check.specs.PairOrder.{cellsNeeded}
-use Rattle.tree_pairs.specs.Crossings.{edgeCrossing, inOrder, cellOf, crossed, crossedAll, crossedKept}
-use Rattle.tree_pairs.specs.theorems.CrossingLaws.{in-order-length, in-order-at}
+use Rattle.tree_pairs.specs.Crossings.{edgeCrossing, cellOf, crossed, crossedAll, crossedKept}
 
 -- a test that the first index does not pass is passed by fewer than there are
 count-less : (k : ℕ) (q : ℕ → Bool) → bit (q 0) ≡ 0 → count (suc k) q ≤ k
@@ -73,9 +72,7 @@ module _ (l : Labels) (t u : Table) (g : IsTree t) (r : Rising (tips t) l) where
   unfolding crossed cellOf
   crossed-bytes work c m = omega (
     arith,
-    List·getD-append (inOrder (cellsNeeded t u) (cellOf l t u)) (drop (cellsNeeded t u) work) 0 c
-        (omega (arith, in-order-length (cellsNeeded t u) (cellOf l t u))),
-    in-order-at (cellsNeeded t u) (cellOf l t u) c m,
+    in-front-at (cellsNeeded t u) (cellOf l t u) work c m,
     cells-are-bytes (suc (c / (nodes u - 1))) (suc (c % (nodes u - 1))) (omega arith),
   )
 

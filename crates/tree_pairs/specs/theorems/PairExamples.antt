@@ -17,7 +17,8 @@ use Rattle.counting.specs.Labels.{all}
 use Rattle.counting.specs.Kept.{keptAt, kept}
 use Rattle.counting.specs.SplitCounts.{beyondAt}
 use Rattle.pair_check.specs.PairOrder.{plus, tipsOrder, tablesOrder, workOrder, pairOrder, cellsNeeded}
-use Rattle.tree_pairs.specs.Crossings.{edgeCrossing, inOrder, cellOf}
+use Rattle.sums.specs.Lists.{inOrder}
+use Rattle.tree_pairs.specs.Crossings.{edgeCrossing, cellOf}
 
 -- for P and Q 41 cells give 9, and 42 are enough; a mark too few or too many and a mark of 2 give 32, before 9; then 8, a
 -- refused second table, and a refused first one

@@ -16,6 +16,7 @@ use Rattle.tree_check.specs.IsTree.{IsTree}
 use Rattle.tree_check.specs.TreeOrder.{treeOrder}
 use Rattle.tree_check.specs.theorems.TreeCheck.{tree-numbered, tree-kept, kept-tree}
 use Rattle.walks.specs.WalkOrders.{roomOrder, walkOrder, edgeOrder}
+use Rattle.walks.specs.Spans.{listsOrder, spansOrder}
 
 module _ (t : Table) (rs : List Rule) where
   -- rules after the tree check
@@ -65,3 +66,26 @@ edge-check t i cells =
   where
     positive : (i : ℕ) → i ≢ 0 → 1 ≤ i
     positive i d = omega arith
+
+pub lists-check : (labelled begins ends n m : ℕ) → (refusal (listsOrder labelled begins ends n m) ≡ 0)
+    ↔ ((n ≤ labelled) × (m ≤ begins) × (m ≤ ends))
+lists-check labelled begins ends n m =
+    let r = accepted (listsOrder labelled begins ends n m) (omega arith, (omega arith, (omega arith, tt))) in
+    let a = not-lt-iff labelled n in
+    let b = not-lt-iff begins m in
+    let c = not-lt-iff ends m in (
+      λ e. let k = r .0 e in (a .0 (k .0), b .0 (k .1 .0), c .0 (k .1 .1 .0)),
+      λ h. r .1 (a .1 (h .0), (b .1 (h .1), (c .1 (h .2), tt))),
+    )
+
+pub spans-check : (t : Table) (labelled begins ends : ℕ) → (refusal (spansOrder t labelled begins ends) ≡ 0)
+    ↔ (IsTree t × (tips t ≤ labelled) × (nodes t ≤ begins) × (nodes t ≤ ends))
+unfolding spansOrder
+spans-check t labelled begins ends =
+    let rs = listsOrder labelled begins ends (tips t) (nodes t) in
+    let r = after-tree t rs (omega arith, (omega arith, (omega arith, tt))) in
+    let a = accepted rs (omega arith, (omega arith, (omega arith, tt))) in
+    let s = lists-check labelled begins ends (tips t) (nodes t) in (
+      λ e. let k = r .0 e in let l = s .0 (a .1 (k .1)) in (k .0, l .0, l .1, l .2),
+      λ h. r .1 (h .0, a .0 (s .1 (h .1, h .2, h .3))),
+    )

@@ -8,12 +8,12 @@ use borrow.Author.Needs.{needs}
 use Rattle.pair_file.proofs.comparison.compare_words.Statement.{statement}
 use Rattle.pair_file.proofs.comparison.compare_words.Tie as tie
 
-first-length-requires : tie.Need-first-length-requires
-first-length-requires c κs = search needs
+table-length-requires : tie.Need-table-length-requires
+table-length-requires c κs = search needs
 
 slice-aggregate-compare-tables : tie.Need-slice-aggregate-compare-tables
 slice-aggregate-compare-tables c =
-    sym (length-take-le _ _ (omega (arith, c .before .first-length .ensures .1)))
+    sym (length-take-le _ _ (omega (arith, c .before .table-length .ensures .1)))
 
 mul-compare-tables : tie.Need-mul-compare-tables
 mul-compare-tables c = search needs
@@ -32,7 +32,7 @@ compare-tables-requires c κs = search needs
 
 returns : tie.Need-returns
 returns c =
-    let f = c .before .before .before .first-length in
+    let f = c .before .before .before .table-length in
     let a = c .before .before .before .before .before .args in
     c .compare-tables .ensures ∙ parts-compared (a .words .now) (f .result) (f .ensures .0)
 
@@ -40,7 +40,7 @@ pub compare-words-spec : {M : Type 1} → statement M
 compare-words-spec =
     tie.close
     (tie.spec
-    first-length-requires
+    table-length-requires
     slice-aggregate-compare-tables
     mul-compare-tables
     sub-compare-tables

@@ -7,7 +7,6 @@ use mathlib.Core.Logic.{⊎-elim}
 use native.Mathlib.Omega.{arith}
 use lib.ListN.{length}
 use Rattle.table_words.specs.Sizes.{nodeRoom}
-use Rattle.tree_check.specs.Table.{word}
 use Rattle.tree_pairs.specs.lemmas.TipRows.{countedLabel, counted-inside, TipRows, rows-none, base-low, span-room}
 use Rattle.tree_pairs.specs.lemmas.TipRows.{rows-skip, rows-next, rows-all}
 use borrow.Author.Needs.{needs}
@@ -15,23 +14,23 @@ use Rattle.tree_pairs.proofs.rows_of_tips.tip_rows.Statement.{statement
 use Rattle.tree_pairs.proofs.rows_of_tips.tip_rows.Tie as tie
 
 abbrev Inv-loop : tie.InvT-loop
-Inv-loop labels marks n parents nodes begin end work₀ width v₀ work v =
-    (1 ≤ v) × (v ≤ length labels) × TipRows labels marks n parents nodes v work₀ work
+Inv-loop labels marks n width labelled begin end work₀ v₀ work v =
+    (1 ≤ v) × (v ≤ length labels) × TipRows labels marks n width labelled begin end v work₀ work
 
 abbrev μ-loop : tie.MeasureT-loop
-μ-loop labels marks n parents nodes begin end work₀ width v₀ work v = length labels - v
+μ-loop labels marks n width labelled begin end work₀ v₀ work v = length labels - v
 
 -- ---- the points of the program
 
 abbrev start : tie.In-loop Inv-loop μ-loop → tie.Start Inv-loop μ-loop
-start c = c .before .before .before .before .before .before
+start c = c .before .before .before .before .before
 
 abbrev turn : tie.After-as-index Inv-loop μ-loop → tie.In-loop Inv-loop μ-loop
 turn c = c .before .before
 
 -- the node of a counted label is found
-abbrev label-read : tie.After-node Inv-loop μ-loop → tie.After-as-index Inv-loop μ-loop
-label-read c = c .before .before .before
+abbrev label-read : tie.After-as-index2 Inv-loop μ-loop → tie.After-as-index Inv-loop μ-loop
+label-read c = c .before .before .before .before
 
 -- ---- what is known there
 
@@ -40,29 +39,20 @@ label-inside : (c : tie.After-is-counted Inv-loop μ-loop) → c .is-counted .re
     → c .before .as-index .result < start (turn (c .before)) .args .n
 label-inside c e = counted-inside _ _ _ (sym e ∙ c .is-counted .ensures)
 
--- .. and its node one of the second tree's
-node-inside : (c : tie.After-node Inv-loop μ-loop)
-    → word (start (turn (label-read c)) .args .nodes .now) (label-read c .as-index .result) < nodeRoom
+-- .. and its node has a span
+node-inside : (c : tie.After-as-index2 Inv-loop μ-loop) → c .as-index2 .result < nodeRoom
 node-inside c =
-    let w = label-read c in
-    let l = turn w in
-    let s = start l in
-    let e = w .as-index .ensures .0 in
-    let i = label-inside (c .before .before) (c .before .if1 .taken) in
+    let i = c .before .before in
     omega (
       arith,
-      ap (word (s .args .nodes .now)) e,
-      s .pre .node (l .before .loop .v) (l .before .loop .inv .0) (l .loop-test .taken) (omega (arith, e, i)) .1,
-      s .pre .few,
+      c .as-index2 .ensures .0,
+      start (turn (label-read c)) .pre .node _ (label-inside (i .before) (i .if1 .taken)),
     )
 
 -- ---- the needs
 
-sub-width : tie.Need-sub-width Inv-loop μ-loop
-sub-width c = search needs
-
 loop-holds : tie.Need-loop-holds Inv-loop μ-loop
-loop-holds c = (omega arith, c .before .before .before .before .pre .rows .0, rows-none _ _ _ _ _ _)
+loop-holds c = (omega arith, c .before .before .before .pre .rows .0, rows-none _ _ _ _ _ _ _ _)
 
 mul-as-index : tie.Need-mul-as-index Inv-loop μ-loop
 mul-as-index c = search needs
@@ -76,11 +66,15 @@ as-index-requires c κs = search needs
 is-counted-requires : tie.Need-is-counted-requires Inv-loop μ-loop
 is-counted-requires c κs = search needs
 
-mul-node : tie.Need-mul-node Inv-loop μ-loop
-mul-node c = search needs
+mul-as-index-2 : tie.Need-mul-as-index-2 Inv-loop μ-loop
+mul-as-index-2 c = omega (arith, label-inside (c .before) (c .if1 .taken), start (turn (c .before .before)) .pre .tips)
 
-element-copy-out-node : tie.Need-element-copy-out-node Inv-loop μ-loop
-element-copy-out-node c = omega (arith, label-inside (c .before) (c .if1 .taken), start (turn (c .before .before)) .pre .tips)
+element-copy-out-as-index : tie.Need-element-copy-out-as-index Inv-loop μ-loop
+element-copy-out-as-index c =
+    omega (arith, label-inside (c .before) (c .if1 .taken), start (turn (c .before .before)) .pre .tips)
+
+as-index-requires-2 : tie.Need-as-index-requires-2 Inv-loop μ-loop
+as-index-requires-2 c κs = search needs
 
 sub-tip-row : tie.Need-sub-tip-row Inv-loop μ-loop
 sub-tip-row c = search needs
@@ -120,8 +114,8 @@ loop-again c =
       omega (arith, t .loop-test .taken),
       omega (arith, t .loop-test .taken),
       ⊎-elim
-          (λ h. rw (h .7) (rows-next _ _ _ _ _ _ _ _ (s .pre) _ (l .v) (l .inv .0) (t .loop-test .taken) (l .inv .2)
-          (w .as-index .result) (w .as-index .ensures .0) (sym (h .0 .taken) ∙ q) _ (h .4 .ensures)))
+          (λ h. rw (h .8) (rows-next _ _ _ _ _ _ _ _ (s .pre) _ (l .v) (l .inv .0) (t .loop-test .taken) (l .inv .2)
+          (w .as-index .result) (w .as-index .ensures .0) (sym (h .0 .taken) ∙ q) _ (h .2 .ensures .0) _ (h .5 .ensures)))
           (λ h. rw (h .1) (rows-skip _ _ _ _ _ _ _ _ (s .pre) _ (l .v) (l .inv .0) (t .loop-test .taken) (l .inv .2)
           (sym (h .0 .left) ∙ q ∙ ap (countedLabel (s .args .marks .now) (s .args .n)) (w .as-index .ensures .0))))
           (c .if1 .came),
@@ -133,7 +127,7 @@ same-length c = search needs
 returns : tie.Need-returns Inv-loop μ-loop
 returns c =
     let l = c .before .loop in
-    rows-all _ _ _ _ _ _ _ (l .v) (l .inv .1) (c .loop-test .left) (l .inv .2)
+    rows-all _ _ _ _ _ _ _ _ _ (l .v) (l .inv .1) (c .loop-test .left) (l .inv .2)
 
 pub tip-rows-spec : {M : Type 1} → statement M
 tip-rows-spec =
@@ -141,14 +135,14 @@ tip-rows-spec =
     (tie.spec
     Inv-loop
     μ-loop
-    sub-width
     loop-holds
     mul-as-index
     shared-slice-read-as-index
     as-index-requires
     is-counted-requires
-    mul-node
-    element-copy-out-node
+    mul-as-index-2
+    element-copy-out-as-index
+    as-index-requires-2
     sub-tip-row
     mul-tip-row
     element-copy-out-tip-row

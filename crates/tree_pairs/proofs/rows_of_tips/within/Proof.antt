@@ -3,7 +3,7 @@
 use mathlib.Core.Path.{sym}
 use native.Mathlib.Omega.{arith}
 use Rattle.sums.specs.theorems.BitLaws.{bit-T, bit-no}
-use Rattle.tree_pairs.specs.lemmas.Spans.{inSpan, in-span-iff}
+use Rattle.walks.specs.theorems.SpanLaws.{inSpan, in-span-iff}
 use Rattle.tree_pairs.proofs.rows_of_tips.within.Statement.{statement}
 use Rattle.tree_pairs.proofs.rows_of_tips.within.Tie as tie
 

@@ -1,5 +1,8 @@
 -- The nodes of the three labels are nodes, so they can climb.
 -- Assumes nothing.
+use mathlib.Core.Path.{_∙_}
+use native.Mathlib.Nat.{mod-eq-of-lt}
+use native.Mathlib.Omega.{arith}
 use Rattle.trees.specs.lemmas.CentreOutcomes.{centreOver}
 use Rattle.trees.specs.lemmas.RootedArrays.{node-found}
 use borrow.Author.Needs.{needs}
@@ -27,12 +30,15 @@ join-requires c κs =
       lc = found (s .args .c) _ (c .node-of3 .ensures);
     }
 
-narrow-requires : tie.Need-narrow-requires
-narrow-requires c κs = search needs
+as-word-requires : tie.Need-as-word-requires
+as-word-requires c κs = search needs
 
 returns : tie.Need-returns
 unfolding centreOver
-returns c = cc
+returns c =
+    let j = c .before .join .ensures in
+    let few = c .before .before .before .before .before .before .before .pre .few in
+    c .as-word .ensures ∙ mod-eq-of-lt (omega (arith, j .1, few)) ∙ j .0 ∙ cc
 
 pub centre-node-spec : {M : Type 1} → statement M
 centre-node-spec =
@@ -42,5 +48,5 @@ centre-node-spec =
     node-of-requires-2
     node-of-requires-3
     join-requires
-    narrow-requires
+    as-word-requires
     returns)

@@ -55,22 +55,19 @@ array-read-from c =
 sub-from : tie.Need-sub-from
 sub-from c = bounds c .0
 
-narrow-requires : tie.Need-narrow-requires
-narrow-requires c κs =
-    let s = start c in
-    omega (arith, bounds c, few-tips _ _ _ (s .pre .0))
+as-word-requires : tie.Need-as-word-requires
+as-word-requires c κs = search needs
 
-narrow-requires-2 : tie.Need-narrow-requires-2
-narrow-requires-2 c κs =
-    let s = start (c .before) in
-    omega (arith, bounds (c .before), few-tips _ _ _ (s .pre .0))
+as-word-requires-2 : tie.Need-as-word-requires-2
+as-word-requires-2 c κs = search needs
 
 returns : tie.Need-returns
 returns c =
     let b = c .before .before in
     let s = start b in
     place-between _ _ _ (s .pre .0) _ _ (sized b .sizes .ensures) (b .ends .ensures) (s .args .i) (s .pre .1)
-    _ _ (c .narrow2 .ensures) (omega (arith, c .before .narrow .ensures, c .narrow2 .ensures))
+    _ _ (omega (arith, c .as-word2 .ensures, bounds b, few-tips _ _ _ (s .pre .0)))
+    (omega (arith, c .before .as-word .ensures, c .as-word2 .ensures, bounds b, few-tips _ _ _ (s .pre .0)))
 
 pub part-of-spec : {M : Type 1} → statement M
 part-of-spec =
@@ -83,6 +80,6 @@ part-of-spec =
     mul-from
     array-read-from
     sub-from
-    narrow-requires
-    narrow-requires-2
+    as-word-requires
+    as-word-requires-2
     returns)

@@ -1,16 +1,15 @@
 -- The labels beyond a node stand side by side in the walk: a tip is at or below the node exactly where its place lies in the
--- node's span. Places are counted from the one after label 0's, so that each of them fits a byte.
+-- node's span.
 -- Assumes nothing.
 use mathlib.Core.Path.{_≡_, refl, sym, _∙_, ap}
 use mathlib.Core.Bool.{Bool, _&&_}
 use mathlib.Core.List.{List}
-use mathlib.Core.Logic.{_↔_, inl, inr}
+use mathlib.Core.Logic.{_↔_, _≢_, inl, inr}
 use Prim.Native.Nat.{ℕ, zero, suc, _+_, _-_, _≤_, _<_}
 use native.Mathlib.Omega.{arith}
 use lib.Dec.{T, eqb, leb, ltb, T-not}
-use lib.ListN.{length, set, replicate, drop, length-set, length-replicate}
-use lib.Seq.{getD-take, getD-drop, getD-set-same}
-use Rattle.table_words.specs.Sizes.{tipsMost, nodeRoom}
+use lib.ListN.{length, drop}
+use lib.Seq.{getD-take, getD-drop}
 use Rattle.sums.specs.Bits.{bit}
 use Rattle.sums.specs.theorems.BitLaws.{bit-T, bit-no, bit-le}
 use Rattle.sums.specs.theorems.CountLaws.{count-pos, count-none, count-once}
@@ -18,17 +17,14 @@ use Rattle.sums.specs.theorems.TestLaws.{T-dec, and-iff, eq-iff, le-iff, lt-iff
 use Rattle.shapes.specs.theorems.AncestorLaws.{up-ind}
 use Rattle.tree_check.specs.Table.{Table, word, tips, nodes, parent, label, nodeOf, beyond}
 use Rattle.tree_check.specs.IsTree.{IsTree}
-use Rattle.tree_check.specs.lemmas.TableParts.{tableOf, nodes-of}
 use Rattle.tree_check.specs.TreeOrder.{standing}
 use Rattle.tree_check.specs.theorems.RootedTables.{rooted}
 use Rattle.walks.specs.Walk.{own, walk, below, start, part}
+use Rattle.walks.specs.Spans.{spanBegin, spanEnd}
 use Rattle.walks.specs.theorems.NodeLabels.{node-at}
 use Rattle.walks.specs.theorems.WalkFrom.{own-length}
 use Rattle.walks.specs.theorems.WalkLaws.{start-suc, walk-once, part-fits, part-length, part-holds, walk-length}
 use Rattle.walks.specs.theorems.Reach.{walk-at}
-use Rattle.walks.specs.lemmas.TreeArrays.{TreeArrays, few-tips}
-use Rattle.walks.specs.lemmas.Positions.{Sizes, Ends, Reached, reached-first, part-bounds}
-use Rattle.tree_pairs.specs.lemmas.Listed.{Listed}
 
 -- place p lies in the span from b to before e
 unfoldable pub inSpan : ℕ → ℕ → ℕ → Bool
@@ -41,17 +37,11 @@ in-span-iff p b e = let a = and-iff (leb b p) (ltb p e) in (
   λ h. a .1 (le-iff b p .1 (h .0), lt-iff p e .1 (h .1)),
 )
 
--- where node v's labels begin and end, after label 0
-abbrev pub spanBegin : Table → ℕ → ℕ
-spanBegin t v = start t v - 1
-
-abbrev pub spanEnd : Table → ℕ → ℕ
-spanEnd t v = start t v + below t v - 1
-
--- the spans of all nodes but node 0
-pub record SpansOf (t : Table) (begin end : List ℕ) : Type 0 where
-  pub begins : Listed (spanBegin t) (nodes t) begin
-  pub ends : Listed (spanEnd t) (nodes t) end
+-- what the lists of spans hold
+pub record SpansOf (t : Table) (labelled begin end : List ℕ) : Type 0 where
+  pub node : (x : ℕ) → x < tips t → word labelled x ≡ nodeOf t x
+  pub begins : (v : ℕ) → v < nodes t → word begin v ≡ spanBegin t v
+  pub ends : (v : ℕ) → v < nodes t → word end v ≡ spanEnd t v
 
 module _ (t : Table) (g : IsTree t) where
   -- node 0 is a tip and begins the walk, so every other node comes after its label
@@ -124,12 +114,20 @@ module _ (t : Table) (g : IsTree t) where
             let o = only-place (start t i + k) (omega (arith, part-fits t g i li)) (sym (part-cell k l) ∙ h) in
             in-span-iff p (start t i) (start t i + below t i) .1 (omega (arith, o, e), omega (arith, o, e, l))
 
-  -- the same of listed spans: x lies beyond node j exactly where its node begins in the span of node j
-  module _ (begin end : List ℕ) (s : SpansOf t begin end) where
-    pub listed-span : (x j : ℕ) → x < tips t → 1 ≤ nodeOf t x → 1 ≤ j → j < nodes t
-        → bit (inSpan (word begin (nodeOf t x)) (word begin j) (word end j)) ≡ bit (beyond t j x)
-    listed-span x j lx o oj lj =
-        rw (s .begins .at (nodeOf t x) o (node-at t g x lx .0), s .begins .at j oj lj, s .ends .at j oj lj) (
+  -- a label but 0 is not that of node 0
+  pub node-after : (x : ℕ) → x < tips t → x ≢ 0 → 1 ≤ nodeOf t x
+  node-after x l d = positive (nodeOf t x) (λ z. d (sym (node-at t g x l .1) ∙ ap (label t) z ∙ g .root-label))
+    where
+      positive : (k : ℕ) → k ≢ 0 → 1 ≤ k
+      positive k d = omega arith
+
+  -- the same of listed spans: a label but 0 lies beyond node j exactly where its node begins in the span of node j
+  module _ (labelled begin end : List ℕ) (s : SpansOf t labelled begin end) where
+    pub listed-span : (x j : ℕ) → x < tips t → x ≢ 0 → 1 ≤ j → j < nodes t
+        → bit (inSpan (word begin (word labelled x)) (word begin j) (word end j)) ≡ bit (beyond t j x)
+    listed-span x j lx d oj lj =
+        let o = node-after x lx d in
+        rw (s .node x lx, s .begins (nodeOf t x) (node-at t g x lx .0), s .begins j lj, s .ends j lj) (
         shifted (start t (nodeOf t x)) (start t j) (start t j + below t j)
         (start-after (nodeOf t x) o) (start-after j oj) (omega (arith, start-after j oj))
         ∙ beyond-span j x lj lx (start t (nodeOf t x)) refl)
@@ -145,34 +143,3 @@ module _ (t : Table) (g : IsTree t) where
               T-not (inSpan p b e) n (in-span-iff p b e .1 (omega (arith, r), omega (arith, r))))
               ∙ sym (bit-no (inSpan p b e) (T-not (inSpan p b e) n))
         ]
-
--- ---- the spans listed from sizes and ends
-
--- node 0 is a tip and begins the walk, whatever the other cells hold
-pub reached-one : (n : ℕ) (ps ls : List ℕ) → TreeArrays n ps ls → (cells : List ℕ) → length cells ≡ nodeRoom
-    → Reached (tableOf n ps ls) 1 (set cells 0 1)
-reached-one n ps ls a cells l = record {
-  long = length-set cells 0 1 ∙ l;
-  reached = λ v m. let e : v ≡ 0 = omega arith in
-      rw e (getD-set-same cells 0 1 0 (omega (arith, l))
-      ∙ sym (getD-set-same {A = ℕ} (replicate nodeRoom 0) 0 1 0 (omega (arith, length-replicate {A = ℕ} nodeRoom 0)))
-      ∙ reached-first n ps ls a .reached 0 (omega arith));
-}
-
-module _ (n : ℕ) (ps ls : List ℕ) (a : TreeArrays n ps ls) (size end : List ℕ)
-    (z : Sizes (tableOf n ps ls) size) (e : Ends (tableOf n ps ls) end) (v : ℕ) (o : 1 ≤ v) (l : v < length ps) where
-  node : v < nodes (tableOf n ps ls)
-  node = omega (arith, nodes-of n ps ls)
-
-  pub span-fits : (word size v + 1 ≤ word end v) × (word end v ≤ tipsMost)
-  span-fits =
-      let s = z .sizes v node in
-      let f = e .ends v node in
-      let b = part-bounds n ps ls a size end z e v l in
-      (omega (arith, start-after (tableOf n ps ls) (a .tree) v o), omega (arith, few-tips n ps ls a))
-
-  pub span-begin : word end v - word size v - 1 ≡ spanBegin (tableOf n ps ls) v
-  span-begin = omega (arith, z .sizes v node, e .ends v node)
-
-  pub span-end : word end v - 1 ≡ spanEnd (tableOf n ps ls) v
-  span-end = omega (arith, z .sizes v node, e .ends v node)

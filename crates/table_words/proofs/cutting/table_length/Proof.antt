@@ -1,15 +1,15 @@
 -- The three ways to cut, each the outcome of a law.
 -- Assumes nothing.
 use native.Mathlib.Omega.{arith}
-use Rattle.pair_file.specs.lemmas.FileWords.{first-few, first-short, first-whole}
+use Rattle.table_words.specs.lemmas.CutWords.{length-few, length-short, length-whole}
 use borrow.Author.Needs.{needs}
-use Rattle.pair_file.proofs.words.first_length.Statement.{statement}
-use Rattle.pair_file.proofs.words.first_length.Tie as tie
+use Rattle.table_words.proofs.cutting.table_length.Statement.{statement}
+use Rattle.table_words.proofs.cutting.table_length.Tie as tie
 
 returns : tie.Need-returns
 returns c =
     let a = c .before .before .args in
-    (first-few (a .words .now) (c .if1 .taken), omega arith)
+    (length-few (a .words .now) (c .if1 .taken), omega arith)
 
 shared-slice-read-as-index : tie.Need-shared-slice-read-as-index
 shared-slice-read-as-index c = search needs
@@ -28,16 +28,16 @@ returns-2 c =
     let w = c .before .as-index in
     let i = c .before .before .before in
     let a = i .before .before .args in
-    (first-short (a .words .now) (w .result) (w .ensures .0) (omega arith) (c .if2 .taken), omega arith)
+    (length-short (a .words .now) (w .result) (w .ensures .0) (omega arith) (c .if2 .taken), omega arith)
 
 returns-3 : tie.Need-returns-3
 returns-3 c =
     let w = c .before .as-index in
     let i = c .before .before .before in
     let a = i .before .before .args in
-    (first-whole (a .words .now) (w .result) (w .ensures .0) (omega arith) (omega arith), omega arith)
+    (length-whole (a .words .now) (w .result) (w .ensures .0) (omega arith) (omega arith), omega arith)
 
-pub first-length-spec : {M : Type 1} → statement M
-first-length-spec =
+pub table-length-spec : {M : Type 1} → statement M
+table-length-spec =
     tie.close
     (tie.spec returns shared-slice-read-as-index as-index-requires mul-whole add-whole returns-2 returns-3)
