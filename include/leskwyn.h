@@ -23,14 +23,14 @@
  *   - For i >= 2, node i's parent is at least 1 and less than i.
  *   - A tip's label is 0 to n - 1, each standing once. LESKWYN_INNER marks an inner node.
  *   - A tip other than node 0 has no child. An inner node has one child or more; with one it is a pass-through node,
- *     which changes no count and no distance.
+ *     and a table with it taken out has the same counts and distances.
  * Edge i (1 to m - 1) joins node i to its parent; the labels beyond it are those on node i's side, away from tip 0.
  *
  * Work. A call that counts two trees is lent cells of one byte each, one for each edge of the first tree with each edge
  * of the second: how many labels lie beyond both edges. They are 255 at most, since tip 0 lies beyond no edge.
  *
  * Marks. n bytes, one for each label from 0 on: LESKWYN_KEPT, 1, or LESKWYN_STRUCK, 0. A call that takes marks counts
- * kept labels only, in its cells too: its figures are those of the two trees without the tips of the struck labels. Any
+ * kept labels only, in its cells too: its figures are those of the two trees cut down to the kept labels. Any
  * labels may be struck, tip 0 and even all of them; fewer than four kept labels give zero counts. With all marks 1 all
  * labels count. leskwyn_triplet_table and leskwyn_evidence take no marks and know all labels.
  *

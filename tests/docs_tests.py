@@ -10,6 +10,7 @@ edit; all pages name files. A pointer that leads nowhere fails here.
 import pathlib
 import re
 import subprocess
+import typing
 import unittest
 
 ROOT = pathlib.Path(__file__).resolve().parent.parent
@@ -73,8 +74,39 @@ class Definitions(unittest.TestCase):
                     self.assertRegex(content, rf"(?m)^ *(?:\w+ )*{re.escape(one)}(?= [:(])")
 
 
+class Definition(typing.NamedTuple):
+    """A name that a file of definitions declares: crates/CRATE/specs/FILE.antt."""
+    crate: str
+    file: str
+    name: str
+
+
+def imported(lines: str) -> dict[str, tuple[str, str, str]]:
+    """What each `use` of the crates' own specs brings in: its name here, and the crate, the file and the name there."""
+    found = {}
+    for crate, file, names in re.findall(r"(?m)^(?:ghost )?use Rattle·(\w+)(?:·specs\.specs|\.specs)\.([\w.]+)\.\{([^}]*)\};?$", lines):
+        for name in names.split(", "):
+            there, _, here = name.partition(" as ")
+            found[here or there] = (crate, file, there)
+    return found
+
+
+def blocks(content: str) -> dict[str, str]:
+    """The text of each definition of a file, by its name."""
+    found: dict[str, str] = {}
+    name = ""
+    for line in content.split("\n"):
+        begins = re.match(r"(?:unfoldable |abbrev )?(?:pub )?(?:record |data )?(\S+)(?= [:(])", line)
+        if begins and not line.startswith(("use ", "--")):
+            name = begins.group(1)
+        if name and not line.startswith("--"):
+            found[name] = found.get(name, "") + line.partition(" --")[0] + "\n"
+    return found
+
+
 class Believed(unittest.TestCase):
-    """docs/DEFINITIONS.md links each file of definitions once, and such a file has no proof."""
+    """docs/DEFINITIONS.md links each file of definitions once. Such a file has no proof, imports files of definitions alone
+    beside the toolchain's library, and each of its definitions is one that a public contract rests on."""
 
     def setUp(self) -> None:
         self.files = [path for path in sorted(ROOT.glob("crates/*/specs/*.antt"))
@@ -88,6 +120,42 @@ class Believed(unittest.TestCase):
         for path in self.files:
             with self.subTest(file=path.relative_to(ROOT)):
                 self.assertNotRegex(path.read_text(encoding="utf-8"), r"(?m)^(?:pub )?(?!record |data )[^\s:({]+ :")
+
+    def test_imports(self) -> None:
+        known = {(path.parts[-3], path.stem) for path in self.files}
+        for path in self.files:
+            for line in re.findall(r"(?m)^use Rattle·.*$", path.read_text(encoding="utf-8")):
+                with self.subTest(file=path.relative_to(ROOT), line=line):
+                    crate, file = re.match(r"use Rattle·(\w+)(?:·specs\.specs|\.specs)\.(\w+)", line).groups()
+                    self.assertTrue(file == "declared" or (crate, file) in known or not (ROOT / "crates" / crate).exists())
+
+    def test_rested_on(self) -> None:
+        told, uses = {}, {}
+        for path in self.files:
+            content = path.read_text(encoding="utf-8")
+            uses[path.parts[-3], path.stem] = imported(content)
+            for name, block in blocks(content).items():
+                told[Definition(path.parts[-3], path.stem, name)] = WORD.findall(block)
+        reached: set[Definition] = set()
+        ahead = [Definition(*place) for path in sorted(ROOT.glob("crates/*/src/**/*.rt")) for place in contracts(path)]
+        while ahead:
+            one = ahead.pop()
+            if one in reached or one not in told:
+                continue
+            reached.add(one)
+            known = uses[one.crate, one.file]
+            ahead += [Definition(*known[word]) for word in told[one] if word in known]
+            ahead += [Definition(one.crate, one.file, word) for word in told[one]]
+        self.assertGreater(len(reached), 250)
+        self.assertEqual(set(told) - reached, set())
+
+
+def contracts(path: pathlib.Path) -> list[tuple[str, str, str]]:
+    """What the contracts of a file's public functions name, by `ghost use`."""
+    content = path.read_text(encoding="utf-8")
+    known = imported(content)
+    said = re.findall(r'(?ms)^pub (?:extern "C" )?fn .*?\n\{\n', content)
+    return [known[word] for one in said for word in WORD.findall(one) if word in known]
 
 
 class Sections(unittest.TestCase):

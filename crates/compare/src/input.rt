@@ -1,7 +1,8 @@
 // Standard input, read to its end or to a failure. Only a read that answers 0 is the end.
 ghost use mathlib.Core.Path.{_≡_};
 ghost use lib.ListN.{length};
-ghost use Rattle.compare.specs.Input.{answered, Within};
+ghost use Rattle.compare.specs.Input.{Within};
+ghost use Rattle.compare.specs.lemmas.InputLaws.{answered};
 
 // How many bytes came; or that a read failed.
 pub enum Input {

@@ -18,12 +18,9 @@ use Rattle.pair_check.specs.PairOrder.{cellsOrder}
 use Rattle.listings.specs.declared.figures.Figures.{Figures}
 use Rattle.listings.specs.Listing.{ofRefusal}
 
--- the most bytes of a file, and the most words
+-- the most bytes of a file
 abbrev pub bytesMost : ℕ
 bytesMost = 1016
-
-abbrev pub wordsMost : ℕ
-wordsMost = 508
 
 -- the work cells that each count of a file is lent
 abbrev pub cellsLent : ℕ

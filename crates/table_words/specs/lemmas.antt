@@ -1,1 +1,2 @@
 pub mod CutWords
+pub mod Rooms

@@ -1,8 +1,8 @@
 // The words of tables and the cells of the work: their sizes, and the numbers that code makes of them.
 // specs/Sizes has the same sizes for contracts.
 mod cutting; // cutting.rt: how many words a table takes of those that begin with it
-pub use cutting::table_length;
 
+pub use cutting::table_length;
 ghost use mathlib.Core.Path.{_≡_};
 ghost use Prim.Native.Nat.{_%_, _≤_, _<_};
 ghost use Rattle.table_words.specs.Sizes.{cellMost};

@@ -44,16 +44,7 @@ fn fill_arrays(
     let mut begin = [0; NODES];
     let mut end = [0; NODES];
     spans(second, &mut labelled, &mut begin, &mut end);
-    tip_rows(
-        first_labels,
-        marks,
-        n,
-        width,
-        &labelled,
-        &begin,
-        &end,
-        work,
-    );
+    tip_rows(first_labels, marks, n, width, &labelled, &begin, &end, work);
     add_rows(first_parents, work, width);
 }
 
@@ -67,14 +58,7 @@ pub(crate) fn fill(first: &[u16], second: &[u16], marks: &[u8], work: &mut [Cell
 {
     let n = as_index(first[0]);
     let m = as_index(first[1]);
-    fill_arrays(
-        &first[2..2 + m],
-        &first[2 + m..],
-        second,
-        marks,
-        n,
-        work,
-    );
+    fill_arrays(&first[2..2 + m], &first[2 + m..], second, marks, n, work);
 }
 
 // The crossings of two tables that were checked, into their cells: of all labels.

@@ -5,7 +5,8 @@ use mathlib.Core.List.{List}
 use Prim.Native.Nat.{ℕ, zero, suc, _*_, _-_, _≤_, _<_}
 use native.Mathlib.Omega.{arith}
 use lib.ListN.{length}
-use Rattle.table_words.specs.Sizes.{tipsMost, workRoom}
+use Rattle.table_words.specs.Sizes.{tipsMost}
+use Rattle.table_words.specs.lemmas.Rooms.{workRoom}
 use Rattle.tree_check.specs.Table.{word}
 
 -- Edge r has its size in cell r * step. The i-th code into a node belongs to edge r i: the node's own edge first, which

@@ -6,7 +6,7 @@ use Prim.Native.Nat.{ℕ, suc, _+_, _-_, _≤_, _<_}
 use native.Mathlib.Omega.{arith}
 use lib.ListN.{length, take}
 use lib.Seq.{getD-take, length-take-le}
-use Rattle.table_words.specs.Sizes.{startRoom}
+use Rattle.table_words.specs.lemmas.Rooms.{startRoom}
 use Rattle.tree_check.specs.Table.{word}
 use Rattle.code_lists.specs.ListedCodes.{degreeAt, innerCount, nodesSeen, innerCell}
 use Rattle.code_lists.specs.lemmas.CodesAt.{Parents, Starts, starts-suc}

@@ -7,7 +7,7 @@ use native.Mathlib.Numerals.{add-one}
 use native.Mathlib.Omega.{arith}
 use lib.ListN.{length, take, drop, length-drop}
 use lib.Seq.{getD-take, getD-drop, length-take-le}
-use Rattle.table_words.specs.Sizes.{codeRoom}
+use Rattle.table_words.specs.lemmas.Rooms.{codeRoom}
 use Rattle.tree_check.specs.Table.{word}
 use Rattle.code_lists.specs.ListedCodes.{degreeAt, codesBefore}
 use Rattle.code_lists.specs.lemmas.CodesAt.{Parents, Starts, EdgeList}

@@ -8,7 +8,8 @@ use native.Mathlib.Numerals.{add-one}
 use native.Mathlib.Omega.{arith}
 use lib.ListN.{length, set, replicate, length-set, length-replicate, getD-replicate}
 use lib.Seq.{getD-set-same, getD-set-other}
-use Rattle.table_words.specs.Sizes.{codeRoom, nodeRoom}
+use Rattle.table_words.specs.Sizes.{nodeRoom}
+use Rattle.table_words.specs.lemmas.Rooms.{codeRoom}
 use Rattle.sums.specs.Sum.{sum}
 use Rattle.sums.specs.theorems.BitLaws.{is-eq, is-other}
 use Rattle.shapes.specs.Directions.{head}

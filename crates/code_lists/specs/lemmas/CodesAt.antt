@@ -7,7 +7,8 @@ use Prim.Native.Nat.{ℕ, zero, suc, _+_, _*_, _-_, _/_, _≤_, _<_}
 use native.Mathlib.Nat.{eq-or-lt-of-le}
 use native.Mathlib.Omega.{arith}
 use lib.ListN.{length}
-use Rattle.table_words.specs.Sizes.{codeRoom, nodesMost, startRoom}
+use Rattle.table_words.specs.Sizes.{nodesMost}
+use Rattle.table_words.specs.lemmas.Rooms.{codeRoom, startRoom}
 use Rattle.sums.specs.Sum.{sum}
 use Rattle.sums.specs.theorems.SumLaws.{sum-suc, sum-none, sum-swap, sum-mono, sum-const, sum-ge, sum-part}
 use Rattle.sums.specs.Bits.{is}

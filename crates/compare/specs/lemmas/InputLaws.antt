@@ -1,6 +1,6 @@
--- The bytes that came stand within the buffer.
+-- What the program takes from a read's answer: the bytes that came stand within the buffer.
 -- Assumes nothing.
-use Prim.Native.Nat.{ℕ, _≤_}
+use Prim.Native.Nat.{ℕ, _≤_, min}
 use native.Mathlib.Omega.{arith}
 use mathlib.Core.Path.{_≡_, sym, subst}
 use mathlib.Core.List.{List}
@@ -9,8 +9,13 @@ use lib.ListN.{length}
 use lib.Seq.{length-take-le}
 use Rattle.io.specs.Counts.{Counts}
 use Rattle.compare.specs.declared.input.Input.{Input}
-use Rattle.compare.specs.declared.input.Input.the-variants.{Bytes}
-use Rattle.compare.specs.Input.{answered, Within}
+use Rattle.compare.specs.declared.input.Input.the-variants.{Bytes, Failed}
+use Rattle.compare.specs.Input.{Within}
+
+-- A read of at most `most` bytes answers how many came, none at the end, or a negative number where it failed.
+abbrev pub answered : ℤ → ℕ → Input
+answered (pos n) most = Bytes (min n most)
+answered (negsuc n) most = Failed
 
 pub within-of-le : (n : ℕ) (buffer : List ℕ) → n ≤ length buffer → Within (Bytes n) buffer
 within-of-le n buffer h = (h, sym (length-take-le n buffer h))

@@ -59,7 +59,7 @@ pub reference-pairs :
     ∷ (0 ∷ 0 ∷ 0 ∷ 0 ∷ 0 ∷ 0 ∷ 0 ∷ 0 ∷ 0 ∷ 0 ∷ 0 ∷ 0 ∷ 0 ∷ 0 ∷ 0 ∷ 0 ∷ 0 ∷ 0 ∷ 0 ∷ [])
     ∷ (0 ∷ 0 ∷ 0 ∷ 0 ∷ 0 ∷ 0 ∷ 0 ∷ 0 ∷ 0 ∷ 0 ∷ 0 ∷ 0 ∷ 0 ∷ 0 ∷ 0 ∷ 0 ∷ 0 ∷ 0 ∷ 0 ∷ []) ∷ []
 unfolding
-    figures figuresOver S S2 S3 codes behindEdge size crossing sumClaims sumClaimsOf sumIf meet choose2 quartets topologyAt isCase 
+    figures figuresOver S S2 S3 codes behindEdge size crossing sumClaims sumClaimsOf sumIf meet choose2 quartets topologyAt isCase
     caseOf beyondAt splits commonSplits robinsonFoulds splitsOf commonOf isNewSplit isSplit sameSides occurs
     triplets triplet together resolved lowest lastBelow
     topology named partner butterfly parts parted sets2 sets3 sets4 sum bit some every
@@ -85,7 +85,7 @@ pub struck-pairs :
     ∷ (0 ∷ 0 ∷ 0 ∷ 0 ∷ 0 ∷ 0 ∷ 0 ∷ 0 ∷ 0 ∷ 0 ∷ 0 ∷ 0 ∷ 0 ∷ 0 ∷ []) ∷ []
 unfolding
     isKept keptAt figuresOver S S2 S3 codes behindEdge size crossing sumClaims sumClaimsOf sumIf meet choose2
-    quartets topologyAt isCase 
+    quartets topologyAt isCase
     caseOf beyondAt splits commonSplits robinsonFoulds splitsOf commonOf isNewSplit isSplit sameSides occurs
     topology named partner butterfly parts parted sets2 sets3 sets4 sum bit some every
     ancIn anc edge rising head behind tips nodes parents labels parent label nodeBelow nodeOf beyond

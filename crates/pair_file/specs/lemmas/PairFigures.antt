@@ -11,12 +11,9 @@ use Rattle.tree_check.specs.lemmas.TableParts.{rest}
 use Rattle.tree_check.specs.Refusals.{refusal, ifAccepted}
 use Rattle.tree_check.specs.theorems.RefusalLaws.{if-refused}
 use Rattle.table_words.specs.Sizes.{tipsMost}
-use Rattle.sums.specs.Bits.{bit}
-use Rattle.marks.specs.theorems.Ones.{ones, ones-marks, ones-keep, ones-taken}
-use Rattle.counting.specs.declared.Case.the-variants.{A, B, C, D, E}
-use Rattle.counting.specs.theorems.AllKept.{all-kept}
-use Rattle.pair_check.specs.PairOrder.{PairWithCells, cellsOrder, pairOrder}
-use Rattle.pair_check.specs.theorems.PairCheck.{cells-check, pair-check}
+use Rattle.marks.specs.theorems.Ones.{ones, ones-marks, ones-taken}
+use Rattle.pair_check.specs.PairOrder.{PairWithCells, cellsOrder}
+use Rattle.pair_check.specs.theorems.PairCheck.{cells-check}
 use Rattle.splits.specs.SplitAnswer.{splitAnswer}
 use Rattle.splits.specs.declared.counts.SplitCounts.{SplitCounts}
 use Rattle.triplets.specs.TripletAnswer.{tripletAnswer}
@@ -25,6 +22,7 @@ use Rattle.claims.specs.ClaimAnswer.{claimAnswer}
 use Rattle.claims.specs.declared.totals.ClaimSums.{ClaimSums}
 use Rattle.quartets.specs.QuartetAnswer.{quartetAnswer}
 use Rattle.quartets.specs.declared.tables.QuartetTable.{QuartetTable}
+use Rattle.quartets.specs.theorems.AllMarksOne.{all-marks-one}
 use Rattle.listings.specs.declared.figures.Figures.{Figures}
 use Rattle.listings.specs.Listing.{ofRefusal}
 use Rattle.table_words.specs.Cutting.{tableLength, firstTable, laterWords}
@@ -92,28 +90,9 @@ marks-lent k l = rw (ones-taken k tipsMost l) (sym (ones-marks k .long))
 
 -- with marks of 1 the calls tell the figures of all labels
 all-called : (t u : Table) → PairWithCells t u cellsLent → calledWith t u (ones (tips t)) (tips t) ≡ pairFigures t u
-unfolding calledWith pairFigures claimAnswer quartetAnswer splitAnswer tripletAnswer ifAccepted
+unfolding calledWith pairFigures tripletAnswer ifAccepted
 all-called t u p =
-    let n = tips t in
-    let f = all-kept (ones n) n (λ x l. unfold bit in rw (ones-keep n x l) refl) t u in
-    rw (
-      pair-check t u (ones n) cellsLent .1 (record { with-cells = p; marked = ones-marks n }),
-      cells-check t u cellsLent .1 p,
-      f .first,
-      f .second,
-      f .same,
-      f .different,
-      f .counts A,
-      f .counts B,
-      f .counts C,
-      f .counts D,
-      f .counts E,
-      f .first-splits,
-      f .second-splits,
-      f .common,
-      f .robinson-foulds,
-    )
-    refl
+    let o = all-marks-one t u cellsLent p in rw (o .claims, o .cases, o .splits, cells-check t u cellsLent .1 p) refl
 
 pub pair-accepted : (t u : Table) → PairWithCells t u cellsLent → (n k : ℕ) → n ≡ tips t → k ≡ n
     → calledWith t u (take k (ones tipsMost)) n ≡ pairFigures t u

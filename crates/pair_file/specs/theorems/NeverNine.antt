@@ -22,7 +22,7 @@ use Rattle.table_words.specs.lemmas.CutWords.{cut-length}
 use Rattle.pair_file.specs.PairFile.{fileWords, wordsOrder, fileOrder}
 use Rattle.pair_file.specs.lemmas.FileWords.{words-length}
 use Rattle.pair_file.specs.lemmas.FileOrder.{too-long, odd-length, even-length}
-use Rattle.pair_file.specs.PairFile.{bytesMost, cellsLent, wordsMost}
+use Rattle.pair_file.specs.PairFile.{bytesMost, cellsLent}
 
 -- two numbers whose sum is at most 2 * k have a product of at most k * k, the smaller named first
 lower-product : (k a b x : ℕ) → a + x ≡ k → b ≤ k + x → a * b ≤ k * k
@@ -40,6 +40,10 @@ product-most k a b l = elim (decLe a k) [
 ]
 
 -- two trees of at most 508 words have a cell for each pair of edges among 15625
+-- the most words of a file
+abbrev wordsMost : ℕ
+wordsMost = 508
+
 cells-enough : (t u : Table) → IsTree t → IsTree u → length t + length u ≤ wordsMost → cellsNeeded t u ≤ cellsLent
 cells-enough t u g h l = product-most 125 _ _ (omega (arith, g .words, h .words))
 

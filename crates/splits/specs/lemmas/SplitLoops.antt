@@ -10,7 +10,8 @@ use native.Mathlib.Omega.{arith}
 use lib.Dec.{eqb}
 use lib.ListN.{length}
 use borrow.Author.Tests.{eq-eqb, ne-eqb}
-use Rattle.table_words.specs.Sizes.{nodeRoom, workRoom}
+use Rattle.table_words.specs.Sizes.{nodeRoom}
+use Rattle.table_words.specs.lemmas.Rooms.{workRoom}
 use Rattle.sums.specs.Tests.{some}
 use Rattle.sums.specs.theorems.Products.{product-le}
 use Rattle.tree_pairs.specs.lemmas.EdgeRows.{EdgeRoom, aboveIn, sizeAt}

@@ -6,7 +6,8 @@ use Prim.Native.Nat.{ℕ, suc, _+_, _*_, _-_, _≤_, _<_}
 use native.Mathlib.Numerals.{add-one}
 use native.Mathlib.Omega.{arith}
 use lib.ListN.{length}
-use Rattle.table_words.specs.Sizes.{nodeRoom, workRoom}
+use Rattle.table_words.specs.Sizes.{nodeRoom}
+use Rattle.table_words.specs.lemmas.Rooms.{workRoom}
 use Rattle.sums.specs.Counts.{count}
 use Rattle.sums.specs.theorems.Products.{product-le}
 use Rattle.tree_check.specs.Table.{Table, word, tips, nodes, parents, parent}

@@ -7,7 +7,8 @@ use native.Mathlib.Decide.{ℕ-discrete}
 use native.Mathlib.Omega.{arith}
 use lib.ListN.{length, set, length-set}
 use lib.Seq.{getD-set-same, getD-set-other}
-use Rattle.table_words.specs.Sizes.{cellMost, nodeRoom, workRoom}
+use Rattle.table_words.specs.Sizes.{cellMost, nodeRoom}
+use Rattle.table_words.specs.lemmas.Rooms.{workRoom}
 use Rattle.tree_check.specs.Table.{word}
 
 -- the rows of w cells that begin at `to` and `from` lie apart and inside, and their sums fit a cell

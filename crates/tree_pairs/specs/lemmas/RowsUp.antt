@@ -8,7 +8,8 @@ use native.Mathlib.Nat.{suc-mul, mul-le-mul-right, lt-of-not-le}
 use native.Mathlib.Decide.{decLt}
 use native.Mathlib.Omega.{arith}
 use lib.ListN.{length}
-use Rattle.table_words.specs.Sizes.{cellMost, nodeRoom, workRoom}
+use Rattle.table_words.specs.Sizes.{cellMost, nodeRoom}
+use Rattle.table_words.specs.lemmas.Rooms.{workRoom}
 use Rattle.sums.specs.theorems.Products.{product-le}
 use Rattle.shapes.specs.theorems.AncestorLaws.{Rooted, parent-lt}
 use Rattle.shapes.specs.theorems.Totals.{total, AddedFrom, added-from-none, added-from-all}

@@ -10,7 +10,8 @@ use native.Mathlib.Omega.{arith}
 use lib.Dec.{T, ltb}
 use lib.ListN.{length, set, length-set}
 use lib.Seq.{getD-set-same, getD-set-other}
-use Rattle.table_words.specs.Sizes.{tipsMost, nodeRoom, workRoom}
+use Rattle.table_words.specs.Sizes.{tipsMost, nodeRoom}
+use Rattle.table_words.specs.lemmas.Rooms.{workRoom}
 use Rattle.sums.specs.theorems.Products.{product-le}
 use Rattle.sums.specs.Bits.{bit}
 use Rattle.sums.specs.theorems.BitLaws.{bit-T, bit-no}

@@ -8,7 +8,8 @@ use native.Mathlib.Decide.{decLt}
 use native.Mathlib.Omega.{arith}
 use lib.Dec.{leb}
 use lib.ListN.{length}
-use Rattle.table_words.specs.Sizes.{nodeRoom, workRoom}
+use Rattle.table_words.specs.Sizes.{nodeRoom}
+use Rattle.table_words.specs.lemmas.Rooms.{workRoom}
 use Rattle.sums.specs.Sum.{sum}
 use Rattle.sums.specs.theorems.SumLaws.{sum-ext}
 use Rattle.sums.specs.theorems.BitLaws.{bit-T}

@@ -82,10 +82,10 @@ unfolding nodeOf
 listed-all n ps ls a old new l h =
     in-front-is n (nodeOf (tableOf n ps ls)) old new (h .long) l
     (λ x m.
-        let r = node-at (tableOf n ps ls) (a .tree) x (omega (arith, tips-of n ps ls)) in
-        h .at x (nodeOf (tableOf n ps ls) x) m (omega (arith, r .0, nodes-of n ps ls, a .same))
-        (ap (λ (f : ℕ → ℕ). f (nodeOf (tableOf n ps ls) x)) (sym (label-is n ps ls a)) ∙ r .1)
-        ∙ ap₂ (λ (f : ℕ → ℕ) (k : ℕ). nodeBelow f k x) (sym (label-is n ps ls a)) (a .same ∙ sym (nodes-of n ps ls)))
+    let r = node-at (tableOf n ps ls) (a .tree) x (omega (arith, tips-of n ps ls)) in
+    h .at x (nodeOf (tableOf n ps ls) x) m (omega (arith, r .0, nodes-of n ps ls, a .same))
+    (ap (λ (f : ℕ → ℕ). f (nodeOf (tableOf n ps ls) x)) (sym (label-is n ps ls a)) ∙ r .1)
+    ∙ ap₂ (λ (f : ℕ → ℕ) (k : ℕ). nodeBelow f k x) (sym (label-is n ps ls a)) (a .same ∙ sym (nodes-of n ps ls)))
     (h .later)
 
 -- ---- the places of a node's labels

@@ -4,7 +4,8 @@ use Prim.Native.Nat.{_+_, _-_, _≤_, _<_}
 use mathlib.Core.Path.{_≡_, refl, sym, _∙_}
 use native.Mathlib.Omega.{arith}
 use lib.ListN.{length}
-use Rattle.table_words.specs.Sizes.{startRoom, nodesMost}
+use Rattle.table_words.specs.Sizes.{nodesMost}
+use Rattle.table_words.specs.lemmas.Rooms.{startRoom}
 use Rattle.tree_check.specs.Table.{word}
 use Rattle.claims.specs.lemmas.NodeCodes.{part-inside}
 use Rattle.claims.specs.lemmas.PairLoops.{Summed, summed-none, summed-next, summed-most, summed-all}

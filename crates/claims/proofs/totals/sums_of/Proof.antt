@@ -5,7 +5,7 @@ use mathlib.Core.List.{List}
 use Prim.Native.Nat.{ℕ, _-_}
 use native.Mathlib.Omega.{arith}
 use lib.ListN.{replicate, length-replicate}
-use Rattle.table_words.specs.Sizes.{codeRoom, startRoom}
+use Rattle.table_words.specs.lemmas.Rooms.{codeRoom, startRoom}
 use Rattle.code_lists.specs.lemmas.CodesAt.{Parents}
 use Rattle.code_lists.specs.lemmas.Listed.{Fit, listed-starts, listed-edges}
 use Rattle.claims.specs.lemmas.NodeCodes.{CodeLists}

@@ -4,7 +4,7 @@ use Prim.Native.Nat.{_+_, _*_, _-_, _≤_, _<_}
 use mathlib.Core.Path.{_≡_, sym}
 use native.Mathlib.Omega.{arith}
 use lib.ListN.{length, set}
-use Rattle.table_words.specs.Sizes.{codeRoom}
+use Rattle.table_words.specs.lemmas.Rooms.{codeRoom}
 use Rattle.tree_check.specs.Table.{word}
 use Rattle.code_lists.specs.lemmas.CodeCounts.{Counted, counted-none, parent-inside, up-few, down-few, counted-edge}
 use borrow.Author.Needs.{needs}

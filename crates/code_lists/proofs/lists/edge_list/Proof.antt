@@ -4,7 +4,8 @@ use Prim.Native.Nat.{_+_, _*_, _-_, _≤_, _<_}
 use mathlib.Core.Path.{_≡_, sym}
 use native.Mathlib.Omega.{arith}
 use lib.ListN.{length, set, length-set}
-use Rattle.table_words.specs.Sizes.{codeRoom, nodeRoom}
+use Rattle.table_words.specs.Sizes.{nodeRoom}
+use Rattle.table_words.specs.lemmas.Rooms.{codeRoom}
 use Rattle.tree_check.specs.Table.{word}
 use Rattle.code_lists.specs.lemmas.CodeCounts.{parent-inside}
 use Rattle.code_lists.specs.lemmas.EdgePlaces.{Placed, placed-none, up-fits, down-fits, placed-edge, placed-all}

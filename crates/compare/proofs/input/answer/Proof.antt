@@ -15,7 +15,7 @@ use mir.Facts.{toZ-ofZ}
 use borrow.Author.Needs.{needs}
 use Rattle.io.specs.Counts.{clamped}
 use Rattle.compare.specs.declared.input.Input.the-variants.{Bytes, Failed}
-use Rattle.compare.specs.Input.{answered}
+use Rattle.compare.specs.lemmas.InputLaws.{answered}
 use Rattle.compare.proofs.input.answer.Statement.{statement}
 use Rattle.compare.proofs.input.answer.Tie as tie
 

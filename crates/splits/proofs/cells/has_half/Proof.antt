@@ -7,7 +7,7 @@ use native.Mathlib.Omega.{arith}
 use borrow.Author.Count.{below-more}
 use lib.ListN.{length}
 use Rattle.sums.specs.theorems.TestLaws.{some-true, some-false}
-use Rattle.table_words.specs.Sizes.{workRoom}
+use Rattle.table_words.specs.lemmas.Rooms.{workRoom}
 use Rattle.splits.specs.lemmas.SplitCells.{halfRow}
 use Rattle.splits.specs.lemmas.SplitLoops.{size-room}
 use borrow.Author.Needs.{needs}

@@ -4,7 +4,7 @@ use mathlib.Core.Path.{_≡_, sym, _∙_, ap}
 use Prim.Native.Nat.{ℕ, _*_, _-_, _≤_, _<_}
 use native.Mathlib.Omega.{arith}
 use lib.ListN.{length}
-use Rattle.table_words.specs.Sizes.{workRoom}
+use Rattle.table_words.specs.lemmas.Rooms.{workRoom}
 use Rattle.tree_check.specs.Table.{word}
 use Rattle.tree_pairs.specs.lemmas.EdgeRows.{aboveIn}
 use Rattle.triplets.specs.lemmas.PairCells.{alike-row-none, apart-row-zero}

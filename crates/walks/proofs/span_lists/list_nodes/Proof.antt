@@ -61,7 +61,7 @@ same-length : tie.Need-same-length Inv-loop μ-loop
 same-length c = search needs
 
 returns : tie.Need-returns Inv-loop μ-loop
-returns c = 
+returns c =
     let l = c .before .loop in
     let e : l .v ≡ length (c .before .before .before .before .args .labels .now) = omega (arith, l .inv .0, c .loop-test .left) in
     rw e at (l .inv .1)

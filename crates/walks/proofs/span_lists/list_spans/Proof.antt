@@ -17,7 +17,7 @@ use Rattle.walks.proofs.span_lists.list_spans.Statement.{statement}
 use Rattle.walks.proofs.span_lists.list_spans.Tie as tie
 
 abbrev Inv-loop : tie.InvT-loop
-Inv-loop parents labels n begin₀ end₀ size reach v₀ begin end v = 
+Inv-loop parents labels n begin₀ end₀ size reach v₀ begin end v =
     (v ≤ length parents)
     × (begin ≡ inFront v (spanBegin (tableOf n parents labels)) begin₀)
     × (end ≡ inFront v (spanEnd (tableOf n parents labels)) end₀)
