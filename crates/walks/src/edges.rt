@@ -1,6 +1,7 @@
 // The part of a walk that belongs to an edge, by position alone.
 use super::sizes::ends;
 use super::sizes::sizes;
+use table_words::NODES;
 use table_words::as_index;
 use table_words::as_word;
 use tree_check::Checked;
@@ -41,8 +42,10 @@ fn part_of(parents: &[u16], labels: &[u16], n: usize, i: usize) -> PartBeyond
     requires { ⌜ TreeArrays n (now parents) (now labels) × (i < length (now parents)) ⌝ }
     ensures { λ r. ⌜ r ≡ placed (tableOf n (now (parents .entry)) (now (labels .entry))) i ⌝ }
 {
-    let size = sizes(parents, labels, n);
-    let end = ends(parents, labels, n, &size);
+    let mut size = [0usize; NODES];
+    sizes(parents, labels, n, &mut size);
+    let mut end = [0usize; NODES];
+    ends(parents, labels, n, &size, &mut end);
     let count = size[i];
     let from = end[i] - count;
     PartBeyond {

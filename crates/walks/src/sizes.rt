@@ -43,27 +43,24 @@ fn own_label(label: usize, n: usize) -> usize
 }
 
 // 1 in the cell of each tip, 0 in that of each inner node.
-fn mark_tips(labels: &[u16], n: usize) -> [usize; NODES]
-    requires { ⌜ length (now labels) ≤ nodeRoom ⌝ }
-    ensures { λ r. ⌜ TipsMarked n (now (labels .entry)) (length (now (labels .entry))) r ⌝ }
+fn mark_tips(labels: &[u16], n: usize, cells: &mut [usize; NODES])
+    requires { ⌜ (length (now labels) ≤ nodeRoom) × (length (now cells) ≡ nodeRoom) ⌝ }
+    ensures { λ _. ⌜ TipsMarked n (now (labels .entry)) (length (now (labels .entry))) (now (cells .exit)) ⌝ }
 {
-    let mut cells = [0usize; NODES];
     let mut v = 0;
     while v < labels.len() {
         cells[v] = own_label(as_index(labels[v]), n);
         v += 1;
     }
-    cells
 }
 
 // How many labels lie beyond each node.
-pub(crate) fn sizes(parents: &[u16], labels: &[u16], n: usize) -> [usize; NODES]
-    requires { ⌜ TreeArrays n (now parents) (now labels) ⌝ }
-    ensures { λ r. ⌜ Sizes (tableOf n (now (parents .entry)) (now (labels .entry))) r ⌝ }
+pub(crate) fn sizes(parents: &[u16], labels: &[u16], n: usize, cells: &mut [usize; NODES])
+    requires { ⌜ TreeArrays n (now parents) (now labels) × (length (now cells) ≡ nodeRoom) ⌝ }
+    ensures { λ _. ⌜ Sizes (tableOf n (now (parents .entry)) (now (labels .entry))) (now (cells .exit)) ⌝ }
 {
-    let mut cells = mark_tips(labels, n);
-    add_up(parents, &mut cells);
-    cells
+    mark_tips(labels, n, cells);
+    add_up(parents, cells);
 }
 
 // Where each node's labels end in the walk: a node begins where its parent has got to, and its parent goes on after it.
@@ -72,11 +69,12 @@ pub(crate) fn ends(
     labels: &[u16],
     n: usize,
     size: &[usize; NODES],
-) -> [usize; NODES]
-    requires { ⌜ TreeArrays n (now parents) (now labels) × Sizes (tableOf n (now parents) (now labels)) (now size) ⌝ }
-    ensures { λ r. ⌜ Ends (tableOf n (now (parents .entry)) (now (labels .entry))) r ⌝ }
+    reach: &mut [usize; NODES],
+)
+    requires { ⌜ TreeArrays n (now parents) (now labels) × Sizes (tableOf n (now parents) (now labels)) (now size)
+        × (length (now reach) ≡ nodeRoom) ⌝ }
+    ensures { λ _. ⌜ Ends (tableOf n (now (parents .entry)) (now (labels .entry))) (now (reach .exit)) ⌝ }
 {
-    let mut reach = [0usize; NODES];
     reach[0] = 1;
     let mut c = 1;
     while c < parents.len() {
@@ -86,5 +84,4 @@ pub(crate) fn ends(
         reach[p] = at + size[c];
         c += 1;
     }
-    reach
 }

@@ -3,6 +3,7 @@
 use super::sizes::ends;
 use super::sizes::sizes;
 use table_words::Cell;
+use table_words::NODES;
 use table_words::as_cell;
 use table_words::as_index;
 use table_words::as_word;
@@ -58,8 +59,10 @@ fn list_spans(parents: &[u16], labels: &[u16], n: usize, begin: &mut [Cell], end
         (spanEnd (tableOf n (now (parents .entry)) (now (labels .entry)))) (now (end .entry)))
         ⌝ }
 {
-    let size = sizes(parents, labels, n);
-    let reach = ends(parents, labels, n, &size);
+    let mut size = [0usize; NODES];
+    sizes(parents, labels, n, &mut size);
+    let mut reach = [0usize; NODES];
+    ends(parents, labels, n, &size, &mut reach);
     let mut v = 0;
     while v < parents.len() {
         begin[v] = as_cell(one_less(reach[v] - size[v]));

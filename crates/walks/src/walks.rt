@@ -1,6 +1,7 @@
 // The walk of a tree table.
 use super::sizes::ends;
 use super::sizes::sizes;
+use table_words::NODES;
 use table_words::as_index;
 use tree_check::Checked;
 use tree_check::check;
@@ -22,8 +23,10 @@ fn write_walk(parents: &[u16], labels: &[u16], n: usize, cells: &mut [u16])
         ≡ walked (tableOf n (now (parents .entry)) (now (labels .entry))) (now (cells .entry))
         ⌝ }
 {
-    let size = sizes(parents, labels, n);
-    let end = ends(parents, labels, n, &size);
+    let mut size = [0usize; NODES];
+    sizes(parents, labels, n, &mut size);
+    let mut end = [0usize; NODES];
+    ends(parents, labels, n, &size, &mut end);
     let mut v = 0;
     while v < labels.len() {
         let label = labels[v];

@@ -25,21 +25,19 @@ use Rattle.counting.specs.theorems.PassThrough.{PassThrough}
 use Rattle.counting.specs.theorems.EdgeClaims.{degreeOf, headOf, claims-of-a-code}
 
 module _ (t : Table) where
-  kids : ℕ → ℕ
+  abbrev kids : ℕ → ℕ
   kids i = count (nodes t) (isChild (parent t) i)
 
-  single-kid : (i : ℕ) → PassThrough t i → kids i ≡ 1
-  unfolding kids
-  single-kid i p = count-once (nodes t) (isChild (parent t) i) .1 (
+  pub single-child : (i : ℕ) → PassThrough t i → kids i ≡ 1
+  single-child i p = count-once (nodes t) (isChild (parent t) i) .1 (
     p .child,
     p .below .node,
     child-iff t i (p .child) (p .below .node) .1 (p .below),
     λ j l c. p .single j (child-iff t i j l .0 c),
   )
 
-  one-kid : (i : ℕ) → label t i ≡ innerLabel → kids i ≡ 1 → PassThrough t i
-  unfolding kids
-  one-kid i e k =
+  pub one-child : (i : ℕ) → label t i ≡ innerLabel → kids i ≡ 1 → PassThrough t i
+  one-child i e k =
       let r = count-once (nodes t) (isChild (parent t) i) .0 k in
       record {
         inner = e;
@@ -52,15 +50,14 @@ module _ (t : Table) where
   pass-through-or-not i = elim (ℕ-discrete (label t i) innerLabel) [
     | no d ↦ inr (λ p. d (p .inner))
     | yes e ↦ elim (ℕ-discrete (kids i) 1) [
-      | yes k ↦ inl (one-kid i e k)
-      | no d ↦ inr (λ p. d (single-kid i p))
+      | yes k ↦ inl (one-child i e k)
+      | no d ↦ inr (λ p. d (single-child i p))
     ]
   ]
 
   -- a node with a child that is no pass-through node has another
   pub another-child : IsTree t → (i w : ℕ) → 1 ≤ i → i < nodes t → (PassThrough t i → ⊥) → Child t i w
       → (d : ℕ) × Child t i d × (d ≢ w)
-  unfolding kids
   another-child g i w l1 li np c = elim (g .labels-range i li) [
     | inr m ↦ absurd (g .tip-bare i l1 li m w c)
     | inl e ↦ (
@@ -72,7 +69,7 @@ module _ (t : Table) where
   ]
     where
       many : label t i ≡ innerLabel → 1 ≤ kids i → 2 ≤ kids i
-      many e some = elim (ℕ-discrete (kids i) 1) [ yes k ↦ absurd (np (one-kid i e k)) | no d ↦ omega arith ]
+      many e some = elim (ℕ-discrete (kids i) 1) [ yes k ↦ absurd (np (one-child i e k)) | no d ↦ omega arith ]
 
 -- ---- claims
 

@@ -10,16 +10,15 @@ use lib.Dec.{T, eqb, ltb, T-not}
 use Rattle.table_words.specs.Sizes.{innerLabel}
 use Rattle.sums.specs.Tests.{every}
 use Rattle.sums.specs.theorems.BitLaws.{bit-T}
-use Rattle.sums.specs.theorems.CountLaws.{count-once}
 use Rattle.sums.specs.theorems.TestLaws.{and-iff, or-iff, implies-iff, eq-iff, lt-iff, not-eq-iff, every-iff}
 use Rattle.shapes.specs.Ancestors.{anc}
 use Rattle.shapes.specs.theorems.AncestorLaws.{anc-le}
 use Rattle.tree_check.specs.Table.{Table, tips, nodes, parent, label}
 use Rattle.tree_check.specs.IsTree.{IsTree}
 use Rattle.tree_check.specs.TreeOrder.{isChild, children}
-use Rattle.tree_check.specs.theorems.TreeCheck.{child-iff}
 use Rattle.tree_check.specs.theorems.RootedTables.{rooted}
 use Rattle.counting.specs.theorems.PassThrough.{PassThrough, NoPassThrough, NextAbove, TakenOut}
+use Rattle.counting.specs.theorems.PassThroughNodes.{single-child, one-child}
 
 -- node j is an inner node with one child
 unfoldable pub passes : Table → ℕ → Bool
@@ -48,23 +47,7 @@ passes-iff t j =
     let a = and-iff (eqb (label t j) innerLabel) (eqb (children (nodes t) (parent t) j) 1) in
     let e = eq-iff (label t j) innerLabel in
     let k = eq-iff (children (nodes t) (parent t) j) 1 in
-    let o = count-once (nodes t) (isChild (parent t) j) in (
-      λ h. let r = o .0 (k .0 (a .0 h .1)) in record {
-        inner = e .0 (a .0 h .0);
-        child = r .0;
-        below = child-iff t j (r .0) (r .1) .0 (r .2);
-        single = λ i c. r .3 i (c .node) (child-iff t j i (c .node) .1 c);
-      },
-      λ p. a .1 (
-        e .1 (p .inner),
-        k .1 (o .1 (
-          p .child,
-          p .below .node,
-          child-iff t j (p .child) (p .below .node) .1 (p .below),
-          λ i l c. p .single i (child-iff t j i l .0 c),
-        )),
-      ),
-    )
+    (λ h. one-child t j (e .0 (a .0 h .0)) (k .0 (a .0 h .1)), λ p. a .1 (e .1 (p .inner), k .1 (single-child t j p)))
 
 -- no node passes the test: a table without pass-through nodes
 pub none-passes : (t : Table) → T (every (nodes t) (λ i. not (passes t i))) → NoPassThrough t

@@ -7,7 +7,7 @@ use native.Mathlib.Decide.{ℕ-discrete}
 use native.Mathlib.Numerals.{add-one}
 use native.Mathlib.Omega.{arith}
 use lib.Dec.{ltb}
-use lib.ListN.{length, set, replicate, length-set, length-replicate}
+use lib.ListN.{length, set, length-set}
 use lib.Seq.{getD-set-same, getD-set-other}
 use Rattle.table_words.specs.Sizes.{nodeRoom, tipsMost}
 use Rattle.sums.specs.Bits.{bit}
@@ -36,9 +36,6 @@ placed t i = record { refusal = 0; start = start t i; count = below t i }
 pub record TipsMarked (n : ℕ) (ls : List ℕ) (k : ℕ) (cells : List ℕ) : Type 0 where
   pub long : length cells ≡ nodeRoom
   pub marks : (v : ℕ) → v < k → word cells v ≡ bit (ltb (word ls v) n)
-
-pub marked-none : (n : ℕ) (ls : List ℕ) → TipsMarked n ls 0 (replicate nodeRoom 0)
-marked-none n ls = record { long = length-replicate {A = ℕ} nodeRoom 0; marks = λ v l. absurd (omega arith) }
 
 pub marked-next : (n : ℕ) (ls : List ℕ) (k : ℕ) (cells : List ℕ) (x : ℕ) → k < nodeRoom → x ≡ bit (ltb (word ls k) n)
     → TipsMarked n ls k cells → TipsMarked n ls (k + 1) (set cells k x)
@@ -110,12 +107,11 @@ module _ (n : ℕ) (ps ls : List ℕ) (a : TreeArrays n ps ls) where
   own-is : (v : ℕ) → length (own (tableOf n ps ls) v) ≡ bit (ltb (word ls v) n)
   own-is v = own-length (tableOf n ps ls) v ∙ rw (label-is n ps ls a, tips-of n ps ls) refl
 
-  -- node 0 is a tip and begins the walk
-  pub reached-first : Reached (tableOf n ps ls) 1 (set (replicate nodeRoom 0) 0 1)
-  reached-first = record {
-    long = length-set {A = ℕ} (replicate nodeRoom 0) 0 1 ∙ length-replicate {A = ℕ} nodeRoom 0;
-    reached = λ v l. let e : v ≡ 0 = omega arith in
-        rw e (getD-set-same {A = ℕ} (replicate nodeRoom 0) 0 1 0 (omega (arith, length-replicate {A = ℕ} nodeRoom 0)) ∙ sym begun);
+  -- node 0 is a tip and begins the walk, whatever the other cells hold
+  pub reached-first : (cells : List ℕ) → length cells ≡ nodeRoom → Reached (tableOf n ps ls) 1 (set cells 0 1)
+  reached-first cells l = record {
+    long = length-set cells 0 1 ∙ l;
+    reached = λ v m. let e : v ≡ 0 = omega arith in rw e (getD-set-same cells 0 1 0 (omega (arith, l)) ∙ sym begun);
   }
     where
       begun : reach (tableOf n ps ls) 1 0 ≡ 1

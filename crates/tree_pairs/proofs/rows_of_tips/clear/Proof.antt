@@ -3,6 +3,7 @@
 use Prim.Native.Nat.{_≤_, _-_}
 use mathlib.Core.Path.{_≡_}
 use native.Mathlib.Omega.{arith}
+use lib.ListN.{length}
 use Rattle.tree_pairs.specs.lemmas.Cleared.{Cleared, cleared-none, cleared-next}
 use borrow.Author.Needs.{needs}
 use Rattle.tree_pairs.proofs.rows_of_tips.clear.Statement.{statement}
@@ -12,7 +13,7 @@ abbrev Inv-loop : tie.InvT-loop
 Inv-loop work₀ count c₀ work c = (c ≤ count) × Cleared work₀ c work
 
 abbrev μ-loop : tie.MeasureT-loop
-μ-loop work₀ count c₀ work c = count - c
+μ-loop work₀ count c₀ work c = length work₀ - c
 
 loop-holds : tie.Need-loop-holds Inv-loop μ-loop
 loop-holds c = (omega arith, cleared-none _)

@@ -1,7 +1,10 @@
 -- The labels of node i start where they end, less how many they are.
 -- Assumes nothing.
-use Prim.Native.Nat.{_≤_}
+use mathlib.Core.List.{List}
+use Prim.Native.Nat.{ℕ, _≤_}
 use native.Mathlib.Omega.{arith}
+use lib.ListN.{length-replicate}
+use Rattle.table_words.specs.Sizes.{nodeRoom}
 use Rattle.tree_check.specs.Table.{word}
 use Rattle.walks.specs.lemmas.TreeArrays.{few-tips, few-nodes}
 use Rattle.walks.specs.lemmas.Positions.{part-bounds, place-between}
@@ -11,26 +14,34 @@ use Rattle.walks.proofs.edges.part_of.Tie as tie
 
 -- ---- the points of the program
 
-abbrev start : tie.After-ends → tie.Start
-start c = c .before .before .before .before .before
-
 abbrev sized : tie.After-ends → tie.After-sizes
-sized c = c .before .before
+sized c = c .before .before .before
+
+abbrev start : tie.After-ends → tie.Start
+start c = sized c .before .before .before .before
+
+-- the sizes, and the ends
+abbrev size-list : tie.After-ends → List ℕ
+size-list c = sized c .sizes .last .1 .1 .1 .0
+
+abbrev end-list : tie.After-ends → List ℕ
+end-list c = c .ends .last .1 .1 .1 .1 .0
 
 -- ---- what is known there
 
 bounds : (c : tie.After-ends) → let s = start c in
-    (word (sized c .sizes .result) (s .args .i) ≤ word (c .ends .result) (s .args .i))
-    × (word (c .ends .result) (s .args .i) ≤ s .args .n)
+    (word (size-list c) (s .args .i) ≤ word (end-list c) (s .args .i)) × (word (end-list c) (s .args .i) ≤ s .args .n)
 bounds c =
     let s = start c in
     part-bounds _ _ _ (s .pre .0) _ _ (sized c .sizes .ensures) (c .ends .ensures) (s .args .i) (s .pre .1)
 
 sizes-requires : tie.Need-sizes-requires
-sizes-requires c κs = search needs
+sizes-requires c κs = (c .before .before .before .pre .0, length-replicate {A = ℕ} nodeRoom 0)
 
 ends-requires : tie.Need-ends-requires
-ends-requires c κs = search needs
+ends-requires c κs =
+    let z = c .before .before in
+    (z .before .before .before .before .pre .0, z .sizes .ensures, length-replicate {A = ℕ} nodeRoom 0)
 
 mul-count : tie.Need-mul-count
 mul-count c =

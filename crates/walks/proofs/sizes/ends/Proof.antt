@@ -34,7 +34,7 @@ turn c = c .before .before
 
 -- after the label is tested, the parent read
 abbrev parent-read : tie.After-own-label Inv-loop μ-loop → tie.After-as-index Inv-loop μ-loop
-parent-read c = c .before .before .before
+parent-read c = c .before .before .before .before
 
 -- ---- what is known there
 
@@ -66,13 +66,13 @@ fits d =
     (l .loop .inv .0) (turn w .loop-test .taken) (w .as-index .ensures .0)
     (d .own-label .ensures ∙ ap (λ (x : ℕ). bit (ltb x (s .args .n))) (d .before .as-index2 .ensures .0)) (l .loop .inv .2)
 
-array-write-reach : tie.Need-array-write-reach Inv-loop μ-loop
-array-write-reach c = search needs
+element-write-reach : tie.Need-element-write-reach Inv-loop μ-loop
+element-write-reach c = search needs
 
 loop-holds : tie.Need-loop-holds Inv-loop μ-loop
 loop-holds c =
     let s = c .before .before in
-    (omega arith, omega (arith, few-nodes _ _ _ (s .pre .0)), reached-first _ _ _ (s .pre .0))
+    (omega arith, omega (arith, few-nodes _ _ _ (s .pre .0)), reached-first _ _ _ (s .pre .0) (s .args .reach .now) (s .pre .2))
 
 mul-as-index : tie.Need-mul-as-index Inv-loop μ-loop
 mul-as-index c = omega (arith, few c)
@@ -86,15 +86,15 @@ as-index-requires c κs = search needs
 mul-at : tie.Need-mul-at Inv-loop μ-loop
 mul-at c = omega (arith, low c, few (turn c))
 
-array-read-at : tie.Need-array-read-at Inv-loop μ-loop
-array-read-at c = omega (arith, low c, few (turn c))
+element-copy-out-at : tie.Need-element-copy-out-at Inv-loop μ-loop
+element-copy-out-at c = omega (arith, low c, few (turn c))
 
 mul-as-index-2 : tie.Need-mul-as-index-2 Inv-loop μ-loop
-mul-as-index-2 c = omega (arith, few (turn c))
+mul-as-index-2 c = omega (arith, few (turn (c .before)))
 
 shared-slice-read-as-index-2 : tie.Need-shared-slice-read-as-index-2 Inv-loop μ-loop
 shared-slice-read-as-index-2 c =
-    omega (arith, start (turn (c .before) .before) .pre .0 .same)
+    omega (arith, start (turn (c .before .before) .before) .pre .0 .same)
 
 as-index-requires-2 : tie.Need-as-index-requires-2 Inv-loop μ-loop
 as-index-requires-2 c κs = search needs
@@ -108,8 +108,8 @@ add-reach c = omega (arith, fits c)
 mul-reach : tie.Need-mul-reach Inv-loop μ-loop
 mul-reach c = omega (arith, few (turn (parent-read c)))
 
-array-write-reach-2 : tie.Need-array-write-reach-2 Inv-loop μ-loop
-array-write-reach-2 c = omega (arith, few (turn (parent-read c)))
+element-write-reach-2 : tie.Need-element-write-reach-2 Inv-loop μ-loop
+element-write-reach-2 c = omega (arith, few (turn (parent-read c)))
 
 mul-reach-2 : tie.Need-mul-reach-2 Inv-loop μ-loop
 mul-reach-2 c = omega (arith, few (turn (parent-read c)))
@@ -123,8 +123,8 @@ add-reach-2 c = omega (arith, fits (c .before))
 mul-reach-3 : tie.Need-mul-reach-3 Inv-loop μ-loop
 mul-reach-3 c = omega (arith, fits (c .before), few (turn (parent-read (c .before))))
 
-array-write-reach-3 : tie.Need-array-write-reach-3 Inv-loop μ-loop
-array-write-reach-3 c =
+element-write-reach-3 : tie.Need-element-write-reach-3 Inv-loop μ-loop
+element-write-reach-3 c =
     omega (arith, fits (c .before), few (turn (parent-read (c .before))))
 
 add-c : tie.Need-add-c Inv-loop μ-loop
@@ -158,25 +158,25 @@ ends-spec =
     (tie.spec
     Inv-loop
     μ-loop
-    array-write-reach
+    element-write-reach
     loop-holds
     mul-as-index
     shared-slice-read-as-index
     as-index-requires
     mul-at
-    array-read-at
+    element-copy-out-at
     mul-as-index-2
     shared-slice-read-as-index-2
     as-index-requires-2
     own-label-requires
     add-reach
     mul-reach
-    array-write-reach-2
+    element-write-reach-2
     mul-reach-2
     element-copy-out-reach
     add-reach-2
     mul-reach-3
-    array-write-reach-3
+    element-write-reach-3
     add-c
     loop-less
     loop-again

@@ -6,7 +6,7 @@ use native.Mathlib.Omega.{arith}
 use lib.Dec.{ltb}
 use lib.ListN.{length}
 use Rattle.sums.specs.Bits.{bit}
-use Rattle.walks.specs.lemmas.Positions.{TipsMarked, marked-none, marked-next}
+use Rattle.walks.specs.lemmas.Positions.{TipsMarked, marked-next}
 use borrow.Author.Needs.{needs}
 use Rattle.walks.proofs.sizes.mark_tips.Statement.{statement}
 use Rattle.walks.proofs.sizes.mark_tips.Tie as tie
@@ -29,7 +29,7 @@ turn c = c .before .before .before
 -- ---- the needs
 
 loop-holds : tie.Need-loop-holds Inv-loop μ-loop
-loop-holds c = (omega arith, marked-none _ _)
+loop-holds c = (omega arith, record { long = c .before .pre .1; marks = λ v l. absurd (omega arith) })
 
 mul-as-index : tie.Need-mul-as-index Inv-loop μ-loop
 mul-as-index c = search needs
@@ -46,8 +46,8 @@ own-label-requires c κs = search needs
 mul-cells : tie.Need-mul-cells Inv-loop μ-loop
 mul-cells c = search needs
 
-array-write-cells : tie.Need-array-write-cells Inv-loop μ-loop
-array-write-cells c =
+element-write-cells : tie.Need-element-write-cells Inv-loop μ-loop
+element-write-cells c =
     let l = turn c .before .loop in
     omega (arith, l .inv .1 .long)
 
@@ -84,7 +84,7 @@ mark-tips-spec =
     as-index-requires
     own-label-requires
     mul-cells
-    array-write-cells
+    element-write-cells
     add-v
     loop-less
     loop-again

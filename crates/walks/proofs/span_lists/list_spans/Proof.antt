@@ -4,8 +4,8 @@ use Prim.Native.Nat.{ℕ, _≤_, _<_, _-_}
 use mathlib.Core.Path.{_≡_, _∙_, ap}
 use mathlib.Core.List.{List}
 use native.Mathlib.Omega.{arith}
-use lib.ListN.{length, set}
-use Rattle.table_words.specs.Sizes.{nodesMost}
+use lib.ListN.{length, set, length-replicate}
+use Rattle.table_words.specs.Sizes.{nodesMost, nodeRoom}
 use Rattle.sums.specs.Lists.{inFront}
 use Rattle.sums.specs.theorems.ListLaws.{in-front-none, in-front-next, in-front-length}
 use Rattle.tree_check.specs.lemmas.TableParts.{tableOf}
@@ -28,10 +28,10 @@ abbrev μ-loop : tie.MeasureT-loop
 -- ---- the points of the program
 
 abbrev sized : tie.After-ends Inv-loop μ-loop → tie.After-sizes Inv-loop μ-loop
-sized c = c .before .before
+sized c = c .before .before .before
 
 abbrev start : tie.After-ends Inv-loop μ-loop → tie.Start Inv-loop μ-loop
-start c = sized c .before .before .before .before .before
+start c = sized c .before .before .before .before .before .before
 
 -- ---- what is known there
 
@@ -55,10 +55,12 @@ end-long c =
 -- ---- the needs
 
 sizes-requires : tie.Need-sizes-requires Inv-loop μ-loop
-sizes-requires c κs = search needs
+sizes-requires c κs = (c .before .before .before .before .before .pre .0, length-replicate {A = ℕ} nodeRoom 0)
 
 ends-requires : tie.Need-ends-requires Inv-loop μ-loop
-ends-requires c κs = search needs
+ends-requires c κs =
+    let z = c .before .before in
+    (z .before .before .before .before .before .before .pre .0, z .sizes .ensures, length-replicate {A = ℕ} nodeRoom 0)
 
 loop-holds : tie.Need-loop-holds Inv-loop μ-loop
 loop-holds c = (omega arith, in-front-none _ _, in-front-none _ _)

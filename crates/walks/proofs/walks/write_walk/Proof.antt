@@ -1,11 +1,11 @@
 -- The invariant: the labels of the tips before `v` are in place.
 -- Assumes nothing.
-use Prim.Native.Nat.{_≤_, _<_, _-_}
+use Prim.Native.Nat.{ℕ, _≤_, _<_, _-_}
 use mathlib.Core.Logic.{⊎-elim}
 use mathlib.Core.Path.{_≡_, refl}
 use native.Mathlib.Omega.{arith}
-use Rattle.table_words.specs.Sizes.{nodesMost}
-use lib.ListN.{length, length-set}
+use Rattle.table_words.specs.Sizes.{nodesMost, nodeRoom}
+use lib.ListN.{length, length-set, length-replicate}
 use Rattle.tree_check.specs.Table.{word}
 use Rattle.tree_check.specs.lemmas.TableParts.{tableOf}
 use Rattle.walks.specs.lemmas.TreeArrays.{few-tips, few-nodes}
@@ -25,11 +25,11 @@ abbrev μ-loop : tie.MeasureT-loop
 -- ---- the points of the program
 
 abbrev start : tie.At-loop Inv-loop μ-loop → tie.Start Inv-loop μ-loop
-start c = c .before .before .before .before .before .before .before
+start c = c .before .before .before .before .before .before .before .before .before
 
 -- the two arrays that the turns read
 abbrev sized : tie.At-loop Inv-loop μ-loop → tie.After-sizes Inv-loop μ-loop
-sized c = c .before .before .before
+sized c = c .before .before .before .before
 
 abbrev placed : tie.At-loop Inv-loop μ-loop → tie.After-ends Inv-loop μ-loop
 placed c = c .before
@@ -47,7 +47,7 @@ few c =
 
 -- a tip's place
 inside : (c : tie.Then1 Inv-loop μ-loop) → let l = turn (c .before) .before in
-    word (placed l .ends .result) (l .loop .v) - word (sized l .sizes .result) (l .loop .v) < start l .args .n
+    word (placed l .ends .last .1 .1 .1 .1 .0) (l .loop .v) - word (sized l .sizes .last .1 .1 .1 .0) (l .loop .v) < start l .args .n
 inside c =
     let l = turn (c .before) .before in
     let s = start l in
@@ -56,10 +56,12 @@ inside c =
     (omega (arith, c .if1 .taken, c .before .as-index .ensures .0))
 
 sizes-requires : tie.Need-sizes-requires Inv-loop μ-loop
-sizes-requires c κs = c .before .before .before .pre .0
+sizes-requires c κs = (c .before .before .before .before .pre .0, length-replicate {A = ℕ} nodeRoom 0)
 
 ends-requires : tie.Need-ends-requires Inv-loop μ-loop
-ends-requires c κs = (c .before .before .before .before .before .pre .0, c .before .sizes .ensures)
+ends-requires c κs =
+    let z = c .before .before in
+    (z .before .before .before .before .before .pre .0, z .sizes .ensures, length-replicate {A = ℕ} nodeRoom 0)
 
 loop-holds : tie.Need-loop-holds Inv-loop μ-loop
 loop-holds c = (omega arith, refl, written-none _ _)
