@@ -1,6 +1,5 @@
 pub mod AllLabels
 pub mod CellSizes
-pub mod Cleared
 pub mod CrossingTotals
 pub mod EdgeRows
 pub mod Filling

@@ -1,6 +1,5 @@
 // The crossing counts of two trees.
 use super::rows::add_rows;
-use super::rows_of_tips::clear;
 use super::rows_of_tips::tip_rows;
 use pair_check::CheckedPair;
 use pair_check::check_cells;
@@ -22,7 +21,7 @@ ghost use Rattle.pair_check.specs.CheckedPair.{checkedCells, checkedWork, Told}
 ghost use Rattle.tree_pairs.specs.Crossings.{crossedKept, crossedAll, afterCrossings, afterAll};
 ghost use Rattle.tree_pairs.specs.lemmas.Filling.{PairArrays};
 
-// A kept tip's row is filled from the spans of the second tree's nodes, then each row is added to its parent's.
+// The rows are written from the spans of the second tree's nodes, then each is added to its parent's.
 fn fill_arrays(
     first_parents: &[u16],
     first_labels: &[u16],
@@ -39,7 +38,6 @@ fn fill_arrays(
         ⌝ }
 {
     let width = as_index(second[1]) - 1;
-    clear(work, (first_parents.len() - 1) * width);
     let mut labelled = [0u16; TIPS];
     let mut begin = [0; NODES];
     let mut end = [0; NODES];

@@ -1,28 +1,15 @@
-// The rows of the first tree's tips: cells cleared, and each tip's row filled from the spans of the second tree's nodes.
+// The rows of the first tree's nodes, each written once: a tip's from the spans of the second tree's nodes, the others empty.
 use marks::is_kept;
 use table_words::Cell;
 use table_words::NODES;
 use table_words::TIPS;
 use table_words::as_index;
 ghost use mathlib.Core.Path.{_≡_};
-ghost use Prim.Native.Nat.{_≤_};
 ghost use lib.ListN.{length};
 ghost use Rattle.sums.specs.Bits.{bit};
-ghost use Rattle.tree_pairs.specs.lemmas.Cleared.{Cleared};
 ghost use Rattle.walks.specs.theorems.SpanLaws.{inSpan};
-ghost use Rattle.tree_pairs.specs.lemmas.TipRows.{SpanRoom, RowSpanned, countedLabel, TipRoom, TipRows};
-
-// The first `count` cells become 0.
-pub(crate) fn clear(work: &mut [Cell], count: usize)
-    requires { ⌜ count ≤ length (now work) ⌝ }
-    ensures { λ _. ⌜ Cleared (now (work .entry)) count (now (work .exit)) ⌝ }
-{
-    let mut c = 0;
-    while c < count {
-        work[c] = 0;
-        c += 1;
-    }
-}
+ghost use Rattle.tree_pairs.specs.lemmas.TipRows.{SpanRoom, RowSpanned, countedLabel};
+ghost use Rattle.tree_pairs.specs.lemmas.TipRows.{HaveSpans, placeOf, TipRoom, TipRows};
 
 // 1 where place `at` lies in the span from `begin` to before `end`, 0 elsewhere.
 fn within(at: Cell, begin: Cell, end: Cell) -> Cell
@@ -67,8 +54,20 @@ fn is_counted(marks: &[u8], n: usize, x: usize) -> bool
     x < n
 }
 
-// The row of each tip of the first tree whose label is kept: 1 at the nodes of the second tree at or above the tip with the
-// same label. The row of a struck label stays empty.
+// Where a label that is counted stands in the second tree's walk; for any other 255, a place that lies in no span.
+fn place_of(marks: &[u8], n: usize, x: usize, labelled: &[u16; TIPS], begin: &[Cell; NODES]) -> Cell
+    requires { ⌜ HaveSpans n (now labelled) ⌝ }
+    ensures { λ r. ⌜ r ≡ placeOf (now (marks .entry)) n (now (labelled .entry)) (now (begin .entry)) x ⌝ }
+{
+    if is_counted(marks, n, x) {
+        let node = as_index(labelled[x]);
+        return begin[node];
+    }
+    255
+}
+
+// The row of each node of the first tree but node 0: of a tip whose label is kept, 1 at the nodes of the second tree at or above
+// the tip with the same label; of any other node, no 1.
 pub(crate) fn tip_rows(
     labels: &[u16],
     marks: &[u8],
@@ -79,17 +78,14 @@ pub(crate) fn tip_rows(
     end: &[Cell; NODES],
     work: &mut [Cell],
 )
-    requires { ⌜ TipRoom (now labels) n width (now labelled) (now work) ⌝ }
+    requires { ⌜ TipRoom (now labels) n width (now labelled) (now end) (now work) ⌝ }
     ensures { λ _. ⌜ TipRows (now (labels .entry)) (now (marks .entry)) n width (now (labelled .entry)) (now (begin .entry))
         (now (end .entry)) (length (now (labels .entry))) (now (work .entry)) (now (work .exit)) ⌝ }
 {
     let mut v = 1;
     while v < labels.len() {
-        let x = as_index(labels[v]);
-        if is_counted(marks, n, x) {
-            let node = as_index(labelled[x]);
-            tip_row(work, (v - 1) * width, width, begin[node], begin, end);
-        }
+        let at = place_of(marks, n, as_index(labels[v]), labelled, begin);
+        tip_row(work, (v - 1) * width, width, at, begin, end);
         v += 1;
     }
 }

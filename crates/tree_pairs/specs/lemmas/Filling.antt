@@ -1,5 +1,4 @@
--- The work cells are cleared, the rows of the tips filled, and the rows added up the first tree: what is left is the
--- crossings.
+-- The rows are written from spans and added up the first tree: what is left is the crossings.
 -- Assumes nothing.
 use mathlib.Core.Path.{_≡_, refl, sym, _∙_, ap, ap₂, subst}
 use mathlib.Core.Logic.{_≢_}
@@ -24,6 +23,7 @@ use Rattle.tree_check.specs.IsTree.{IsTree}
 use Rattle.tree_check.specs.lemmas.TableParts.{tableOf, tips-of, nodes-of}
 use Rattle.walks.specs.theorems.NodeLabels.{node-at}
 use Rattle.walks.specs.theorems.SpanLaws.{inSpan, SpansOf, listed-span}
+use Rattle.walks.specs.theorems.WalkLaws.{part-fits}
 use Rattle.walks.specs.lemmas.SpanLists.{Spanned, spans-listed}
 use Rattle.walks.specs.lemmas.TreeArrays.{TreeArrays, parent-is, label-is, few-tips, few-nodes, rooted-parents}
 use Rattle.tree_pairs.specs.lemmas.Grid.{cellAt}
@@ -33,7 +33,6 @@ use Rattle.counting.specs.theorems.KeptLaws.{kept-rising}
 use Rattle.tree_pairs.specs.Crossings.{edgeCrossing, crossed, cellOf}
 use Rattle.tree_pairs.specs.theorems.Bytes.{cells-are-bytes}
 use Rattle.tree_pairs.specs.lemmas.CrossingTotals.{keptBeyond, crossing-total}
-use Rattle.tree_pairs.specs.lemmas.Cleared.{Cleared}
 use Rattle.tree_pairs.specs.lemmas.TipRows.{countedLabel, TipRoom, TipRows}
 use Rattle.tree_pairs.specs.lemmas.RowsUp.{Room, RowsAdded}
 
@@ -106,9 +105,8 @@ module _ (n : ℕ) (ps ls : List ℕ) (u : Table) (work : List ℕ) (a : PairArr
       let atv = s .only v (omega (arith, sizes, nodes-of n ps ls)) (ap (λ (f : ℕ → ℕ). f v) e ∙ z) in
       omega (arith, at0, atv)
 
-  module _ (cleared labelled begin end : List ℕ) (c : Cleared work ((length ps - 1) * (nodes u - 1)) cleared)
-      (f : SpansOf u labelled begin end) where
-    pub tip-room : TipRoom ls n (nodes u - 1) labelled cleared
+  module _ (labelled begin end : List ℕ) (f : SpansOf u labelled begin end) where
+    pub tip-room : TipRoom ls n (nodes u - 1) labelled end work
     tip-room =
         let s = sizes in
         let same : (length ls - 1) * (nodes u - 1) ≡ (length ps - 1) * (nodes u - 1) =
@@ -116,18 +114,25 @@ module _ (n : ℕ) (ps ls : List ℕ) (u : Table) (work : List ℕ) (a : PairArr
         record {
           narrow = omega (arith, s);
           rows = (omega (arith, s), omega (arith, s));
-          tips = omega (arith, few-tips n ps ls (a .first));
-          node = λ x l. omega (
+          have-spans = record {
+            tips = omega (arith, few-tips n ps ls (a .first));
+            node = λ x l. omega (
+              arith,
+              f .node x (omega (arith, a .tips-are)),
+              node-at u (a .second) x (omega (arith, a .tips-are)) .0,
+              s,
+            );
+          };
+          inside = omega (arith, same, a .room);
+          low = λ j l. omega (
             arith,
-            f .node x (omega (arith, a .tips-are)),
-            node-at u (a .second) x (omega (arith, a .tips-are)) .0,
-            s,
+            f .ends (j + 1) (omega (arith, s)),
+            part-fits u (a .second) (j + 1) (omega (arith, s)),
+            a .second .tips-range,
           );
-          inside = omega (arith, same, a .room, c .long);
-          zeros = λ i l. c .zeros i (omega (arith, same));
         }
 
-    module _ (ks marked : List ℕ) (r : TipRows ls ks n (nodes u - 1) labelled begin end (length ls) cleared marked) where
+    module _ (ks marked : List ℕ) (r : TipRows ls ks n (nodes u - 1) labelled begin end (length ls) work marked) where
       -- column j of the filled rows
       column : (j x : ℕ) → j < nodes u - 1 → 1 ≤ x → x < length ps
           → cellAt marked (nodes u - 1) x j ≡ keptBeyond (isKept ks) (tableOf n ps ls) u (suc j) x
@@ -165,7 +170,7 @@ module _ (n : ℕ) (ps ls : List ℕ) (u : Table) (work : List ℕ) (a : PairArr
             few = omega arith;
             inner = inner-parents n ps ls (a .first);
             narrow = omega arith;
-            inside = omega (arith, a .room, r .long, c .long);
+            inside = omega (arith, a .room, r .long);
             fits = λ v j l m lj. omega (
               arith,
               column-total v j l lj,
@@ -180,16 +185,14 @@ module _ (n : ℕ) (ps ls : List ℕ) (u : Table) (work : List ℕ) (a : PairArr
       unfolding crossed
       filled new h = rw (nodes-of n ps ls) (
           in-front-is ((length ps - 1) * (nodes u - 1)) (cellOf (kept ks (tips t)) t u) work new
-          (h .long ∙ r .long ∙ c .long) (a .room) front back)
+          (h .long ∙ r .long) (a .room) front back)
         where
           t : Table
           t = tableOf n ps ls
 
           back : (i : ℕ) → (length ps - 1) * (nodes u - 1) ≤ i → word new i ≡ word work i
           back i l =
-              h .tail i l
-              ∙ r .rest i (rw (a .first .same) l)
-              ∙ c .tail i l
+              h .tail i l ∙ r .rest i (rw (a .first .same) l)
 
           place : (i w : ℕ) → i ≡ (suc (i / w) - 1) * w + i % w
           place i w = sym (ap (λ (k : ℕ). k * w + i % w) (one-more (i / w)) ∙ div-add-mod' i w)

@@ -14,12 +14,12 @@ use Rattle.table_words.specs.Sizes.{tipsMost, nodeRoom}
 use Rattle.table_words.specs.lemmas.Rooms.{workRoom}
 use Rattle.sums.specs.theorems.Products.{product-le}
 use Rattle.sums.specs.Bits.{bit}
-use Rattle.sums.specs.theorems.BitLaws.{bit-T, bit-no}
+use Rattle.sums.specs.theorems.BitLaws.{bit-no}
 use Rattle.sums.specs.theorems.TestLaws.{and-iff, lt-iff}
 use Rattle.tree_check.specs.Table.{word}
 use Rattle.marks.specs.Marks.{isKept}
 use Rattle.tree_pairs.specs.lemmas.Grid.{cellAt}
-use Rattle.walks.specs.theorems.SpanLaws.{inSpan}
+use Rattle.walks.specs.theorems.SpanLaws.{inSpan, in-span-iff}
 
 -- ---- one row
 
@@ -73,16 +73,34 @@ pub counted-inside : (ks : List ℕ) (n x : ℕ) → true ≡ countedLabel ks n 
 unfolding countedLabel
 counted-inside ks n x e = lt-iff x n .0 (and-iff (isKept ks x) (ltb x n) .0 (subst T e tt) .1)
 
--- room for the rows, all of them 0, and nodes that have spans
-pub record TipRoom (ls : List ℕ) (n w : ℕ) (labelled work : List ℕ) : Type 0 where
-  pub narrow : w < nodeRoom
-  pub rows : (1 ≤ length ls) × (length ls ≤ nodeRoom)
+-- where a counted label stands; any other at a place that lies in no span
+unfoldable pub placeOf : List ℕ → ℕ → List ℕ → List ℕ → ℕ → ℕ
+placeOf ks n labelled begin x = elim (countedLabel ks n x) [ true ↦ word begin (word labelled x) | false ↦ 255 ]
+
+pub place-counted : (ks : List ℕ) (n : ℕ) (labelled begin : List ℕ) (x p : ℕ) → true ≡ countedLabel ks n x
+    → p ≡ word begin (word labelled x) → p ≡ placeOf ks n labelled begin x
+unfolding placeOf
+place-counted ks n labelled begin x p e q = rw (sym e, placeOf) q
+
+pub place-other : (ks : List ℕ) (n : ℕ) (labelled begin : List ℕ) (x : ℕ) → false ≡ countedLabel ks n x
+    → 255 ≡ placeOf ks n labelled begin x
+unfolding placeOf
+place-other ks n labelled begin x e = rw (sym e, placeOf) refl
+
+-- n labels have nodes with spans
+pub record HaveSpans (n : ℕ) (labelled : List ℕ) : Type 0 where
   pub tips : n ≤ tipsMost
   pub node : (x : ℕ) → x < n → word labelled x < nodeRoom
-  pub inside : (length ls - 1) * w ≤ length work
-  pub zeros : (c : ℕ) → c < (length ls - 1) * w → word work c ≡ 0
 
--- the rows of the nodes below k are filled: of a counted label, 1 at the nodes in whose spans its node begins; the cells after
+-- room for the rows, and spans that place 255 is not in
+pub record TipRoom (ls : List ℕ) (n w : ℕ) (labelled end work : List ℕ) : Type 0 where
+  pub narrow : w < nodeRoom
+  pub rows : (1 ≤ length ls) × (length ls ≤ nodeRoom)
+  pub have-spans : HaveSpans n labelled
+  pub inside : (length ls - 1) * w ≤ length work
+  pub low : (j : ℕ) → j < w → word end (j + 1) ≤ 255
+
+-- the rows of the nodes below k are written: of a counted label, 1 at the nodes in whose spans its node begins; the cells after
 -- them are as they were
 pub record TipRows (ls ks : List ℕ) (n w : ℕ) (labelled begin end : List ℕ) (k : ℕ) (old new : List ℕ) : Type 0 where
   pub long : length new ≡ length old
@@ -115,15 +133,16 @@ next-row v w l =
 row-before : (u v w : ℕ) → u ≤ v → u * w ≤ v * w
 row-before u v w l = mul-le-mul-right w l
 
-module _ (ls ks : List ℕ) (n w : ℕ) (labelled begin end old : List ℕ) (a : TipRoom ls n w labelled old)
+-- the cell of a node's row, for any place
+placed : (c : Bool) (p b e : ℕ) → e ≤ 255
+    → bit (inSpan (elim c as (λ y. ℕ) [ true ↦ p | false ↦ 255 ]) b e) ≡ bit c * bit (inSpan p b e)
+unfolding bit
+placed true p b e l = omega arith
+placed false p b e l =
+    bit-no (inSpan 255 b e) (λ y. omega (arith, in-span-iff 255 b e .0 y)) ∙ sym (zero-mul (bit (inSpan p b e)))
+
+module _ (ls ks : List ℕ) (n w : ℕ) (labelled begin end old : List ℕ) (a : TipRoom ls n w labelled end old)
     (new : List ℕ) (v : ℕ) (o : 1 ≤ v) (l : v < length ls) (h : TipRows ls ks n w labelled begin end v old new) where
-  ends : (v - 1) * w + w ≤ (length ls - 1) * w
-  ends = omega (arith, row-end v w o, row-before v (length ls - 1) w (omega arith))
-
-  -- the row of node v is still 0
-  still : (c : ℕ) → (v - 1) * w ≤ c → c < (v - 1) * w + w → word new c ≡ 0
-  still c p q = h .rest c p ∙ a .zeros c (omega (arith, ends))
-
   pub base-low : (v - 1) * w ≤ workRoom
   base-low = omega (
     arith,
@@ -131,51 +150,32 @@ module _ (ls ks : List ℕ) (n w : ℕ) (labelled begin end old : List ℕ) (a :
   )
 
   pub span-room : SpanRoom new ((v - 1) * w) w
-  span-room = record { low = base-low; narrow = a .narrow; inside = omega (arith, ends, a .inside, h .long) }
+  span-room = record {
+    low = base-low;
+    narrow = a .narrow;
+    inside = omega (arith, row-end v w o, row-before v (length ls - 1) w (omega arith), a .inside, h .long);
+  }
 
   -- no row before node v's is touched
   earlier : (u j : ℕ) → 1 ≤ u → u < v → j < w → (u - 1) * w + j < (v - 1) * w
   earlier u j p q s = omega (arith, row-end u w p, row-before u (v - 1) w (omega arith))
 
-  -- node v is no tip, or its label is struck
-  pub rows-skip : false ≡ countedLabel ks n (word ls v) → TipRows ls ks n w labelled begin end (v + 1) old new
-  rows-skip m = record {
-    long = h .long;
-    rows = λ u j p q s. elim (ℕ-discrete u v) [
-      | yes d ↦ rw d (
-          still ((v - 1) * w + j) (omega arith) (omega arith)
-          ∙ sym (ap (λ (b : ℕ). b * bit (inSpan (word begin (word labelled (word ls v))) (word begin (j + 1)) (word end (j + 1))))
-          (bit-no (countedLabel ks n (word ls v)) (λ y. subst T (sym m) y))
-          ∙ zero-mul (bit (inSpan (word begin (word labelled (word ls v))) (word begin (j + 1)) (word end (j + 1))))))
-      | no d ↦ h .rows u j p (omega arith) s
-    ];
-    rest = λ c q. h .rest c (omega (arith, next-row v w o, q));
-  }
-
-  -- node v is a tip whose label is kept, and its row has been filled
-  pub rows-next : (x : ℕ) → x ≡ word ls v → true ≡ countedLabel ks n x → (node : ℕ) → node ≡ word labelled x
-      → (made : List ℕ) → RowSpanned begin end (word begin node) ((v - 1) * w) w new made
-      → TipRows ls ks n w labelled begin end (v + 1) old made
-  rows-next x e m node en made g = record {
+  -- the row of node v has been written
+  pub rows-next : (at : ℕ) → at ≡ placeOf ks n labelled begin (word ls v) → (made : List ℕ)
+      → RowSpanned begin end at ((v - 1) * w) w new made → TipRows ls ks n w labelled begin end (v + 1) old made
+  unfolding placeOf
+  rows-next at e made g = record {
     long = g .long ∙ h .long;
     rows = λ u j p q s. elim (ℕ-discrete u v) [
       | yes d ↦ rw d (
-          cell j s
-          ∙ omega (
-            arith,
-            ap (λ (b : ℕ). b * bit (inSpan (word begin (word labelled (word ls v))) (word begin (j + 1)) (word end (j + 1))))
-                (bit-T (countedLabel ks n (word ls v)) (subst T (rw e at m) tt)),
-          ))
+          g .cells j s
+          ∙ ap (λ (y : ℕ). bit (inSpan y (word begin (j + 1)) (word end (j + 1)))) e
+          ∙ placed (countedLabel ks n (word ls v)) (word begin (word labelled (word ls v))) (word begin (j + 1)) (word end (j + 1))
+          (a .low j s))
       | no d ↦ g .before ((u - 1) * w + j) (earlier u j p (omega arith) s) ∙ h .rows u j p (omega arith) s
     ];
     rest = λ c q. g .after c (omega (arith, next-row v w o, q)) ∙ h .rest c (omega (arith, next-row v w o, q));
   }
-    where
-      cell : (j : ℕ) → j < w
-          → cellAt made w v j ≡ bit (inSpan (word begin (word labelled (word ls v))) (word begin (j + 1)) (word end (j + 1)))
-      cell j s =
-          g .cells j s
-          ∙ ap (λ (y : ℕ). bit (inSpan (word begin y) (word begin (j + 1)) (word end (j + 1)))) (en ∙ ap (word labelled) e)
 
 pub rows-all : (ls ks : List ℕ) (n w : ℕ) (labelled begin end old new : List ℕ) (v : ℕ) → v ≤ length ls → length ls ≤ v
     → TipRows ls ks n w labelled begin end v old new → TipRows ls ks n w labelled begin end (length ls) old new

@@ -1,7 +1,7 @@
 -- Every crossing of a tree table with another table fits a byte, whatever labels are counted: label 0 lies beyond no edge,
 -- and a tree has 256 tips at most.
 -- Assumes nothing.
-use mathlib.Core.Path.{_≡_, refl, _∙_, ap}
+use mathlib.Core.Path.{_≡_, refl, sym, _∙_, ap, subst}
 use mathlib.Core.Bool.{Bool, _&&_}
 use mathlib.Core.List.{List}
 use Prim.Native.Nat.{ℕ, zero, suc, _+_, _*_, _-_, _/_, _%_, _≤_, _<_}
@@ -70,11 +70,8 @@ module _ (l : Labels) (t u : Table) (g : IsTree t) (r : Rising (tips t) l) where
   -- .. and so does every cell that holds one
   pub crossed-bytes : (work : List ℕ) (c : ℕ) → c < cellsNeeded t u → word (crossed l t u work) c ≤ 255
   unfolding crossed cellOf
-  crossed-bytes work c m = omega (
-    arith,
-    in-front-at (cellsNeeded t u) (cellOf l t u) work c m,
-    cells-are-bytes (suc (c / (nodes u - 1))) (suc (c % (nodes u - 1))) (omega arith),
-  )
+  crossed-bytes work c m = subst (λ (x : ℕ). x ≤ 255) (sym (in-front-at (cellsNeeded t u) (cellOf l t u) _ c m))
+      (cells-are-bytes (suc (c / (nodes u - 1))) (suc (c % (nodes u - 1))) (omega arith))
 
 -- whatever labels marks keep, and of all labels
 pub kept-bytes : (t u : Table) (marks work : List ℕ) → IsTree t → (c : ℕ) → c < cellsNeeded t u

@@ -44,5 +44,5 @@ module _ (l : Labels) (t u : Table) (work : List ℕ) where
   cell-of-edges i j li lj =
       let w = nodes u - 1 in
       let c = i * w + j in
-      in-front-at (cellsNeeded t u) (cellOf l t u) work c (cell-inside i j (nodes t - 1) w li lj)
+      in-front-at (cellsNeeded t u) (cellOf l t u) _ c (cell-inside i j (nodes t - 1) w li lj)
       ∙ ap₂ (λ (a b : ℕ). edgeCrossing l t u (suc a) (suc b)) (quotient i j w lj) (remainder i j w lj)
