@@ -8,8 +8,7 @@ ghost use mathlib.Core.Path.{_≡_};
 ghost use lib.ListN.{length};
 ghost use Rattle.sums.specs.Bits.{bit};
 ghost use Rattle.walks.specs.theorems.SpanLaws.{inSpan};
-ghost use Rattle.tree_pairs.specs.lemmas.TipRows.{SpanRoom, RowSpanned, countedLabel};
-ghost use Rattle.tree_pairs.specs.lemmas.TipRows.{HaveSpans, placeOf, TipRoom, TipRows};
+ghost use Rattle.tree_pairs.specs.lemmas.TipRows.{RowRoom, RowFilled, inSpans, nothing, countedLabel, TipRoom, TipRows};
 
 // 1 where place `at` lies in the span from `begin` to before `end`, 0 elsewhere.
 fn within(at: Cell, begin: Cell, end: Cell) -> Cell
@@ -34,8 +33,9 @@ fn tip_row(
     begin: &[Cell; NODES],
     end: &[Cell; NODES],
 )
-    requires { ⌜ SpanRoom (now work) base width ⌝ }
-    ensures { λ _. ⌜ RowSpanned (now (begin .entry)) (now (end .entry)) at base width (now (work .entry)) (now (work .exit)) ⌝ }
+    requires { ⌜ RowRoom (now work) base width ⌝ }
+    ensures { λ _. ⌜ RowFilled (inSpans (now (begin .entry)) (now (end .entry)) at) base width (now (work .entry))
+        (now (work .exit)) ⌝ }
 {
     let mut j = 0;
     while j < width {
@@ -54,20 +54,20 @@ fn is_counted(marks: &[u8], n: usize, x: usize) -> bool
     x < n
 }
 
-// Where a label that is counted stands in the second tree's walk; for any other 255, a place that lies in no span.
-fn place_of(marks: &[u8], n: usize, x: usize, labelled: &[u16; TIPS], begin: &[Cell; NODES]) -> Cell
-    requires { ⌜ HaveSpans n (now labelled) ⌝ }
-    ensures { λ r. ⌜ r ≡ placeOf (now (marks .entry)) n (now (labelled .entry)) (now (begin .entry)) x ⌝ }
+// The row that begins at `base` becomes empty.
+fn empty_row(work: &mut [Cell], base: usize, width: usize)
+    requires { ⌜ RowRoom (now work) base width ⌝ }
+    ensures { λ _. ⌜ RowFilled nothing base width (now (work .entry)) (now (work .exit)) ⌝ }
 {
-    if is_counted(marks, n, x) {
-        let node = as_index(labelled[x]);
-        return begin[node];
+    let mut j = 0;
+    while j < width {
+        work[base + j] = 0;
+        j += 1;
     }
-    255
 }
 
 // The row of each node of the first tree but node 0: of a tip whose label is kept, 1 at the nodes of the second tree at or above
-// the tip with the same label; of any other node, no 1.
+// the tip with the same label; of any other node, nothing.
 pub(crate) fn tip_rows(
     labels: &[u16],
     marks: &[u8],
@@ -78,14 +78,20 @@ pub(crate) fn tip_rows(
     end: &[Cell; NODES],
     work: &mut [Cell],
 )
-    requires { ⌜ TipRoom (now labels) n width (now labelled) (now end) (now work) ⌝ }
+    requires { ⌜ TipRoom (now labels) n width (now labelled) (now work) ⌝ }
     ensures { λ _. ⌜ TipRows (now (labels .entry)) (now (marks .entry)) n width (now (labelled .entry)) (now (begin .entry))
         (now (end .entry)) (length (now (labels .entry))) (now (work .entry)) (now (work .exit)) ⌝ }
 {
     let mut v = 1;
     while v < labels.len() {
-        let at = place_of(marks, n, as_index(labels[v]), labelled, begin);
-        tip_row(work, (v - 1) * width, width, at, begin, end);
+        let x = as_index(labels[v]);
+        let base = (v - 1) * width;
+        if is_counted(marks, n, x) {
+            let node = as_index(labelled[x]);
+            tip_row(work, base, width, begin[node], begin, end);
+        } else {
+            empty_row(work, base, width);
+        }
         v += 1;
     }
 }

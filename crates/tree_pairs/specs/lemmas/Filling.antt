@@ -23,7 +23,6 @@ use Rattle.tree_check.specs.IsTree.{IsTree}
 use Rattle.tree_check.specs.lemmas.TableParts.{tableOf, tips-of, nodes-of}
 use Rattle.walks.specs.theorems.NodeLabels.{node-at}
 use Rattle.walks.specs.theorems.SpanLaws.{inSpan, SpansOf, listed-span}
-use Rattle.walks.specs.theorems.WalkLaws.{part-fits}
 use Rattle.walks.specs.lemmas.SpanLists.{Spanned, spans-listed}
 use Rattle.walks.specs.lemmas.TreeArrays.{TreeArrays, parent-is, label-is, few-tips, few-nodes, rooted-parents}
 use Rattle.tree_pairs.specs.lemmas.Grid.{cellAt}
@@ -106,7 +105,7 @@ module _ (n : ℕ) (ps ls : List ℕ) (u : Table) (work : List ℕ) (a : PairArr
       omega (arith, at0, atv)
 
   module _ (labelled begin end : List ℕ) (f : SpansOf u labelled begin end) where
-    pub tip-room : TipRoom ls n (nodes u - 1) labelled end work
+    pub tip-room : TipRoom ls n (nodes u - 1) labelled work
     tip-room =
         let s = sizes in
         let same : (length ls - 1) * (nodes u - 1) ≡ (length ps - 1) * (nodes u - 1) =
@@ -114,22 +113,14 @@ module _ (n : ℕ) (ps ls : List ℕ) (u : Table) (work : List ℕ) (a : PairArr
         record {
           narrow = omega (arith, s);
           rows = (omega (arith, s), omega (arith, s));
-          have-spans = record {
-            tips = omega (arith, few-tips n ps ls (a .first));
-            node = λ x l. omega (
-              arith,
-              f .node x (omega (arith, a .tips-are)),
-              node-at u (a .second) x (omega (arith, a .tips-are)) .0,
-              s,
-            );
-          };
-          inside = omega (arith, same, a .room);
-          low = λ j l. omega (
+          tips = omega (arith, few-tips n ps ls (a .first));
+          node = λ x l. omega (
             arith,
-            f .ends (j + 1) (omega (arith, s)),
-            part-fits u (a .second) (j + 1) (omega (arith, s)),
-            a .second .tips-range,
+            f .node x (omega (arith, a .tips-are)),
+            node-at u (a .second) x (omega (arith, a .tips-are)) .0,
+            s,
           );
+          inside = omega (arith, same, a .room);
         }
 
     module _ (ks marked : List ℕ) (r : TipRows ls ks n (nodes u - 1) labelled begin end (length ls) work marked) where

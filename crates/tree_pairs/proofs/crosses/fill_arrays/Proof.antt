@@ -86,8 +86,8 @@ tip-rows-requires c κs =
     let p = c .before .before .before .before .before .before .before in
     let e = width-read p in
     let s = start e in
-    to-width (λ w. TipRoom (s .args .first-labels .now) (s .args .n) w (p .spans .last .1 .0) (p .spans .last .1 .1 .1 .0)
-    (s .args .work .now)) _ _ (width e) (tip-room _ _ _ _ _ (s .pre) _ _ _ (spanned p))
+    to-width (λ w. TipRoom (s .args .first-labels .now) (s .args .n) w (p .spans .last .1 .0) (s .args .work .now)) _ _ (width e)
+    (tip-room _ _ _ _ _ (s .pre) _ _ _ (spanned p))
 
 add-rows-requires : tie.Need-add-rows-requires
 add-rows-requires c κs =

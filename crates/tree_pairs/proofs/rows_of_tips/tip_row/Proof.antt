@@ -5,13 +5,13 @@ use native.Mathlib.Omega.{arith}
 use lib.ListN.{length}
 use Rattle.table_words.specs.Sizes.{nodeRoom}
 use Rattle.table_words.specs.lemmas.Rooms.{workRoom}
-use Rattle.tree_pairs.specs.lemmas.TipRows.{RowSpanned, span-none, span-next, span-all}
+use Rattle.tree_pairs.specs.lemmas.TipRows.{RowFilled, inSpans, filled-none, filled-next, filled-all}
 use borrow.Author.Needs.{needs}
 use Rattle.tree_pairs.proofs.rows_of_tips.tip_row.Statement.{statement}
 use Rattle.tree_pairs.proofs.rows_of_tips.tip_row.Tie as tie
 
 abbrev Inv-loop : tie.InvT-loop
-Inv-loop work₀ base width at begin end j₀ work j = (j ≤ width) × RowSpanned begin end at base j work₀ work
+Inv-loop work₀ base width at begin end j₀ work j = (j ≤ width) × RowFilled (inSpans begin end at) base j work₀ work
 
 abbrev μ-loop : tie.MeasureT-loop
 μ-loop work₀ base width at begin end j₀ work j = width - j
@@ -41,7 +41,7 @@ room c =
 -- ---- the needs
 
 loop-holds : tie.Need-loop-holds Inv-loop μ-loop
-loop-holds c = (omega arith, span-none _ _ _ _ _)
+loop-holds c = (omega arith, filled-none _ _ _)
 
 add-within : tie.Need-add-within Inv-loop μ-loop
 add-within c = omega (arith, room c)
@@ -74,7 +74,7 @@ loop-again : tie.Need-loop-again Inv-loop μ-loop
 loop-again c =
     let l = turn c .before .loop in (
       omega (arith, turn c .loop-test .taken),
-      span-next _ _ _ _ (l .j) _ _ (c .within .result) (room (turn c) .1) (c .within .ensures) (l .inv .1),
+      filled-next _ _ (l .j) _ _ (c .within .result) (room (turn c) .1) (c .within .ensures) (l .inv .1),
     )
 
 same-length : tie.Need-same-length Inv-loop μ-loop
@@ -83,7 +83,7 @@ same-length c = search needs
 returns : tie.Need-returns Inv-loop μ-loop
 returns c =
     let l = c .before .loop in
-    span-all _ _ _ _ (l .j) _ _ _ (l .inv .0) (c .loop-test .left) (l .inv .1)
+    filled-all _ _ (l .j) _ _ _ (l .inv .0) (c .loop-test .left) (l .inv .1)
 
 pub tip-row-spec : {M : Type 1} → statement M
 tip-row-spec =

@@ -1,10 +1,14 @@
 -- The invariant: the rows of the nodes below `v` are written.
 -- Assumes nothing.
-use Prim.Native.Nat.{ℕ, _≤_, _-_}
-use mathlib.Core.Path.{_∙_, ap}
+use Prim.Native.Nat.{_≤_, _<_, _-_}
+use mathlib.Core.Path.{_≡_, sym, _∙_, ap}
+use mathlib.Core.Bool.{true}
+use mathlib.Core.Logic.{⊎-elim}
 use native.Mathlib.Omega.{arith}
 use lib.ListN.{length}
-use Rattle.tree_pairs.specs.lemmas.TipRows.{placeOf, TipRows, rows-none, base-low, span-room, rows-next, rows-all}
+use Rattle.table_words.specs.Sizes.{nodeRoom}
+use Rattle.tree_pairs.specs.lemmas.TipRows.{countedLabel, counted-inside, TipRows, rows-none, base-low, row-room}
+use Rattle.tree_pairs.specs.lemmas.TipRows.{rows-tip, rows-empty, rows-all}
 use borrow.Author.Needs.{needs}
 use Rattle.tree_pairs.proofs.rows_of_tips.tip_rows.Statement.{statement}
 use Rattle.tree_pairs.proofs.rows_of_tips.tip_rows.Tie as tie
@@ -21,9 +25,29 @@ abbrev μ-loop : tie.MeasureT-loop
 abbrev start : tie.In-loop Inv-loop μ-loop → tie.Start Inv-loop μ-loop
 start c = c .before .before .before .before .before
 
--- the place of a node's label is found
-abbrev turn : tie.After-place-of Inv-loop μ-loop → tie.In-loop Inv-loop μ-loop
-turn c = c .before .before .before
+abbrev turn : tie.After-as-index Inv-loop μ-loop → tie.In-loop Inv-loop μ-loop
+turn c = c .before .before
+
+-- the node of a counted label is found
+abbrev label-read : tie.After-as-index2 Inv-loop μ-loop → tie.After-as-index Inv-loop μ-loop
+label-read c = c .before .before .before .before
+
+-- ---- what is known there
+
+-- a counted label is one of n
+label-inside : (c : tie.After-is-counted Inv-loop μ-loop) → c .is-counted .result ≡ true
+    → c .before .as-index .result < start (turn (c .before)) .args .n
+label-inside c e = counted-inside _ _ _ (sym e ∙ c .is-counted .ensures)
+
+-- .. and its node has a span
+node-inside : (c : tie.After-as-index2 Inv-loop μ-loop) → c .as-index2 .result < nodeRoom
+node-inside c =
+    let i = c .before .before in
+    omega (
+      arith,
+      c .as-index2 .ensures .0,
+      start (turn (label-read c)) .pre .node _ (label-inside (i .before) (i .if1 .taken)),
+    )
 
 -- ---- the needs
 
@@ -39,23 +63,42 @@ shared-slice-read-as-index c = search needs
 as-index-requires : tie.Need-as-index-requires Inv-loop μ-loop
 as-index-requires c κs = search needs
 
-place-of-requires : tie.Need-place-of-requires Inv-loop μ-loop
-place-of-requires c κs = start (c .before .before) .pre .have-spans
+sub-base : tie.Need-sub-base Inv-loop μ-loop
+sub-base c = search needs
 
-sub-tip-row : tie.Need-sub-tip-row Inv-loop μ-loop
-sub-tip-row c = search needs
-
-mul-tip-row : tie.Need-mul-tip-row Inv-loop μ-loop
-mul-tip-row c =
-    let t = turn (c .before) in
+mul-base : tie.Need-mul-base Inv-loop μ-loop
+mul-base c =
+    let t = turn c in
     let l = t .before .loop in
     omega (arith, base-low _ _ _ _ _ _ _ _ (start t .pre) _ (l .v) (l .inv .0) (t .loop-test .taken) (l .inv .2))
 
+is-counted-requires : tie.Need-is-counted-requires Inv-loop μ-loop
+is-counted-requires c κs = search needs
+
+mul-as-index-2 : tie.Need-mul-as-index-2 Inv-loop μ-loop
+mul-as-index-2 c = omega (arith, label-inside (c .before) (c .if1 .taken), start (turn (c .before .before)) .pre .tips)
+
+element-copy-out-as-index : tie.Need-element-copy-out-as-index Inv-loop μ-loop
+element-copy-out-as-index c =
+    omega (arith, label-inside (c .before) (c .if1 .taken), start (turn (c .before .before)) .pre .tips)
+
+as-index-requires-2 : tie.Need-as-index-requires-2 Inv-loop μ-loop
+as-index-requires-2 c κs = search needs
+
+element-copy-out-tip-row : tie.Need-element-copy-out-tip-row Inv-loop μ-loop
+element-copy-out-tip-row c = omega (arith, node-inside (c .before))
+
 tip-row-requires : tie.Need-tip-row-requires Inv-loop μ-loop
 tip-row-requires c κs =
-    let t = turn (c .before) in
+    let t = turn (label-read (c .before .before)) in
     let l = t .before .loop in
-    span-room _ _ _ _ _ _ _ _ (start t .pre) _ (l .v) (l .inv .0) (t .loop-test .taken) (l .inv .2)
+    row-room _ _ _ _ _ _ _ _ (start t .pre) _ (l .v) (l .inv .0) (t .loop-test .taken) (l .inv .2)
+
+empty-row-requires : tie.Need-empty-row-requires Inv-loop μ-loop
+empty-row-requires c κs =
+    let t = turn (c .before .before .before) in
+    let l = t .before .loop in
+    row-room _ _ _ _ _ _ _ _ (start t .pre) _ (l .v) (l .inv .0) (t .loop-test .taken) (l .inv .2)
 
 add-v : tie.Need-add-v Inv-loop μ-loop
 add-v c = search needs
@@ -65,17 +108,20 @@ loop-less c = search needs
 
 loop-again : tie.Need-loop-again Inv-loop μ-loop
 loop-again c =
-    let r = c .before .before in
-    let p = r .before .before in
-    let t = turn p in
+    let k = c .before in
+    let w = k .before in
+    let t = turn w in
     let l = t .before .loop in
-    let s = start t in (
+    let s = start t in
+    let q = k .is-counted .ensures in (
       omega (arith, t .loop-test .taken),
       omega (arith, t .loop-test .taken),
-      rows-next _ _ _ _ _ _ _ _ (s .pre) _ (l .v) (l .inv .0) (t .loop-test .taken) (l .inv .2) _
-          (p .place-of .ensures
-          ∙ ap (placeOf (s .args .marks .now) (s .args .n) (s .args .labelled .now) (s .args .begin .now)) (p .before .as-index .ensures .0))
-          _ (r .tip-row .ensures),
+      ⊎-elim
+          (λ h. rw (h .8) (rows-tip _ _ _ _ _ _ _ _ (s .pre) _ (l .v) (l .inv .0) (t .loop-test .taken) (l .inv .2)
+          (w .as-index .result) (w .as-index .ensures .0) (sym (h .0 .taken) ∙ q) _ (h .2 .ensures .0) _ (h .5 .ensures)))
+          (λ h. rw (h .5) (rows-empty _ _ _ _ _ _ _ _ (s .pre) _ (l .v) (l .inv .0) (t .loop-test .taken) (l .inv .2)
+          (sym (h .0 .left) ∙ q ∙ ap (countedLabel (s .args .marks .now) (s .args .n)) (w .as-index .ensures .0)) _ (h .2 .ensures)))
+          (c .if1 .came),
     )
 
 same-length : tie.Need-same-length Inv-loop μ-loop
@@ -96,10 +142,15 @@ tip-rows-spec =
     mul-as-index
     shared-slice-read-as-index
     as-index-requires
-    place-of-requires
-    sub-tip-row
-    mul-tip-row
+    sub-base
+    mul-base
+    is-counted-requires
+    mul-as-index-2
+    element-copy-out-as-index
+    as-index-requires-2
+    element-copy-out-tip-row
     tip-row-requires
+    empty-row-requires
     add-v
     loop-less
     loop-again
