@@ -216,6 +216,14 @@ class Names(unittest.TestCase):
         self.assertEqual(tried - told, set())
         self.assertEqual({name for name in told if "_" in name} - tried, set())
 
+    def test_edits_cited(self) -> None:
+        """A label of an edit has three words or more; a name like that is an edit's, or stands in the code."""
+        tried = {path.stem for path in ROOT.glob("crates/*/must-fail/*.edit")}
+        named = " ".join(path.read_text(encoding="utf-8") for path in CODE + sorted(ROOT.glob("include/*.h")))
+        for page in ("PROMISES.md", "SPECIFICATION.md", "DECISIONS.md"):
+            cited = set(re.findall(r"`(\w+_\w+_\w+)`", text(page)))
+            self.assertEqual({name for name in cited - tried if name not in named}, set(), page)
+
 
 if __name__ == "__main__":
     unittest.main()

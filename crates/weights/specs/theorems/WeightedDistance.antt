@@ -1,6 +1,6 @@
 -- What the weighted distance's call accepts, and what its answer is.
 -- Assumes nothing.
-use mathlib.Core.Path.{_≡_, refl, sym, _∙_, subst}
+use mathlib.Core.Path.{_≡_, refl, sym, _∙_, ap, subst}
 use mathlib.Core.Bool.{Bool, false, not}
 use mathlib.Core.List.{List, [], _++_}
 use mathlib.Core.Logic.{_≢_, _↔_}
@@ -23,7 +23,7 @@ use Rattle.tree_check.specs.theorems.RefusalLaws.{if-accepted, if-refused}
 use Rattle.counting.specs.Labels.{Labels}
 use Rattle.counting.specs.theorems.LabelLaws.{Rising}
 use Rattle.counting.specs.declared.Case.the-variants.{B, C, D}
-use Rattle.counting.specs.Cases.{quartets}
+use Rattle.counting.specs.Cases.{quartets, distance}
 use Rattle.counting.specs.Kept.{kept}
 use Rattle.counting.specs.theorems.KeptLaws.{kept-rising}
 use Rattle.counting.specs.theorems.QuartetTheorem.{quartet-theorem}
@@ -126,8 +126,13 @@ unfolding ofInt
 everything b c k e = round-same binary64 false (256 * b + k * c) 256 (b + c) 1 (lit< tt) (lit< tt) (rw e (omega arith))
 
 pub full-gives-distance : (l : Labels) (t u : Table)
-    → weightedOver l t u Full .distance ≡ ofInt binary64 (pos (quartets l t u B + (quartets l t u C + quartets l t u D)))
-full-gives-distance l t u = everything (quartets l t u B) (quartets l t u C + quartets l t u D) (numeratorOf (pOf Full)) full-is-256
+    → weightedOver l t u Full .distance ≡ ofInt binary64 (pos (distance l t u))
+full-gives-distance l t u =
+    everything (quartets l t u B) (quartets l t u C + quartets l t u D) (numeratorOf (pOf Full)) full-is-256
+    ∙ ap (λ (x : ℕ). ofInt binary64 (pos x)) (regroup (quartets l t u B) (quartets l t u C) (quartets l t u D))
+  where
+    regroup : (b c d : ℕ) → b + (c + d) ≡ b + c + d
+    regroup b c d = omega arith
 
 pub grows-with-k : (l : Labels) (t u : Table) (w w' : Weight) → numeratorOf (pOf w) ≤ numeratorOf (pOf w')
     → T (le (weightedOver l t u w .distance) (weightedOver l t u w' .distance))
