@@ -5,4 +5,5 @@ pub mod Cases
 pub mod QuartetTable
 pub mod SplitCounts
 pub mod Triplets
+pub mod Holding
 pub mod theorems

@@ -10,6 +10,7 @@ use Rattle.tree_check.specs.Table.{Table, tips, parent, nodeOf}
 use Rattle.trees.specs.Topology.{named}
 use Rattle.counting.specs.declared.Case.{Case}
 use Rattle.counting.specs.Cases.{caseOf, isCase}
+use Rattle.counting.specs.Labels.{Labels}
 
 -- the labels a and b have a lowest common ancestor that is not an ancestor of c
 unfoldable pub together : Table → ℕ → ℕ → ℕ → Bool
@@ -23,3 +24,8 @@ triplet t a b c = named (together t b c a) (together t a c b) (together t a b c)
 unfoldable pub triplets : Table → Table → Case → ℕ
 triplets t u k = sets3 (tips t - 1) (λ a b c.
     bit (isCase (caseOf (triplet t (suc a) (suc b) (suc c)) (triplet u (suc a) (suc b) (suc c))) k))
+
+-- how many sets of three of some labels but 0 are
+unfoldable pub tripletsOver : Labels → Table → Table → Case → ℕ
+tripletsOver l t u k = sets3 (l .number) (λ a b c.
+    bit (isCase (caseOf (triplet t (l .at a) (l .at b) (l .at c)) (triplet u (l .at a) (l .at b) (l .at c))) k))

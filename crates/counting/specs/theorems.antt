@@ -1,4 +1,5 @@
 pub mod AllKept
+pub mod AllTriplets
 pub mod CasesInShapes
 pub mod CountingTheorem
 pub mod CutDown
@@ -7,11 +8,15 @@ pub mod EdgeClaims
 pub mod EdgesAsSplits
 pub mod FewLabels
 pub mod FiveFormulas
+pub mod HeldByFour
 pub mod KeptLaws
+pub mod KeptTripletSums
 pub mod LabelLaws
 pub mod LabelsAlone
 pub mod NewSplits
 pub mod NodePairSums
+pub mod OneLabelLaw
+pub mod OtherLabels
 pub mod PassThrough
 pub mod PassThroughExample
 pub mod PassThroughNodes

@@ -1,3 +1,2 @@
 pub mod AllMarksOne
 pub mod DemandThree
-pub mod FourArithmetic

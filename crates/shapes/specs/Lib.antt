@@ -6,4 +6,5 @@ pub mod Quartets
 pub mod Claims
 pub mod Splits
 pub mod Triplets
+pub mod Rerooting
 pub mod theorems

@@ -14,6 +14,8 @@ pub mod OneCentre
 pub mod OrderedClaims
 pub mod PartedFours
 pub mod PathLaws
+pub mod RerootedNumbers
+pub mod RerootedSides
 pub mod RobinsonFoulds
 pub mod SameFours
 pub mod SameSplits

@@ -5,4 +5,5 @@ pub mod Counts
 pub mod SetsOfFour
 pub mod Fours
 pub mod Lists
+pub mod Swaps
 pub mod theorems

@@ -49,6 +49,13 @@ pub fn cell_word(x: Cell) -> u16
     x as u16
 }
 
+// A cell as an index.
+pub fn cell_index(x: Cell) -> usize
+    ensures { λ r. ⌜ (r ≡ x) × (r ≤ cellMost) ⌝ }
+{
+    x as usize
+}
+
 // A cell as a count.
 pub fn cell_count(x: Cell) -> u64
     ensures { λ r. ⌜ (r ≡ x) × (r ≤ cellMost) ⌝ }

@@ -1,3 +1,4 @@
 pub mod CheckOutcomes
+pub mod Sized
 pub mod TableParts
 pub mod Tally

@@ -66,7 +66,7 @@ pub(crate) fn asked_refusal(asked: &[u16], n: usize) -> u16
 }
 
 // The node with the label x: the last one, where several have it.
-pub(crate) fn node_of(labels: &[u16], x: u16) -> usize
+pub fn node_of(labels: &[u16], x: u16) -> usize
     ensures { λ r. ⌜ r ≡ nodeBelow (word (now (labels .entry))) (length (now (labels .entry))) x ⌝ }
 {
     let mut at = 0;

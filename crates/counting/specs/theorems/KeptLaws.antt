@@ -112,7 +112,7 @@ module _ (q : ℕ → Bool) where
   ]
 
   -- a sum over the ranks below that of a kept label is one over the kept labels below it
-  sum-before : (n z : ℕ) (f : ℕ → ℕ) → z < count n q
+  pub sum-before : (n z : ℕ) (f : ℕ → ℕ) → z < count n q
       → sum z (λ i. f (keptAt q n i)) ≡ sum (keptAt q n z) (λ x. bit (q x) * f x)
   sum-before n z f l =
       let r = ranked n z l in

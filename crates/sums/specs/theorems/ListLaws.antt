@@ -1,7 +1,7 @@
 -- Lists of a function's values, cell by cell and as a loop writes them.
 -- Assumes nothing.
-use mathlib.Core.Path.{_≡_, refl, sym, _∙_, ap}
-use mathlib.Core.List.{List, [], _++_}
+use mathlib.Core.Path.{_≡_, refl, sym, _∙_, ap, ap₂}
+use mathlib.Core.List.{List, [], _∷_, _++_}
 use Prim.Native.Nat.{ℕ, zero, suc, _+_, _-_, _≤_, _<_}
 use native.Mathlib.Decide.{decLt, ℕ-discrete}
 use native.Mathlib.Omega.{arith}
@@ -19,6 +19,16 @@ unfolding inOrder
 in-order-at zero f i l = absurd (omega arith)
 in-order-at (suc k) f zero l = refl
 in-order-at (suc k) f (suc i) l = in-order-at k (λ i. f (suc i)) i (omega arith)
+
+-- a list of these values is this list
+pub in-order-is : (m : ℕ) (f : ℕ → ℕ) (l : List ℕ) → length l ≡ m → ((i : ℕ) → i < m → f i ≡ getD l i 0) → inOrder m f ≡ l
+unfolding inOrder
+in-order-is zero f [] e h = refl
+in-order-is zero f (a ∷ l) e h = absurd (omega arith)
+in-order-is (suc m) f [] e h = absurd (omega arith)
+in-order-is (suc m) f (a ∷ l) e h =
+    ap₂ (λ (b : ℕ) (k : List ℕ). b ∷ k) (h 0 (omega arith))
+    (in-order-is m (λ i. f (suc i)) l (omega arith) (λ i o. h (suc i) (omega arith)))
 
 -- ---- in front of other cells
 

@@ -4,7 +4,7 @@ use mathlib.Core.Path.{sym, refl}
 use native.Mathlib.Omega.{arith}
 use Rattle.sums.specs.Fours.{fours}
 use Rattle.sums.specs.theorems.FoursLaws.{fours-none}
-use Rattle.quartets.specs.theorems.FourArithmetic.{four-arithmetic}
+use Rattle.sums.specs.theorems.FourArithmetic.{four-arithmetic}
 use borrow.Author.Needs.{needs}
 use Rattle.quartets.proofs.tables.sets_of_four.Statement.{statement}
 use Rattle.quartets.proofs.tables.sets_of_four.Tie as tie

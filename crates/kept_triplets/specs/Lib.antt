@@ -1,0 +1,2 @@
+pub mod KeptAnswer
+pub mod lemmas

@@ -1,0 +1,10 @@
+pub mod AllRows
+pub mod Edges
+pub mod Filling
+pub mod Formed
+pub mod Found
+pub mod Places
+pub mod Prepare
+pub mod Rows
+pub mod SpanSums
+pub mod Terms

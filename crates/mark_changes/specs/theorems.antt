@@ -1,0 +1,3 @@
+pub mod HeldAnswers
+pub mod SequenceTheorem
+pub mod Sequences

@@ -1,0 +1,4 @@
+pub mod FiveAnswers
+pub mod Changes
+pub mod theorems
+pub mod lemmas

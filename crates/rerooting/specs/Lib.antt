@@ -1,0 +1,3 @@
+pub mod Rerooted
+pub mod theorems
+pub mod lemmas

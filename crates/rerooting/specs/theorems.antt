@@ -1,0 +1,5 @@
+pub mod RerootedParts
+pub mod RerootedTree
+pub mod RerootedTopology
+pub mod RerootedAtZero
+pub mod RerootedExamples
