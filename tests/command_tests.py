@@ -1,5 +1,6 @@
 #!/usr/bin/env python3
-"""Tests of the commands compare, matrix, against and why, of docs/COMMANDS.md, and of what the commands say where things fail.
+"""Tests of the commands compare, why, influence, matrix and against, of docs/COMMANDS.md, and of what the commands say where things
+fail.
 
     python3 tests/command_tests.py
 
@@ -15,6 +16,7 @@ import itertools
 import json
 import os
 import pathlib
+import random
 import re
 import shlex
 import shutil
@@ -30,7 +32,8 @@ sys.dont_write_bytecode = True
 from command_runs import ENVIRONMENT, LESKWYN, ROOT, CommandTest, Done, inside
 from cases import skips
 from cases.evidence import evidence
-from cases.newick import star_text
+from cases.influence import CASES, influence
+from cases.newick import random_names, random_tree, sides_of, star_text, with_pass_through, written_tree
 from cases.pairs import pair_refusal, split_counts
 from cases.shapes import balanced, caterpillar
 from cases.tables import LABEL_TROUBLE, P, Q, THREE, W, X, damaged
@@ -242,7 +245,8 @@ class Compare(TreesTest):
                 ["compare", "feathers.nwk", "wings.nwk", "--common", "--weight", "1/2", "--format", "json"],
                 ["against", "feathers.nwk", "wings.nwk", "feathers.nwk", "--outgroup", "Texel"],
                 ["matrix", "feathers.nwk", "wings.nwk", "--measure", "splits"],
-                ["matrix", "feathers.nwk", "wings.nwk", "--measure", "triplets", "--outgroup", "Bute"]]
+                ["matrix", "feathers.nwk", "wings.nwk", "--measure", "triplets", "--outgroup", "Bute"],
+                ["influence", "feathers.nwk", "wings.nwk", "--drop", "2"]]
 
     def test_256_tips_soon(self) -> None:
         """Any size goes through the library: 255 * 2 - 1 edges of each tree."""
@@ -432,7 +436,7 @@ class Strike(TreesTest):
     def test_names_that_are_refused(self) -> None:
         self.file("struck.txt", "Foula\nZeist\n")
         self.file("more.nwk", "((Azores,Zeist),Bute,(Coll,Foula),(Lundy,Texel));")
-        for command, options in itertools.product(("compare", "against", "matrix"),
+        for command, options in itertools.product(("compare", "against", "matrix", "influence"),
                                                   (["--strike", "Zeist"], ["--strike-file", "struck.txt"])):
             done = self.here(command, "feathers.nwk", "wings.nwk", *options)
             self.assert_message(done, 1, "leskwyn: cannot strike 'Zeist': not a tip of every tree\n")
@@ -514,7 +518,7 @@ class Strike(TreesTest):
             for command, *words in (["why", "both.nwk", "Azores", "Bute", "Coll", "Lundy"], ["table", "both.nwk"], ["show", "x"]):
                 self.assert_message(self.here(command, *words, *option), 2, f"unrecognized arguments: {option[0]}",
                                     f"leskwyn {command} --help tells the usage")
-        for command in ("compare", "matrix", "against"):
+        for command in ("compare", "matrix", "against", "influence"):
             words = ["feathers.nwk", "wings.nwk"]
             for arguments, told in ((["--strike"], "--strike: expected one argument"),
                                     (["--strike-file", ""], "an empty file name"),
@@ -532,7 +536,7 @@ class Strike(TreesTest):
         """A file that is not there is told, before the library is built."""
         self.file("struck.txt", "Zeist\n")
         for arguments, status in ((["--strike-file", "absent"], 2), (["--strike-file", "struck.txt", "--strike", "Yell"], 3)):
-            for command in ("compare", "matrix", "against"):
+            for command in ("compare", "matrix", "against", "influence"):
                 with inside(self.folder), contextlib.redirect_stderr(io.StringIO()) as said:
                     done = commands.main([command, "feathers.nwk", "wings.nwk", *arguments], has_library=False)
                 self.assertEqual((done, "cannot read absent: " in said.getvalue()), (status, status == 2))
@@ -771,6 +775,218 @@ class Why(TreesTest):
             self.assert_message(done, 2, words, "leskwyn why --help tells the usage")
 
 
+def squeezed(text: str) -> list[str]:
+    """The lines, with one blank between two words."""
+    return [" ".join(line.split()) for line in text.split("\n")]
+
+
+class Influence(TreesTest):
+    """The sets of four that hold each population, by a look at all of them."""
+
+    # README.md, 'Five minutes': what feathers and wings keep together.
+    SIDES = [[frozenset(pair.split()) for pair in pairs] for pairs in (["Bute Coll", "Lundy Texel"], ["Coll Foula", "Lundy Texel"])]
+    PLACES = {"first": "feathers.nwk", "second": "wings.nwk"}
+    COUNTED = ["sets_of_four", *CASES, "distance", "normalised_distance"]
+    HOLDING, DROPPED = ["name", *COUNTED], ["name", "kept", *COUNTED]
+    # Struck names, and how many are dropped.
+    ASKED = [(None, None), (None, 1), (None, 2), ([], None), (["Foula"], 1), (["Coll"], 3), (["Texel", "Azores"], 256),
+             (["Azores", "Bute", "Coll"], 1), (NAMES, None), (NAMES, 1)]
+
+    def options(self, struck: list[str] | None, drop: int | None) -> list[str]:
+        name = self.file("struck.txt", "".join(f"'{one}'\n" for one in (struck or [])[1:]))
+        return ([*(f"--strike={one}" for one in (struck or [])[:1]), *([] if struck is None else ["--strike-file", name]),
+                 *([] if drop is None else ["--drop", str(drop)])])
+
+    def told(self, *arguments: str, stdin: bytes | str = b"") -> dict[str, object]:
+        done = self.here("influence", *arguments, "--format", "json", stdin=stdin)
+        self.assertEqual((done.returncode, done.stdout.count(b"\n")), (0, 1), done)
+        return json.loads(done.stdout)
+
+    def words(self, told: dict[str, object]) -> list[str]:
+        """The text of all that is told, squeezed."""
+        def cells(row: dict[str, object]) -> list[str]:
+            return [str(row[key]) for key in row if key != "normalised_distance"] + [f"{row['normalised_distance']:.4f}"]
+        whole, names = told["sets_of_four"], ["parted alike by both trees", "parted differently", "parted by the first tree only",
+                                              "parted by the second tree only", "left open by both trees"]
+        counts = [told[key] for key in CASES]
+        lines = [f"first tree: {told['first']}", f"second tree: {told['second']}"]
+        lines += [f"struck: {', '.join(told['struck'])}"] if told.get("struck") else []
+        lines += ["", f"populations {told['tips']}"]
+        lines += [f"kept {told['kept']} of {told['tips']}; sets of four count these alone"] if "kept" in told else []
+        lines += [f"sets of four {whole}"]
+        lines += [f"{letter} {name} {count} " + (f"{100 * count / whole:.1f} %" if whole else "none")
+                  for letter, name, count in zip("ABCDE", names, counts)]
+        lines += [f"distance {told['distance']} B + C + D", f"normalised distance {told['normalised_distance']:.4f} "
+                  + ("distance / sets of four" if whole else "there are no sets of four")]
+        if told["populations"]:
+            lines += ["", "population sets that hold it A B C D E distance normalised"]
+            lines += [" ".join(cells(row)) for row in told["populations"]]
+        if told.get("dropped"):
+            lines += ["", "dropped kept sets of four A B C D E distance normalised"]
+            lines += [" ".join(cells(row)) for row in told["dropped"]]
+        return [*lines, *(["", self.end(told)] if self.end(told) else []), ""]
+
+    def end(self, told: dict[str, object]) -> str:
+        """What is said if none is left to drop."""
+        dropped = told.get("dropped")
+        if dropped is None or (dropped or [told])[-1]["distance"]:
+            return ""
+        return ("no more populations are" if dropped else "no population is") + " dropped: the distance is 0"
+
+    def test_text(self) -> None:
+        for struck, drop in self.ASKED:
+            done = self.here("influence", "feathers.nwk", "wings.nwk", *self.options(struck, drop))
+            self.assertEqual((done.returncode, done.stderr), (0, b""))
+            expected = self.words(self.PLACES | influence(*self.SIDES, NAMES, struck, drop))
+            self.assertEqual(squeezed(done.stdout.decode()), expected, (struck, drop))
+
+    def test_columns(self) -> None:
+        """Names start in one column, and figures end in theirs, whatever the widths."""
+        names = ["a", "a_longer_name_than_all_others", *(f"t{i}" for i in range(16))]
+        self.file("long.nwk", "".join(f"({name}," for name in names[:-1]) + names[-1] + ")" * 17 + ";" + star_text(names))
+        text = self.here("influence", "long.nwk", "--drop", "3").stdout.decode()
+        for table, rows in zip(text.split("\n\n")[2:], (19, 4), strict=True):
+            ends = [[cell.end() for cell in re.finditer(r"\S+(?: \S+)*", line)][1:] for line in table.splitlines()]
+            self.assertEqual(ends, [ends[0]] * rows)
+            self.assertIn("\na longer name than all others   ", table)
+
+    def test_for_programs(self) -> None:
+        """One object with everything; rows of populations, or of those that are dropped. Standard error has the rest."""
+        for struck, drop in self.ASKED:
+            expected = self.PLACES | influence(*self.SIDES, NAMES, struck, drop)
+            options = self.options(struck, drop)
+            end = f"leskwyn: note: {self.end(expected)}\n" if self.end(expected) else ""
+            done = self.here("influence", "feathers.nwk", "wings.nwk", *options, "--format", "json")
+            told = json.loads(done.stdout)
+            self.assertEqual((told, list(told), done.stderr.decode()), (expected, list(expected), end))
+            done = self.here("influence", "feathers.nwk", "wings.nwk", *options, "--format", "tsv")
+            columns, rows = (self.HOLDING, told["populations"]) if drop is None else (self.DROPPED, told["dropped"])
+            self.assertEqual([line.split("\t") for line in done.stdout.decode().removesuffix("\n").split("\n")],
+                             [columns, *([str(row[column]) for column in columns] for row in rows)])
+            names = f"; struck: {', '.join(expected['struck'])}" if struck else ""
+            kept = "" if struck is None else f"leskwyn: kept {expected['kept']} of 6 populations{names}\n"
+            self.assertEqual((done.returncode, done.stderr.decode()), (0, kept + end))
+
+    def test_random_trees(self) -> None:
+        """Of any names, with nodes of many branches and with pass-through nodes, some names struck or none."""
+        rng, shares = random.Random(57), set()
+        for case in range(60):
+            names = sorted(random_names(rng, 4 + case % 7))
+            plain = [random_tree(rng, names, rng.choice([0, 0.3, 0.8])) for _ in range(2)]
+            trees = [with_pass_through(rng, tree, rng.randint(1, 9)) if case % 2 else tree for tree in plain]
+            for name, tree in zip(("first", "second"), trees):
+                self.file(name, written_tree(rng, tree))
+            struck, drop = rng.sample(names, case % 4) if case % 4 else None, rng.choice([None, 1, 2, 9])
+            options = [*(f"--strike={name}" for name in struck or ()), *([] if drop is None else [f"--drop={drop}"])]
+            expected = influence(*map(sides_of, plain), names, struck, drop)
+            with self.subTest(case=case, options=options, names=names):
+                told = self.told("first", "second", *options)
+                self.assertEqual(told, {"first": "first", "second": "second", **expected})
+                tsv = self.here("influence", "first", "second", *options, "--format", "tsv").stdout.decode()
+                rows = expected["populations"] if drop is None else expected["dropped"]
+                self.assertEqual([line.split("\t") for line in tsv.removesuffix("\n").split("\n")[1:]],
+                                 [[str(value).replace("\t", "\\t") for value in row.values()] for row in rows])
+            shares |= {row["normalised_distance"] for row in told["populations"]}
+        self.assertGreater(len(shares), 30)
+
+    def test_dropped_as_compared_anew(self) -> None:
+        """After each strike the figures of compare with all of these struck."""
+        rng, steps = random.Random(58), 0
+        names = sorted(f"t{i}" for i in range(14))
+        for case in range(8):
+            for name in ("first", "second"):
+                self.file(name, written_tree(rng, random_tree(rng, names, 0.2)))
+            gone = names[:case % 3]
+            options = [f"--strike={name}" for name in gone]
+            told = self.told("first", "second", *options, "--drop", "4")
+            for row in told["dropped"]:
+                options.append(f"--strike={row['name']}")
+                fresh = self.figures("first", "second", *options)
+                self.assertEqual(row, {"name": row["name"], **{key: fresh[key] for key in self.DROPPED[1:]}})
+                steps += 1
+        self.assertEqual(steps, 32)
+
+    def test_every_way_of_giving_two_trees(self) -> None:
+        expected = influence(*self.SIDES, NAMES, None, 2)
+        for trees, stdin, first, second in (
+                (["feathers.nwk", "wings.nwk"], "", "feathers.nwk", "wings.nwk"),
+                (["both.nwk"], "", "both.nwk, first tree", "both.nwk, second tree"),
+                (["-"], FEATHERS + WINGS, "standard input, first tree", "standard input, second tree"),
+                (["-", "wings.nwk"], FEATHERS, "standard input", "wings.nwk"),
+                (["--", "feathers.nwk", "wings.nwk"], "", "feathers.nwk", "wings.nwk"),
+                (["feathers.nwk", "--common", "wings.nwk"], "", "feathers.nwk", "wings.nwk")):
+            done = self.here("influence", "--drop", "2", "--format", "json", *trees, stdin=stdin)
+            self.assertEqual(json.loads(done.stdout), {"first": first, "second": second, **expected})
+
+    def test_comparison_files(self) -> None:
+        """With labels for names: Azores has 0, Coll 2 and Foula 3."""
+        self.assertEqual(self.here("table", "both.nwk", "-o", "pair.bin", "--quiet").returncode, 0)
+        label = {name: str(at) for at, name in enumerate(NAMES)}
+        sides = [[frozenset(map(label.get, side)) for side in one] for one in self.SIDES]
+        for options, struck in (([], None), (["--tables"], None), (["--strike", "3"], ["3"]),
+                                (["--strike=2", "--strike=0"], ["0", "2"])):
+            told = self.told("pair.bin", *options, "--drop", "1")
+            self.assertEqual(told, {"first": "pair.bin, first tree", "second": "pair.bin, second tree",
+                                    **influence(*sides, list(label.values()), struck, 1)})
+        for option, words in (("6", "refused 32: pair.bin: there is no label 6 to strike: the labels are 0 to 5"),
+                              ("Foula", "pair.bin: 'Foula' is no label: a comparison file has no names")):
+            self.assert_message(self.here("influence", "pair.bin", "--strike", option), 1, words)
+
+    def test_trees_that_are_refused(self) -> None:
+        """As compare refuses them."""
+        for content, number in ((packed(P), 101), (packed(P, THREE), 8), (packed(P, Q) + b"\0", 15),
+                                (packed(P[:16] + [5] + P[17:], Q), 6), (packed(Q, P[:16] + [4] + P[17:]), 131)):
+            done, compared = (self.here(command, "-", "--tables", stdin=content) for command in ("influence", "compare"))
+            self.assertEqual((done.returncode, done.stdout, done.stderr), (1, b"", compared.stderr))
+            self.assertTrue(done.stderr.decode().startswith(f"leskwyn: refused {number}: standard input: "))
+        for text in (FEATHERS, "(A,B,A);" * 2, "(A,B);(A,C);", "(A,B);(A,B"):
+            done, compared = (self.here(command, "-", stdin=text) for command in ("influence", "compare"))
+            self.assertEqual((done.returncode, done.stdout, done.stderr), (1, b"", compared.stderr))
+        self.assert_message(self.here("influence", "feathers.nwk", "-", stdin=packed(P, Q)), 1, "is a comparison file", "alone")
+
+    def test_common(self) -> None:
+        self.file("more.nwk", "((Azores,Zeist),Bute,(Coll,Foula),(Lundy,Texel));")
+        done = self.here("influence", "feathers.nwk", "more.nwk", "--common", "--format", "tsv")
+        self.assertEqual((done.returncode, done.stderr), (0, b"leskwyn: left out of more.nwk: 'Zeist'\n"))
+        self.assertEqual(done.stdout, self.here("influence", "feathers.nwk", "wings.nwk", "--format", "tsv").stdout)
+        self.assert_message(self.here("influence", "feathers.nwk", "more.nwk"), 1, "only more.nwk has 'Zeist'", "--common")
+
+    def test_names_as_they_are_written(self) -> None:
+        """In the text a name that could be read as several stands in quotes, and no row has a line break of a name."""
+        self.file("names.nwk", "(('a, b',Parus_major),('c + d','e\nf'));(('a, b','c + d'),(Parus_major,'e\nf'));")
+        parts = self.here("influence", "names.nwk", "--drop", "1").stdout.decode().split("\n\n")
+        self.assertEqual([[re.split(" {3,}", line)[0] for line in part.split("\n")[1:]] for part in parts[2:4]],
+                         [["Parus major", "'a, b'", "'c + d'", "e\\nf"], ["Parus major"]])
+        tsv = self.here("influence", "names.nwk", "--format", "tsv").stdout.decode().splitlines()
+        self.assertEqual([row.split("\t")[0] for row in tsv[1:]], ["Parus major", "a, b", "c + d", "e\\nf"])
+
+    def test_wrong_usage(self) -> None:
+        for arguments, words in (([], "0 files; one or two are needed"), (["a", "b", "c"], "3 files; one or two are needed"),
+                                 (["feathers.nwk", "wings.nwk", "--tables"], "2 files; one comparison file is needed"),
+                                 (["--tables"], "0 files; one comparison file is needed"),
+                                 (["-", "-"], "standard input can be read only once"), (["", "wings.nwk"], "an empty file name"),
+                                 (["both.nwk", "--format", "phylip"], "invalid choice: 'phylip'"),
+                                 (["both.nwk", "--drop"], "--drop: expected one argument"),
+                                 *((["both.nwk", f"--drop={k}"], f"--drop: '{k}' is not a number of populations from 1 to 256")
+                                   for k in ("0", "257", "-1", "1.0", "x", "", "\u0663")),
+                                 (["both.nwk", "--outgroup", "Azores"], "unrecognized arguments: --outgroup"),
+                                 (["both.nwk", "--listing"], "unrecognized arguments: --listing")):
+            self.assert_message(self.here("influence", *arguments), 2, words, "leskwyn influence --help tells the usage")
+        self.assert_message(self.here("influence", "-", "--common", stdin=packed(P, Q)), 2, "--common goes by names")
+
+    def test_the_page(self) -> None:
+        """The examples of docs/COMMANDS.md tell what a look at every set of four tells."""
+        page = (ROOT / "docs" / "COMMANDS.md").read_text(encoding="utf-8").split("## influence\n")[1].split("\n## ")[0]
+        text, tsv = re.findall(r"(?ms)^```\n(.*?)^```$", page)
+        places = {key: f"examples/{name}" for key, name in self.PLACES.items()}
+        self.assertEqual(squeezed(text), self.words(places | influence(*self.SIDES, NAMES, None, 2)))
+        rows = influence(*self.SIDES, NAMES, ["Foula"])["populations"]
+        self.assertEqual([line.split("\t") for line in tsv.splitlines()],
+                         [self.HOLDING, *([str(value) for value in row.values()] for row in rows)])
+        keys = re.findall(r"`(\w+)`", " ".join(re.findall(r"(?m)^\| (`.*?) \|", page)))
+        self.assertEqual(keys, list(places | influence(*self.SIDES, NAMES, [], 1)))
+
+
 class Many(TreesTest):
     TREES = [FEATHERS, WINGS, "(Azores,Bute,Coll,Foula,Lundy,Texel);\n", FEATHERS]
 
@@ -896,7 +1112,8 @@ class Usage(TreesTest):
         self.assert_message(self.here("compare", "both.nwk", "--weight", "1/2", "--listing"), 2, "--listing and --weight exclude")
         self.assert_message(self.here("matrix", "both.nwk", "--weight", "1/2"), 2, "only 'weighted' takes a weight")
         self.assert_message(self.here("matrix", "both.nwk", "--measure", "weighted"), 2, "the weighted distance needs a weight")
-        self.assert_message(self.here("comprae"), 2, "no command 'comprae'; the commands are compare, matrix, against, why, table,")
+        commands = "compare, matrix, against, why, influence, table, show"
+        self.assert_message(self.here("comprae"), 2, f"no command 'comprae'; the commands are {commands} (")
 
     def test_wrong_weights(self) -> None:
         """Wrong usage, in every command and before a file is read, with the nearest two."""
@@ -915,7 +1132,7 @@ class Usage(TreesTest):
         self.assert_message(self.here("compare", "both.nwk", "--weight", "-0.5"), 2, "0/256 (0.0) and 1/256 (0.00390625)")
 
     def test_unreadable(self) -> None:
-        for command in ("compare", "matrix", "against"):
+        for command in ("compare", "matrix", "against", "influence"):
             self.assert_message(self.here(command, "feathers.nwk", "absent"), 2, "cannot read absent: No such file")
             self.assert_message(self.here(command, "feathers.nwk", "."), 2, "cannot read .: Is a directory")
         self.assert_message(self.here("why", "feathers.nwk", "absent", "a", "b", "c", "d"), 2, "cannot read absent: No such file")
@@ -939,7 +1156,7 @@ class Usage(TreesTest):
     def test_help_and_version(self) -> None:
         version = f"leskwyn (Leskwyn) {leskwyn.__version__}\n".encode()
         self.assertEqual(run_leskwyn("--version").stdout, version)
-        for command in ("compare", "matrix", "against", "why", "table", "show"):
+        for command in ("compare", "matrix", "against", "why", "influence", "table", "show"):
             for arguments, word in ((["--version"], version), (["--help"], b"usage: leskwyn " + command.encode())):
                 done = run_leskwyn(command, *arguments)
                 self.assertEqual((done.returncode, done.stderr), (0, b""))
@@ -953,7 +1170,7 @@ class Surroundings(TreesTest):
 
     WRITERS = [["compare", "both.nwk"], ["compare", "--listing", "both.nwk"], ["compare", "--listing", "--tables", "both.nwk"],
                ["matrix", "both.nwk"], ["against", "feathers.nwk", "wings.nwk"],
-               ["why", "both.nwk", "Azores", "Bute", "Coll", "Foula"], ["--help"],
+               ["why", "both.nwk", "Azores", "Bute", "Coll", "Foula"], ["influence", "both.nwk"], ["--help"],
                ["compare", "--help"], ["--version"], ["show", "--version"], ["table", "both.nwk"]]
 
     def assert_one_sentence(self, done: Done, status: int, *words: bytes) -> None:
@@ -1122,8 +1339,8 @@ class Pages(unittest.TestCase):
     def test_python_examples(self) -> None:
         text = (ROOT / "docs" / "COMMANDS.md").read_text(encoding="utf-8")
         blocks = "\n".join(re.findall(r"^```python\n(.*?)^```$", text, re.M | re.S))
-        modules = [("docs/COMMANDS.md", blocks), *((name, getattr(leskwyn, name).__doc__) for name in ("compare", "matrix", "why")),
-                   ("leskwyn", leskwyn.__doc__)]
+        modules = [("docs/COMMANDS.md", blocks), ("leskwyn", leskwyn.__doc__),
+                   *((name, getattr(leskwyn, name).__doc__) for name in ("compare", "matrix", "why", "influence"))]
         runner = doctest.DocTestRunner(verbose=False)
         with inside(ROOT), contextlib.redirect_stdout(io.StringIO()) as said:
             for name, content in modules:

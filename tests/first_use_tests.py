@@ -446,7 +446,7 @@ class LeskwynBuilding(LeskwynDoor, Building):
     def test_help_and_version_build_nothing(self) -> None:
         self.with_nothing_to_build_with()
         super().test_help_and_version_build_nothing()
-        for command in ("compare", "against", "matrix", "why", "table", "show"):
+        for command in ("compare", "against", "matrix", "why", "influence", "table", "show"):
             for words in (["-h"], ["--help"], ["a", "--help"]):
                 done = self.run_door(command, *words)
                 self.assertEqual((done.returncode, done.stderr), (0, b""))
@@ -464,6 +464,8 @@ class LeskwynBuilding(LeskwynDoor, Building):
                             (["matrix", "a", "--jobs", "0"], "not a number of threads"), (["against", "a"], "REF and one file"),
                             (["why", "a", "b"], "2 words; one or two files and four names are needed"),
                             (["why", "a.nwk", "-", "b", "c", "d", "e"], "cannot read a.nwk: No such file"),
+                            (["influence"], "0 files; one or two are needed"),
+                            (["influence", "a", "--drop", "0"], "not a number of populations from 1 to 256"),
                             (["table"], "0 tree files;"), (["show", "a", "--nmaes", "b"], "--nmaes"),
                             (["compare", "a.nwk", "-"], "cannot read a.nwk: No such file"),
                             (["matrix", "-", "the house"], "cannot read the house: Is a directory"),

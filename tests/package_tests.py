@@ -7,7 +7,8 @@
 Needs target/libleskwyn.so, or what LESKWYN_LIBRARY names, and the proved program. Figures are held to the program's listing,
 to a brute force over sets of four that looks at the edges of named trees, and to one over sets of three that climbs to their
 lowest common ancestors; where names are struck, over sets of four of trees that are cut down here; the evidence for four tips to a
-search over all edges and all nodes; Robinson-Foulds distances to DendroPy and to ETE where they are installed.
+search over all edges and all nodes; the influence of each tip to a look at every set of four that holds it; Robinson-Foulds
+distances to DendroPy and to ETE where they are installed.
 """
 import ctypes
 import dataclasses
@@ -37,7 +38,8 @@ sys.path.insert(0, str(ROOT / "python"))
 from command_runs import CommandTest
 from cases import skips
 from cases.evidence import Witness, evidence, parted
-from cases.newick import Tree, random_names, random_tree, star_text, with_pass_through, written_tree
+from cases.influence import influence
+from cases.newick import Tree, parting, random_names, random_tree, sides_of, star_text, with_pass_through, written_tree
 from cases.pairs import climb, needed, split_counts
 from cases.quartets import OUTSIDE_PAIRS, REFERENCE_PAIRS, cases_by_pairs
 from cases.shapes import balanced, caterpillar, chained, randomly_chained, related_pair, star, unrelated_pair
@@ -59,6 +61,7 @@ WEIGHTED_KEYS = ["weight", "weighted_distance", "normalised_weighted_distance"]
 
 CASE_KEYS = ["same", "different", "first_only", "second_only", "neither"]
 SPLIT_KEYS = ["first_splits", "second_splits", "common_splits", "robinson_foulds"]
+COUNTED_KEYS = ["sets_of_four", *CASE_KEYS, "distance", "normalised_distance"]
 
 
 def triplets_of(found: leskwyn.Comparison) -> list[int]:
@@ -70,19 +73,6 @@ def packed(*tables: list[int]) -> bytes:
 
 
 # ---- the figures of two named trees, worked out here
-
-def sides_of(tree: Tree) -> list[frozenset[str]]:
-    """The names on one side of each edge."""
-    return [frozenset(tree.names_beyond(a, b)) for a, b in tree.edges()]
-
-
-def parting(sides: list[frozenset[str]], four: frozenset[str]) -> frozenset[frozenset[str]] | None:
-    """How an edge parts four names two and two, or None if no edge does."""
-    for side in sides:
-        if len(side & four) == 2:
-            return frozenset([side & four, four - side])
-    return None
-
 
 def split_sets(sides: list[frozenset[str]], names: frozenset[str]) -> set[frozenset[frozenset[str]]]:
     return {frozenset([side, names - side]) for side in sides if 2 <= len(side) <= len(names) - 2}
@@ -1387,6 +1377,229 @@ class LibraryMarks(unittest.TestCase):
             self.assertGreaterEqual(len(marks.cells), 1)
 
 
+def cases_of_fours(t: Table, u: Table) -> dict[frozenset[int], int]:
+    """The case of each set of four labels, 0 to 4 for A to E."""
+    return {frozenset(four): evidence(t, u, four)[1] for four in itertools.combinations(range(t[0]), 4)}
+
+
+class LibraryHolding(unittest.TestCase):
+    """The sets of four that hold one label, and the counts as marks change one at a time, by the case of each set of four."""
+
+    def five(self, answer: ctypes.Structure) -> list[int]:
+        return [getattr(answer, name) for name in "abcde"]
+
+    def counts(self, cases: dict[frozenset[int], int], marks: typing.Sequence[int], label: int | None = None) -> list[int]:
+        """A to E of the sets of kept labels, or of those that hold the label and three other kept ones."""
+        kept, held = {one for one, mark in enumerate(marks) if mark}, set() if label is None else {label}
+        found = [case for four, case in cases.items() if held <= four <= kept | held]
+        return [found.count(case) for case in range(5)]
+
+    def test_every_label(self) -> None:
+        """Kept or struck, under marks that keep all, none and some. The marks stay; the sums over kept labels are four times the
+        quartet table."""
+        rng, seen = random.Random(50), [0] * 5
+        for at, (t, u) in enumerate(evidence_pairs(51, 45)):
+            words, cases, n = (_library.words(t), _library.words(u)), cases_of_fours(t, u), t[0]
+            marks = [1] * n if at % 5 == 0 else [0] * n if at % 5 == 1 else [rng.randint(0, 1) for _ in range(n)]
+            lent, sums = marked(*marks), [0] * 5
+            for label in range(n):
+                answer = _library.holding(*words, lent, label)
+                self.assertEqual((answer.refusal, self.five(answer)), (0, self.counts(cases, marks, label)), (t, u, marks, label))
+                sums = [one + marks[label] * more for one, more in zip(sums, self.five(answer))]
+            self.assertEqual(list(lent.cells), marks)
+            self.assertEqual(sums, [4 * count for count in self.counts(cases, marks)])
+            seen = [one + more for one, more in zip(seen, sums)]
+        self.assertGreater(min(seen), 100)
+
+    def test_changes(self) -> None:
+        """Labels struck and restored in any order: the counts are those of a fresh table, and one mark changes."""
+        rng, kept = random.Random(52), set()
+        for t, u in evidence_pairs(53, 18):
+            words, cases, n = (_library.words(t), _library.words(u)), cases_of_fours(t, u), t[0]
+            lent, marks, lent_work = marked(*[1] * n), [1] * n, _library.work(needed(t, u))
+            counts = self.five(_library.quartet_table(*words, lent, lent_work))
+            for _ in range(4 * n):
+                label = rng.randrange(n)
+                marks[label] = 1 - marks[label]
+                answer = _library.change_mark(*words, lent, counts, label, marks[label])
+                counts = self.five(answer)
+                self.assertEqual((answer.refusal, counts, list(lent.cells)), (0, self.counts(cases, marks), marks), (t, u, label))
+                self.assertEqual(counts, self.five(_library.quartet_table(*words, lent, lent_work)))
+                kept.add(sum(marks))
+        self.assertGreaterEqual(len(kept), 10)
+
+    def test_refusals(self) -> None:
+        """Those of the pair, then 32, then 10, then 33, then 34. A refused call answers zeros, and every mark stays."""
+        good, none = [1, 1, 1, 1, 1], [0, 0, 0, 0, 0]
+        wrong = [[], [1] * 4, [1] * 6, [2, 1, 1, 1, 1], [1, 1, 1, 1, 255]]
+        pairs = [(P, Q, 0), (P, THREE, 8), (P[:-1], Q, 4), (P, Q[:-1], 104), ([], P, 1), (P, [], 101)]
+        right, short, over = [3, 0, 2, 0, 0], [3, 0, 1, 0, 0], [0, 5, 0, 0, 0]
+        numbers = set()
+        for (t, u, number), marks, label, counts, mark in itertools.product(pairs, [good, none, *wrong], (0, 4, 5, X),
+                                                                            (right, short, over, [0] * 5), (0, 1)):
+            words, lent = (_library.words(t), _library.words(u)), marked(*marks)
+            asked = number or (32 if marks in wrong else 10 if label > 4 else 0)
+            # all kept, the strike of 0 or 4 takes from A and C; none kept, only zeros add up
+            fits = counts == (right if marks == good else [0] * 5)
+            changed = asked or (33 if marks[label] == mark else 0 if fits else 34)
+            for answer, expected in ((_library.holding(*words, lent, label), asked),
+                                     (_library.change_mark(*words, lent, counts, label, mark), changed)):
+                self.assertEqual(answer.refusal, expected, (t, u, marks, label, counts, mark))
+                if expected:
+                    self.assertEqual(set(self.five(answer)), {0})
+                numbers.add(expected)
+            left = marks if changed else [mark if at == label else one for at, one in enumerate(marks)]
+            self.assertEqual(lent.cells[:lent.count], left)
+        self.assertEqual(numbers, {0, 1, 4, 8, 10, 32, 33, 34, 101, 104})
+
+
+class Influence(unittest.TestCase):
+    """The sets of four that hold each tip, by a look at all of them, and what is left after strikes, by fresh counts."""
+
+    PLACES = {"first": "the first tree", "second": "the second tree"}
+
+    def assert_told(self, found: leskwyn.Influence, expected: dict[str, typing.Any]) -> None:
+        """Everything, and in its order."""
+        told = found.as_dict()
+        self.assertEqual(told, expected)
+        self.assertEqual((list(told), [list(row) for row in told["populations"] + told.get("dropped", [])]),
+                         (list(expected), [list(row) for row in expected["populations"] + expected.get("dropped", [])]))
+
+    def test_random_trees(self) -> None:
+        """In texts and in objects, with pass-through nodes or without; with none, some, or nearly all tips struck."""
+        rng, seen = random.Random(54), set()
+        for case in range(48):
+            plain = random_named_trees(rng, 3 + case % 8)
+            trees = [with_pass_through(rng, tree, rng.randint(1, 8)) if case % 3 == 0 else tree for tree in plain]
+            texts, names = [written_tree(rng, tree) for tree in trees], sorted(plain[0].name.values())
+            for struck, drop in ((None, None), ([], 1), (rng.sample(names, 1), 2), (rng.sample(names, 2), 256),
+                                 (rng.sample(names, len(names) - 3), 1), (names, 1)):
+                with self.subTest(case=case, struck=struck, drop=drop, texts=texts):
+                    found = leskwyn.influence(*texts, struck=struck, drop=drop)
+                    self.assert_told(found, self.PLACES | influence(*map(sides_of, plain), names, struck, drop))
+                    self.assertEqual(found, leskwyn.influence(*map(in_nodes, trees), struck=struck and iter(struck), drop=drop))
+                    seen.add((found.kept, len(found.dropped or ())))
+        self.assertEqual({kept for kept, _ in seen}, set(range(11)))
+        self.assertLessEqual({0, 1, 2, 3, 4}, {dropped for _, dropped in seen})
+
+    def test_dropped_as_counted_anew(self) -> None:
+        """After each strike the counts of a comparison with all of these struck; no other strike leaves a smaller distance, and
+        of those that leave as small a one the first name is taken."""
+        rng, steps = random.Random(55), 0
+        for case in range(16):
+            texts = [written_tree(rng, tree) for tree in random_named_trees(rng, 6 + case)]
+            names = leskwyn.compare(*texts).names
+            gone = rng.sample(names, case % 3)
+            for row in leskwyn.influence(*texts, struck=gone, drop=5).dropped:
+                left = {name: leskwyn.compare(*texts, struck=[*gone, name]).distance for name in names if name not in gone}
+                self.assertEqual(row.name, min(left, key=left.get))
+                gone.append(row.name)
+                fresh = leskwyn.compare(*texts, struck=gone)
+                self.assertEqual([getattr(row, key) for key in ("kept", *COUNTED_KEYS)],
+                                 [getattr(fresh, key) for key in ("kept", *COUNTED_KEYS)])
+                steps += 1
+        self.assertGreater(steps, 40)
+
+    def test_the_table_is_counted_once(self) -> None:
+        """Whatever is dropped; and what a label holds is asked only of kept ones, before each strike."""
+        worm, fan = "(a,(b,(c,(d,(e,(f,g))))));", star_text("abcdefg")
+        calls = {name: unittest.mock.patch.object(_library, name, wraps=getattr(_library, name))
+                 for name in ("quartet_table", "holding", "change_mark")}
+        with calls["quartet_table"] as table, calls["holding"] as holding, calls["change_mark"] as change:
+            found = leskwyn.influence(worm, fan, struck=["a"], drop=2)
+        self.assertEqual((table.call_count, holding.call_count, change.call_count), (1, 6 + 5, 2))
+        # fully resolved against a star, every set of four differs
+        self.assertEqual([(row.name, row.first_only) for row in found.dropped], [("b", math.comb(5, 4)), ("c", math.comb(4, 4))])
+
+    def test_the_example_trees(self) -> None:
+        """README.md, 'Five minutes': Bute, Coll, Foula and one other; Azores, Bute, Coll and Lundy or Texel; Azores, Coll, Foula
+        and Lundy or Texel. Each of the six is in 10 sets of four."""
+        found = leskwyn.influence(FEATHERS, str(WINGS), drop=3)
+        self.assertEqual([(row.name, row.different, row.first_only, row.second_only) for row in found.populations],
+                         [("Coll", 3, 2, 2), ("Azores", 1, 2, 2), ("Bute", 3, 2, 0), ("Foula", 3, 0, 2), ("Lundy", 1, 1, 1),
+                          ("Texel", 1, 1, 1)])
+        self.assertEqual({row.sets_of_four for row in found.populations}, {10})
+        self.assertEqual(found.dropped, (leskwyn.Dropped(name="Coll", kept=5, same=3, different=0, first_only=0, second_only=0,
+                                                         neither=2),))
+        self.assertEqual((found.first, found.second, found.struck, found.kept), (str(FEATHERS), str(WINGS), None, 6))
+
+    def test_256_tips(self) -> None:
+        """A caterpillar with one tip moved from one end to the other: all sets of four that hold it differ, and no others."""
+        others = [f"t{i:03}" for i in range(255)]
+        texts = ["".join(f"({name}," for name in order[:-1]) + order[-1] + ")" * 255 + ";"
+                 for order in ([*others, "t099x"], ["t099x", *others])]
+        first, *rest = leskwyn.influence(*texts).populations
+        self.assertEqual((first.name, first.different, first.normalised_distance), ("t099x", math.comb(255, 3), 1.0))
+        self.assertEqual([row.name for row in rest], others)
+        self.assertEqual({(row.same, row.different) for row in rest},
+                         {(math.comb(255, 3) - math.comb(254, 2), math.comb(254, 2))})
+        dropped = leskwyn.influence(*texts, drop=256).dropped
+        self.assertEqual([(row.name, row.kept, row.same, row.distance) for row in dropped],
+                         [("t099x", 255, math.comb(255, 4), 0)])
+
+    def test_nothing_differs(self) -> None:
+        """All populations stand there, by name, with no distance, and none is dropped; without sets of four all counts are 0."""
+        for text, struck, held in (("((c,a),(b,(e,d)));", "", 4), ("((c,a),(b,(e,d)));", "d", 1), ("((c,a),(b,(e,d)));", "db", 0),
+                                   ("((c,a),(b,(e,d)));", "dbace", 0), ("(b,a);", "", 0), ("(a,(c,b));", "", 0)):
+            found = leskwyn.influence(text, text, struck=list(struck), drop=2)
+            self.assertEqual([(row.name, row.sets_of_four, row.distance, row.normalised_distance) for row in found.populations],
+                             [(name, held, 0, 0.0) for name in sorted(set(text) & set("abcde") - set(struck))])
+            self.assertEqual((found.distance, found.normalised_distance, found.dropped), (0, 0.0, ()))
+
+    def test_comparison_files(self) -> None:
+        """With labels for names, by number where they are equal: 2 before 10."""
+        rng = random.Random(56)
+        for case in range(12):
+            t, u = related_pair(rng, 9 + case % 4)
+            names, struck = list(map(str, range(t[0]))), rng.sample(range(t[0]), case % 3) if case % 4 else None
+            with tempfile.NamedTemporaryFile() as file:
+                file.write(packed(t, u))
+                file.flush()
+                found = leskwyn.influence(file.name, struck=struck, drop=2)
+                places = {"first": f"{file.name}, first tree", "second": f"{file.name}, second tree"}
+            sides = [sides_of(tree_of(one)) for one in (t, u)]
+            self.assert_told(found, places | influence(*sides, names, None if struck is None else list(map(str, struck)), 2))
+        with tempfile.NamedTemporaryFile() as file:
+            file.write(packed(caterpillar(12), star(12)))
+            file.flush()
+            self.assertEqual([row.name for row in leskwyn.influence(file.name).populations], list(map(str, range(12))))
+
+    def test_common(self) -> None:
+        pair = ["((a,b),(c,d,x));", "((a,c),(b,d),(y,z));"]
+        with self.assertRaisesRegex(leskwyn.Refusal, "the trees have different tips"):
+            leskwyn.influence(*pair)
+        found = leskwyn.influence(*pair, common=True)
+        self.assertEqual([(row.name, row.different) for row in found.populations], [(name, 1) for name in "abcd"])
+
+    def test_refusals(self) -> None:
+        """As compare refuses them, with the same words."""
+        path = ROOT / "examples" / "p-q.bin"
+        for given, options in ((["(a,b);", "(a,c);"], {}), (["(a,(b,c);", "(a,b);"], {}), ([FEATHERS], {}),
+                               ([FEATHERS, WINGS], {"struck": ["Zeist"]}), ([path], {"struck": [5]}), ([path], {"struck": ["x"]})):
+            told = []
+            for call in (leskwyn.compare, leskwyn.influence):
+                with self.assertRaises(leskwyn.Refusal) as raised:
+                    call(*given, **options)
+                told.append((raised.exception.number, raised.exception.reason))
+            self.assertEqual(told[0], told[1])
+        for content, number in ((packed(P[:-1]), 4), (packed(P), 101), (b"", 1), (packed(P, THREE), 8), (packed(P, Q), 32),
+                                *((packed(t, Q), number) for t, number in LABEL_TROUBLE),
+                                *((packed(Q, t), 100 + number) for t, number in LABEL_TROUBLE)):
+            with self.assertRaises(leskwyn.Refusal) as raised:
+                api.influence_file("file", content, struck=["9"], drop=1)
+            self.assertEqual((raised.exception.number, raised.exception.reason[:6]), (number, "file: "))
+
+    def test_wrong_arguments(self) -> None:
+        """Told before a file is read."""
+        for drop in (0, -1):
+            with self.assertRaisesRegex(ValueError, f"^drop is {drop}, not 1 or more$"):
+                leskwyn.influence(pathlib.Path("absent.nwk"), WINGS, drop=drop)
+        with self.assertRaisesRegex(TypeError, "^struck is a str; names are needed, as a list$"):
+            leskwyn.influence(pathlib.Path("absent.nwk"), WINGS, struck="Coll")
+        with self.assertRaisesRegex(leskwyn.Trouble, "cannot read absent.nwk"):
+            leskwyn.influence(pathlib.Path("absent.nwk"), WINGS)
+
+
 class Weights(unittest.TestCase):
     """The spellings of a weight, and the sentence that turns another one away."""
 
@@ -1450,6 +1663,12 @@ class Answers(unittest.TestCase):
                 setattr(part, field, None)
         self.assertEqual(json.loads(json.dumps(shown.as_dict())), shown.as_dict())
         self.assertEqual(len({shown, leskwyn.why(FEATHERS, WINGS, ["Bute", "Azores", "Lundy", "Coll"])}), 1)
+        driven = leskwyn.influence(FEATHERS, WINGS, struck=["Foula"], drop=1)
+        for part in (driven, driven.populations[0], driven.dropped[0]):
+            with self.assertRaises(dataclasses.FrozenInstanceError):
+                part.same = 0
+        self.assertEqual(json.loads(json.dumps(driven.as_dict())), driven.as_dict())
+        self.assertEqual(len({driven, leskwyn.influence(FEATHERS, WINGS, struck=["Foula"], drop=1)}), 1)
 
     def test_errors(self) -> None:
         with tempfile.NamedTemporaryFile() as file:
@@ -1482,9 +1701,9 @@ class Answers(unittest.TestCase):
     def test_help(self) -> None:
         for name in leskwyn.__all__:
             self.assertTrue(getattr(leskwyn, name).__doc__, name)
-        for answer in (leskwyn.Comparison, leskwyn.Evidence, leskwyn.Witness):
+        for answer in (leskwyn.Comparison, leskwyn.Evidence, leskwyn.Witness, leskwyn.Influence, leskwyn.Holding, leskwyn.Dropped):
             for field in dataclasses.fields(answer):
-                self.assertRegex(answer.__doc__, rf"(?m)^ *(\w+, )?{field.name}\b")
+                self.assertRegex(answer.__doc__, rf"(?m)^ *(\w+, )*{field.name}\b")
 
 
 if __name__ == "__main__":

@@ -9,6 +9,7 @@ compare(a, b)        the figures of two trees, a Comparison
 against(a, trees)    one tree against many, a list of them
 matrix(trees)        the distances of all pairs, a square of numbers
 why(a, b, names)     why two trees part four populations alike or differently, an Evidence
+influence(a, b)      which populations drive the distance of two trees, an Influence
 
 A tree is Newick text, the path of a file, or a tree object of DendroPy or ETE. What is turned away is a Refusal, and what
 cannot be read a Trouble; both are a LeskwynError, with the fields number and reason. docs/COMMANDS.md has the commands
@@ -20,10 +21,12 @@ __version__ = "0.9.0"
 
 # This file and __main__.py are written so that old Pythons can read them, and say a sentence.
 if sys.version_info >= (3, 10):
-    from leskwyn.api import against, compare, matrix, why
+    from leskwyn.api import against, compare, influence, matrix, why
     from leskwyn.errors import LeskwynError, Refusal, Trouble
     from leskwyn.evidence import Evidence, Witness
     from leskwyn.figures import Comparison
-    __all__ = ["Comparison", "Evidence", "LeskwynError", "Refusal", "Trouble", "Witness", "against", "compare", "matrix", "why"]
+    from leskwyn.holding import Dropped, Holding, Influence
+    __all__ = ["Comparison", "Dropped", "Evidence", "Holding", "Influence", "LeskwynError", "Refusal", "Trouble", "Witness",
+               "against", "compare", "influence", "matrix", "why"]
 elif sys.argv[:1] not in (["-m"], ["-c"]):
     raise ImportError("leskwyn needs Python 3.10 or newer; this is Python %d.%d" % sys.version_info[:2])

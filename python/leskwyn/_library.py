@@ -44,17 +44,25 @@ class Evidence(ctypes.Structure):
                 for name in ("refusal", "which", "first_edge", "first_number", "second_edge", "second_number")]
 
 
+class FiveCounts(ctypes.Structure):
+    _fields_ = [("refusal", ctypes.c_uint16), *((name, ctypes.c_uint64) for name in "abcde")]
+
+
 class PairCall(typing.NamedTuple):
-    """A call of two tables and the work: its answer, whether it takes marks between them, and what it takes besides."""
+    """A call of two tables: its answer, whether it takes marks after them, and work after these, and what it takes besides."""
     answer: type[ctypes.Structure]
     is_marked: bool = True
+    has_work: bool = True
     besides: list[typing.Any] = []
 
 
-Answer = typing.TypeVar("Answer", ClaimSums, QuartetTable, SplitCounts, TripletTable, WeightedDistance)
+Answer = typing.TypeVar("Answer", ClaimSums, QuartetTable, SplitCounts, TripletTable, WeightedDistance, Evidence, FiveCounts)
 PAIR_CALLS = {"leskwyn_claim_sums": PairCall(ClaimSums), "leskwyn_quartet_table": PairCall(QuartetTable),
               "leskwyn_split_counts": PairCall(SplitCounts), "leskwyn_triplet_table": PairCall(TripletTable, is_marked=False),
-              "leskwyn_weighted_distance": PairCall(WeightedDistance, besides=[ctypes.c_uint16, ctypes.c_double])}
+              "leskwyn_weighted_distance": PairCall(WeightedDistance, besides=[ctypes.c_uint16, ctypes.c_double]),
+              "leskwyn_evidence": PairCall(Evidence, is_marked=False, has_work=False, besides=[ctypes.c_uint16] * 4),
+              "leskwyn_holding": PairCall(FiveCounts, has_work=False, besides=[ctypes.c_uint16]),
+              "leskwyn_change_mark": PairCall(FiveCounts, has_work=False, besides=[ctypes.c_uint64] * 5 + [ctypes.c_uint16] * 2)}
 
 
 class Words(typing.NamedTuple):
@@ -114,12 +122,10 @@ def library() -> ctypes.CDLL:
         found = ctypes.CDLL(os.path.abspath(path))
         slice_of_words = [ctypes.POINTER(ctypes.c_uint16), ctypes.c_size_t]
         slice_of_bytes = [ctypes.POINTER(ctypes.c_uint8), ctypes.c_size_t]
-        for name, (answer, is_marked, besides) in PAIR_CALLS.items():
+        for name, (answer, is_marked, has_work, besides) in PAIR_CALLS.items():
             call = getattr(found, name)
-            call.argtypes = slice_of_words * 2 + slice_of_bytes * is_marked + slice_of_bytes + besides
+            call.argtypes = slice_of_words * 2 + slice_of_bytes * (is_marked + has_work) + besides
             call.restype = answer
-        found.leskwyn_evidence.argtypes = slice_of_words * 2 + [ctypes.c_uint16] * 4
-        found.leskwyn_evidence.restype = Evidence
         found.leskwyn_version.argtypes, found.leskwyn_version.restype = [], ctypes.c_uint32
     except (OSError, AttributeError) as error:
         raise Trouble(f"cannot load the library {path}: {error}") from None
@@ -130,10 +136,10 @@ def library() -> ctypes.CDLL:
     return found
 
 
-def ask(name: str, answer: type[Answer], first: Words, second: Words, marked: Marks | None, lent: Cells,
+def ask(name: str, answer: type[Answer], first: Words, second: Words, marked: Marks | None, lent: Cells | None,
         *besides: object) -> Answer:
     call: typing.Callable[..., Answer] = getattr(library(), name)
-    return call(*first, *second, *(marked or ()), lent, len(lent), *besides)
+    return call(*first, *second, *(marked or ()), *([] if lent is None else [lent, len(lent)]), *besides)
 
 
 def claim_sums(first: Words, second: Words, marked: Marks, lent: Cells) -> ClaimSums:
@@ -165,6 +171,15 @@ def weighted_distance(first: Words, second: Words, marked: Marks, lent: Cells, k
 def evidence(first: Words, second: Words, labels: Sequence[int]) -> Evidence:
     """The case of four labels, and for each tree the edge that parts them or the node where they meet, or a refusal. It takes no
     work. A label that does not fit in a word is n or more as the largest word is."""
-    call: typing.Callable[..., Evidence] = library().leskwyn_evidence
-    a, b, c, d = (min(label, MOST_WORD) for label in labels)
-    return call(first.cells, first.count, second.cells, second.count, a, b, c, d)
+    return ask("leskwyn_evidence", Evidence, first, second, None, None, *(min(label, MOST_WORD) for label in labels))
+
+
+def holding(first: Words, second: Words, marked: Marks, label: int) -> FiveCounts:
+    """The five counts A to E of the sets of four that hold the label and three other kept labels, or a refusal."""
+    return ask("leskwyn_holding", FiveCounts, first, second, marked, None, label)
+
+
+def change_mark(first: Words, second: Words, marked: Marks, counts: Sequence[int], label: int, mark: int) -> FiveCounts:
+    """The five counts after the label gets the mark 1, kept, or 0, struck, or a refusal. `counts` are those before, and the mark
+    changes in `marked`."""
+    return ask("leskwyn_change_mark", FiveCounts, first, second, marked, None, *counts, label, mark)

@@ -1,11 +1,13 @@
-"""What Python callers use: compare, against, matrix and why."""
-from collections.abc import Iterable, Sequence
+"""What Python callers use: compare, against, matrix, why and influence."""
+import contextlib
+from collections.abc import Iterable, Iterator, Sequence
 
-from leskwyn import _library, counting, evidence, files
+from leskwyn import _library, counting, evidence, files, holding
 from leskwyn.counting import Number
 from leskwyn.errors import Refusal
 from leskwyn.evidence import Evidence
 from leskwyn.figures import Comparison
+from leskwyn.holding import Influence
 from leskwyn.labels import labels_given, labels_of_tips, labels_struck, outgroup_first
 from leskwyn.sources import ComparisonFile, Given, is_comparison_file, named_file, trees_given, trees_of_bytes
 from leskwyn.tables import tables_of_file
@@ -107,6 +109,33 @@ def why(a: Given, b: Given, names: Iterable[str | int], *, common: bool = False,
     return why_trees(*pair, four, common=common, outgroup=outgroup)
 
 
+def influence(a: Given, b: Given = None, *, common: bool = False, struck: Iterable[str | int] | None = None,
+              drop: int | None = None) -> Influence:
+    """Which populations drive the distance of two trees, as an Influence: for each kept tip the sets of four that hold it and
+    three other kept ones, by the cases A to E.
+
+    The trees are given as to compare, and `common` and `struck` are as there. The tips come by the share of these sets that the
+    trees see differently, their normalised distance: the greatest first, equal ones by name, of a comparison file by label.
+
+    With a `drop`, 1 or more, so many tips are struck in turn, each time the first of those that are left, and the Influence has
+    the counts after each. It ends where the distance is 0.
+
+    Raises Refusal and Trouble as compare does, and ValueError for a `drop` below 1.
+
+        >>> found = leskwyn.influence("((a,b),(c,(d,e)));", "((a,b),(d,(c,e)));", drop=1)
+        >>> [(one.name, one.distance, one.sets_of_four) for one in found.populations]
+        [('c', 2, 4), ('d', 2, 4), ('e', 2, 4), ('a', 1, 4), ('b', 1, 4)]
+        >>> [(one.name, one.kept, one.distance) for one in found.dropped]
+        [('c', 4, 0)]
+    """
+    if drop is not None and drop < 1:
+        raise ValueError(f"drop is {drop}, not 1 or more")
+    words, pair = struck_words(struck), pair_given(a, b, None)
+    if isinstance(pair, ComparisonFile):
+        return influence_file(*pair, words, drop)
+    return influence_trees(*pair, common=common, struck=words, drop=drop)
+
+
 # ---- what these share with the commands
 
 def pair_given(a: Given, b: Given, outgroup: str | None) -> list[Placed] | ComparisonFile:
@@ -139,6 +168,25 @@ def optional_struck(words: Sequence[str] | None, names: list[str]) -> list[int] 
     return None if words is None else labels_struck(words, names)
 
 
+def optional_labels(words: Sequence[str] | None) -> list[int] | None:
+    """The labels of a comparison file that are struck, each once and in their order."""
+    return None if words is None else sorted(set(labels_given(words)))
+
+
+def places_in(place: str) -> tuple[str, str]:
+    """Where the trees of a comparison file come from."""
+    return f"{place}, first tree", f"{place}, second tree"
+
+
+@contextlib.contextmanager
+def refusals_of(place: str) -> Iterator[None]:
+    """A refusal inside tells the comparison file."""
+    try:
+        yield
+    except Refusal as refusal:
+        raise Refusal(f"{place}: {refusal.reason}", refusal.number) from None
+
+
 def compare_trees(first: Placed, second: Placed, *, common: bool = False, outgroup: str | None = None,
                   weight: Weight | None = None, struck: Sequence[str] | None = None) -> Comparison:
     (first, second), names = same_names([first, second], common, outgroup)
@@ -149,13 +197,9 @@ def compare_trees(first: Placed, second: Placed, *, common: bool = False, outgro
 
 def compare_file(place: str, content: bytes, weight: Weight | None = None, struck: Sequence[str] | None = None) -> Comparison:
     """The figures of a comparison file of any length, without the labels that are struck."""
-    first, second = tables_of_file(place, content)
-    try:
-        labels = None if struck is None else sorted(set(labels_given(struck)))
-        return counting.compared((f"{place}, first tree", f"{place}, second tree"), _library.words(first),
-                                 _library.words(second), (), weight, labels)
-    except Refusal as refusal:
-        raise Refusal(f"{place}: {refusal.reason}", refusal.number) from None
+    first, second = map(_library.words, tables_of_file(place, content))
+    with refusals_of(place):
+        return counting.compared(places_in(place), first, second, (), weight, optional_labels(struck))
 
 
 def four_words(names: Iterable[str | int]) -> list[str]:
@@ -179,10 +223,23 @@ def why_trees(first: Placed, second: Placed, four: Sequence[str], *, common: boo
 def why_file(place: str, content: bytes, four: Sequence[str]) -> Evidence:
     """The evidence for four labels of a comparison file."""
     first, second = tables_of_file(place, content)
-    try:
-        return evidence.of_labels((f"{place}, first tree", f"{place}, second tree"), first, second, labels_given(four), ())
-    except Refusal as refusal:
-        raise Refusal(f"{place}: {refusal.reason}", refusal.number) from None
+    with refusals_of(place):
+        return evidence.of_labels(places_in(place), first, second, labels_given(four), ())
+
+
+def influence_trees(first: Placed, second: Placed, *, common: bool = False, struck: Sequence[str] | None = None,
+                    drop: int | None = None) -> Influence:
+    (first, second), names = same_names([first, second], common, None)
+    labels = labels_of_names(names)
+    tables = [_library.words(table_of(placed.tree, labels)) for placed in (first, second)]
+    return holding.of_tables((first.place, second.place), tables[0], tables[1], names, optional_struck(struck, names), drop)
+
+
+def influence_file(place: str, content: bytes, struck: Sequence[str] | None = None, drop: int | None = None) -> Influence:
+    """The influence of each label of a comparison file that is not struck."""
+    first, second = map(_library.words, tables_of_file(place, content))
+    with refusals_of(place):
+        return holding.of_tables(places_in(place), first, second, (), optional_labels(struck), drop)
 
 
 def all_trees(trees: Iterable[Given]) -> list[Placed]:

@@ -1,4 +1,4 @@
-"""The commands compare, matrix, against and why, and the way from the command line to each command.
+"""The commands compare, why, influence, matrix and against, and the way from the command line to each command.
 
     leskwyn COMMAND [OPTION...] [FILE...]
 
@@ -12,14 +12,14 @@ from collections.abc import Callable
 
 from leskwyn import __version__, counting, files, text
 from leskwyn._library import TOP
-from leskwyn.api import compare_file, compare_trees, optional_struck, why_file, why_trees
+from leskwyn.api import compare_file, compare_trees, influence_file, influence_trees, optional_struck, why_file, why_trees
 from leskwyn.errors import LeskwynError, Refusal, Trouble, counted, quoted
 from leskwyn.figures import Comparison
 from leskwyn.labels import outgroup_first
 from leskwyn.sources import ComparisonFile, is_comparison_file, trees_of_bytes, trees_of_path
-from leskwyn.trees import Placed, checked, labels_of_names, table_of
-from leskwyn.usage import (Parser, ProgressLine, Usage, add_common, add_jobs, add_outgroup, add_strike, add_weight, struck_names,
-                           with_common)
+from leskwyn.trees import MOST_TIPS, Placed, checked, labels_of_names, table_of
+from leskwyn.usage import (Parser, ProgressLine, Usage, add_common, add_jobs, add_outgroup, add_strike, add_weight, number_of,
+                           struck_names, with_common)
 
 HELP = """\
 usage: leskwyn COMMAND [OPTION...] [FILE...]
@@ -30,6 +30,7 @@ Counts population trees against each other, four populations at a time, by a lib
   leskwyn compare A B              two trees: what they part alike and differently, the distances
   leskwyn why A B NAME NAME NAME NAME
                                    four populations: how each tree parts them, and by which edge
+  leskwyn influence A B            each population: how far it drives the distance
   leskwyn against REF FILE...      one tree against many, a row for each
   leskwyn matrix FILE...           all pairs of trees, a square of distances
   leskwyn table A B -o PAIR        two trees as one comparison file
@@ -63,9 +64,16 @@ def pair_read(parser: Parser, options: argparse.Namespace) -> list[Placed] | Com
         return with_common(trees_of_bytes(place, content, 2), options.common)
     if options.common:
         parser.error("--common goes by names, and a comparison file has none")
-    if options.outgroup is not None:
+    if getattr(options, "outgroup", None) is not None:
         parser.error("--outgroup goes by names, and a comparison file has none: its outgroup is label 0")
     return ComparisonFile(place, content)
+
+
+def check_pair(parser: Parser, options: argparse.Namespace, fewest: int, hint: str = "") -> None:
+    """Turns other than one or two files away, and other than one with --tables."""
+    if not fewest <= len(options.trees) <= 2 or options.tables and len(options.trees) != 1:
+        parser.error(f"{len(options.trees)} files; " + ("one comparison file is needed" if options.tables else
+                                                        f"one or two are needed{hint}"))
 
 
 # ---- compare
@@ -108,9 +116,7 @@ def compared(options: argparse.Namespace) -> Comparison:
 def compare_options(arguments: list[str]) -> argparse.Namespace:
     parser = compare_parser()
     options = parser.parsed(arguments, "trees", "strike_file")
-    if len(options.trees) > 2 or options.tables and len(options.trees) != 1:
-        parser.error(f"{len(options.trees)} files; " + ("one comparison file is needed" if options.tables else
-                                                        "one or two are needed (leskwyn matrix takes more)"))
+    check_pair(parser, options, 0, " (leskwyn matrix takes more)")
     if options.weight is not None and options.format == "listing":
         parser.error("--listing and --weight exclude each other: the six lines have no weighted distance")
     if options.format == "listing" and (options.strike or options.strike_file):
@@ -185,6 +191,44 @@ def why_command(options: argparse.Namespace) -> int:
     found = (why_file(*pair, options.names) if isinstance(pair, ComparisonFile) else
              why_trees(*pair, options.names, outgroup=options.outgroup))
     files.print_text(text.EVIDENCE_FORMATS[options.format](found))
+    return 0
+
+
+# ---- influence
+
+def influence_parser() -> Parser:
+    parser = Parser("influence", usage="leskwyn influence A [B] [--drop K] [--format text|tsv|json] [--strike NAME]... "
+                                       "[--strike-file FILE]... [--common] [--tables]",
+                    description="Shows which populations drive the distance of two trees: of each the sets of four that hold it, "
+                                "and the share\nof these that the trees see differently, the greatest share first.",
+                    epilog="The trees are given as to compare. docs/COMMANDS.md has the keys of tsv and json.\n" + STATUS)
+    parser.add_argument("trees", nargs="*", metavar="FILE", help="Newick or comparison files; - is standard input")
+    parser.add_argument("--drop", type=number_of("populations", MOST_TIPS), metavar="K",
+                        help="strike K populations in turn, each time the first of those that are left, and tell the distance "
+                             "after each; it ends at 0")
+    parser.add_argument("--format", choices=list(text.INFLUENCE_FORMATS), default="text", help="for people, or for programs")
+    add_strike(parser)
+    add_common(parser)
+    add_tables(parser)
+    return parser
+
+
+def influence_options(arguments: list[str]) -> argparse.Namespace:
+    parser = influence_parser()
+    options = parser.parsed(arguments, "trees", "strike_file")
+    check_pair(parser, options, 1)
+    return options
+
+
+def influence_command(options: argparse.Namespace) -> int:
+    pair, struck = pair_read(influence_parser(), options), struck_names(options)
+    found = (influence_file(*pair, struck, options.drop) if isinstance(pair, ComparisonFile) else
+             influence_trees(*pair, struck=struck, drop=options.drop))
+    if options.format == "tsv" and found.struck is not None:
+        files.say_line(text.told_struck(found.struck, found.tips))
+    files.print_text(text.INFLUENCE_FORMATS[options.format](found))
+    if options.format != "text" and text.told_end(found):
+        files.say_line(f"note: {text.told_end(found)}")
     return 0
 
 
@@ -310,7 +354,8 @@ class Counting(typing.NamedTuple):
 
 
 COUNTING = {"compare": Counting(compare_options, compare_command), "matrix": Counting(matrix_options, matrix_command),
-            "against": Counting(against_options, against_command), "why": Counting(why_options, why_command)}
+            "against": Counting(against_options, against_command), "why": Counting(why_options, why_command),
+            "influence": Counting(influence_options, influence_command)}
 OTHERS = {"table": table_command, "show": show_command}
 
 

@@ -1,10 +1,11 @@
-"""Figures as text: for people, as TSV, as JSON, and squares of distances; the evidence for four tips."""
-from collections.abc import Sequence
+"""Figures as text: for people, as TSV, as JSON, and squares of distances; the evidence for four tips; the influence of each."""
+from collections.abc import Iterable, Sequence
 
 from leskwyn.counting import Number
 from leskwyn.errors import one_line
 from leskwyn.evidence import Evidence, Witness
 from leskwyn.figures import KEYS, Comparison, keys_of
+from leskwyn.holding import DROPPED_KEYS, HOLDING_KEYS, Counted, Influence
 from leskwyn.tables import written_name
 from leskwyn.weights import told_fraction
 
@@ -28,13 +29,12 @@ def case_rows(counts: Sequence[int]) -> str:
                    for (letter, name), count in zip(CASES, counts, strict=True))
 
 
-def quartets_for_people(c: Comparison) -> str:
+def quartets_for_people(c: Comparison | Influence) -> str:
     return (row("sets of four", str(c.sets_of_four))
             + case_rows([c.same, c.different, c.first_only, c.second_only, c.neither])
             + row("distance", str(c.distance), "B + C + D")
             + row("normalised distance", f"{c.normalised_distance:.4f}",
-                  "distance / sets of four" if c.sets_of_four else "there are no sets of four")
-            + weighted_for_people(c))
+                  "distance / sets of four" if c.sets_of_four else "there are no sets of four"))
 
 
 def exactly(number: float) -> str:
@@ -89,13 +89,18 @@ def told_struck(names: Sequence[str], tips: int) -> str:
             + (f"; struck: {told_names(names, len(names))}" if names else ""))
 
 
-def for_people(c: Comparison) -> str:
-    """The figures with their names, one a line."""
+def trees_for_people(c: Comparison | Influence, of_kept: str) -> str:
+    """The trees, and how many populations they have; if some are struck, what counts only the kept ones."""
     return (f"first tree: {one_line(c.first)}\nsecond tree: {one_line(c.second)}\n"
             + (f"struck: {told_names(c.struck, len(c.struck))}\n" if c.struck else "") + "\n"
             + row("populations", str(c.tips))
-            + (row("kept", str(c.kept), f"of {c.tips}; sets of four and splits count these alone") if c.struck is not None else "")
-            + "\n".join([quartets_for_people(c), splits_for_people(c), triplets_for_people(c)]))
+            + (row("kept", str(c.kept), f"of {c.tips}; {of_kept} count these alone") if c.struck is not None else ""))
+
+
+def for_people(c: Comparison) -> str:
+    """The figures with their names, one a line."""
+    return (trees_for_people(c, "sets of four and splits")
+            + "\n".join([quartets_for_people(c) + weighted_for_people(c), splits_for_people(c), triplets_for_people(c)]))
 
 
 # ---- for programs
@@ -106,18 +111,26 @@ def cell(value: object) -> str:
     return one_line(",".join(map(written_name, value)) if isinstance(value, tuple) else str(value))
 
 
-def as_tsv(comparisons: Sequence[Comparison]) -> str:
-    """A header of the keys but the names, then a row for each pair. All have a weight, or none, and so with struck names."""
-    keys = keys_of(comparisons[0]) if comparisons else KEYS
-    columns = [key for key in keys if key != "names"]
-    rows = [columns, *([cell(getattr(c, column)) for column in columns] for c in comparisons)]
+def rows_tsv(columns: Sequence[str], records: Iterable[Comparison | Counted]) -> str:
+    """A header of the columns, then a row for each record."""
+    rows = [columns, *([cell(getattr(record, column)) for column in columns] for record in records)]
     return "".join("\t".join(row) + "\n" for row in rows)
 
 
-def as_json(comparisons: Sequence[Comparison]) -> str:
-    """One object for each pair, each on its line."""
+def as_tsv(comparisons: Sequence[Comparison]) -> str:
+    """The columns are the keys but the names. All have a weight, or none, and so with struck names."""
+    keys = keys_of(comparisons[0]) if comparisons else KEYS
+    return rows_tsv([key for key in keys if key != "names"], comparisons)
+
+
+def line_json(answer: Comparison | Evidence | Influence) -> str:
+    """One object on one line."""
     import json
-    return "".join(json.dumps(c.as_dict(), ensure_ascii=False) + "\n" for c in comparisons)
+    return json.dumps(answer.as_dict(), ensure_ascii=False) + "\n"
+
+
+def as_json(comparisons: Sequence[Comparison]) -> str:
+    return "".join(map(line_json, comparisons))
 
 
 def as_people_read(comparisons: Sequence[Comparison]) -> str:
@@ -190,10 +203,48 @@ def evidence_for_people(e: Evidence) -> str:
             + f"case {e.case}: {dict(CASES)[e.case]}\n")
 
 
-def evidence_json(e: Evidence) -> str:
-    """One object on one line."""
-    import json
-    return json.dumps(e.as_dict(), ensure_ascii=False) + "\n"
+EVIDENCE_FORMATS = {"text": evidence_for_people, "json": line_json}
 
 
-EVIDENCE_FORMATS = {"text": evidence_for_people, "json": evidence_json}
+# ---- the influence of each tip
+
+def columns(heads: Sequence[str], rows: Sequence[Sequence[str]]) -> str:
+    """Rows under their heads; the first column starts at the left, the others end at the right."""
+    widths = [max(map(len, column)) for column in zip(heads, *rows)]
+    return "".join("   ".join([f"{first:{widths[0]}}", *map(str.rjust, others, widths[1:])]) + "\n"
+                   for first, *others in [heads, *rows])
+
+
+def counted_cells(c: Counted) -> list[str]:
+    counts = [c.sets_of_four, c.same, c.different, c.first_only, c.second_only, c.neither, c.distance]
+    return [*map(str, counts), f"{c.normalised_distance:.4f}"]
+
+
+def told_end(i: Influence) -> str:
+    """Why no more are dropped, if the distance says so; else an empty text."""
+    if i.dropped is None or (i.dropped or [i])[-1].distance:
+        return ""
+    return f"{'no more populations are' if i.dropped else 'no population is'} dropped: the distance is 0"
+
+
+def influence_for_people(i: Influence) -> str:
+    """The figures of all sets of four, then a row for each population, and one for each that is dropped."""
+    heads = [*"ABCDE", "distance", "normalised"]
+    parts = [trees_for_people(i, "sets of four") + quartets_for_people(i)]
+    if i.populations:
+        parts.append(columns(["population", "sets that hold it", *heads],
+                             [[told_name(one.name), *counted_cells(one)] for one in i.populations]))
+    if i.dropped:
+        parts.append(columns(["dropped", "kept", "sets of four", *heads],
+                             [[told_name(one.name), str(one.kept), *counted_cells(one)] for one in i.dropped]))
+    if told_end(i):
+        parts.append(f"{told_end(i)}\n")
+    return "\n".join(parts)
+
+
+def influence_tsv(i: Influence) -> str:
+    """A row for each population, or for each that is dropped if that is asked for."""
+    return rows_tsv(HOLDING_KEYS, i.populations) if i.dropped is None else rows_tsv(DROPPED_KEYS, i.dropped)
+
+
+INFLUENCE_FORMATS = {"text": influence_for_people, "tsv": influence_tsv, "json": line_json}

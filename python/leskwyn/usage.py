@@ -3,7 +3,7 @@ import argparse
 import sys
 import time
 import typing
-from collections.abc import Sequence
+from collections.abc import Callable, Sequence
 
 from leskwyn import __version__, files
 from leskwyn.counting import Progress
@@ -91,14 +91,18 @@ def struck_names(options: argparse.Namespace) -> list[str] | None:
     return options.strike + [name for path in options.strike_file for name in names_struck(path)]
 
 
-def jobs(text: str) -> int:
-    if not text.isascii() or not text.isdigit() or not 1 <= int(text) <= 1024:
-        raise argparse.ArgumentTypeError(f"{quoted(text)} is not a number of threads from 1 to 1024")
-    return int(text)
+def number_of(what: str, most: int) -> Callable[[str], int]:
+    """Reads a number from 1 to `most`."""
+    def number(text: str) -> int:
+        if not text.isascii() or not text.isdigit() or not 1 <= int(text) <= most:
+            raise argparse.ArgumentTypeError(f"{quoted(text)} is not a number of {what} from 1 to {most}")
+        return int(text)
+
+    return number
 
 
 def add_jobs(parser: Parser) -> None:
-    parser.add_argument("--jobs", type=jobs, metavar="N", help="threads; by default one for each processor")
+    parser.add_argument("--jobs", type=number_of("threads", 1024), metavar="N", help="threads; by default one for each processor")
 
 
 def with_common(trees: Sequence[Placed], common: bool) -> list[Placed]:

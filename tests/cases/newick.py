@@ -93,6 +93,21 @@ def caterpillar(names: list[str]) -> Tree:
     return tree
 
 
+# ---- how edges part names
+
+def sides_of(tree: Tree) -> list[frozenset[str]]:
+    """The names on one side of each edge."""
+    return [frozenset(tree.names_beyond(a, b)) for a, b in tree.edges()]
+
+
+def parting(sides: Iterable[frozenset[str]], four: frozenset[str]) -> frozenset[frozenset[str]] | None:
+    """How an edge parts four names two and two, or None if no edge does."""
+    for side in sides:
+        if len(side & four) == 2:
+            return frozenset([side & four, four - side])
+    return None
+
+
 # ---- Newick texts
 
 PIECES = ["Parus", "major", "Cetti's", "ü", "Łódź", "a_b", " ", "''", "(x)", "[y]", ";", ",", ":1", "-", "\U0001F426",

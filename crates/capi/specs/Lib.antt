@@ -1,4 +1,5 @@
 pub mod PlainAnswers
+pub mod PlainLabels
 pub mod Version
 pub mod theorems
 pub mod lemmas

@@ -84,3 +84,14 @@ pub struct EvidenceAnswer {
     pub second_edge: u16,
     pub second_number: u16,
 }
+
+// The number; A to E: of the sets that hold a label, or once a label is struck or restored.
+#[repr(C)]
+pub struct FiveCountsAnswer {
+    pub refusal: u16,
+    pub a: u64,
+    pub b: u64,
+    pub c: u64,
+    pub d: u64,
+    pub e: u64,
+}
