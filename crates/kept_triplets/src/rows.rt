@@ -1,5 +1,5 @@
 // What pairs of edges add, row by row: the sums of an edge and of its parent's are enough for a row.
-use super::places::prefix;
+use super::places::prefix_two;
 use super::terms::alike_term;
 use super::terms::apart_term;
 use super::terms::cell;
@@ -20,25 +20,27 @@ pub(crate) struct PairTerms {
     pub apart: u64,
 }
 
-// Node j of the second tree and its parent p, from the sums of an edge of the first tree and of its parent's.
+// Node j of the second tree and its parent p. The totals have those of an edge of the first tree in the lower part, and those
+// of its parent's in the upper one: both parts of a difference are got by one subtraction.
 fn pair_at(
-    own: &[u64; TIPS],
-    above: &[u64; TIPS],
+    sums: &[u64; TIPS],
     begin: &[Cell; NODES],
     end: &[Cell; NODES],
     j: usize,
     p: usize,
 ) -> PairTerms
-    requires { ⌜ FourSums (now own) (now above) (now begin) (now end) j p ⌝ }
+    requires { ⌜ FourSums (now sums) (now begin) (now end) j p ⌝ }
     ensures { λ r. ⌜
-        (r .alike ≡ alikeAt (now (own .entry)) (now (above .entry)) (now (begin .entry)) (now (end .entry)) j p)
-        × (r .apart ≡ apartAt (now (own .entry)) (now (above .entry)) (now (begin .entry)) (now (end .entry)) j p)
+        (r .alike ≡ alikeAt (now (sums .entry)) (now (begin .entry)) (now (end .entry)) j p)
+        × (r .apart ≡ apartAt (now (sums .entry)) (now (begin .entry)) (now (end .entry)) j p)
         ⌝ }
 {
-    let i = cell(own, begin[j], end[j]);
-    let r = cell(own, begin[p], end[p]);
-    let c = cell(above, begin[j], end[j]);
-    let w = cell(above, begin[p], end[p]);
+    let own = cell(sums, begin[j], end[j]);
+    let over = cell(sums, begin[p], end[p]);
+    let i = own % 65536;
+    let c = own / 65536;
+    let r = over % 65536;
+    let w = over / 65536;
     PairTerms {
         alike: alike_term(i, r, c, w),
         apart: apart_term(i, r, c),
@@ -47,19 +49,18 @@ fn pair_at(
 
 // The listed nodes of the second tree.
 fn row_terms(
-    own: &[u64; TIPS],
-    above: &[u64; TIPS],
+    sums: &[u64; TIPS],
     begin: &[Cell; NODES],
     end: &[Cell; NODES],
     second: &[u16],
     columns: &[usize; NODES],
     count: usize,
 ) -> PairTerms
-    requires { ⌜ RowSums (now own) (now above) (now begin) (now end) (now second) (now columns) count ⌝ }
+    requires { ⌜ RowSums (now sums) (now begin) (now end) (now second) (now columns) count ⌝ }
     ensures { λ r. ⌜
-        (r .alike ≡ sum count (alikeListed (now (own .entry)) (now (above .entry)) (now (begin .entry)) (now (end .entry))
+        (r .alike ≡ sum count (alikeListed (now (sums .entry)) (now (begin .entry)) (now (end .entry))
         (now (second .entry)) (now (columns .entry))))
-        × (r .apart ≡ sum count (apartListed (now (own .entry)) (now (above .entry)) (now (begin .entry)) (now (end .entry))
+        × (r .apart ≡ sum count (apartListed (now (sums .entry)) (now (begin .entry)) (now (end .entry))
         (now (second .entry)) (now (columns .entry))))
         ⌝ }
 {
@@ -68,7 +69,7 @@ fn row_terms(
     let mut q = 0;
     while q < count {
         let j = columns[q];
-        let terms = pair_at(own, above, begin, end, j, as_index(second[2 + j]));
+        let terms = pair_at(sums, begin, end, j, as_index(second[2 + j]));
         alike += terms.alike;
         apart += terms.apart;
         q += 1;
@@ -103,19 +104,17 @@ fn row_at(
         ⌝ }
 {
     let p = as_index(first[2 + v]);
-    let mut own = [0u64; TIPS];
-    prefix(at, n - 1, first_begin[v], first_end[v], &mut own);
-    let mut above = [0u64; TIPS];
-    prefix(at, n - 1, first_begin[p], first_end[p], &mut above);
-    row_terms(
-        &own,
-        &above,
-        second_begin,
-        second_end,
-        second,
-        columns,
-        count,
-    )
+    let mut sums = [0u64; TIPS];
+    prefix_two(
+        at,
+        n - 1,
+        first_begin[v],
+        first_end[v],
+        first_begin[p],
+        first_end[p],
+        &mut sums,
+    );
+    row_terms(&sums, second_begin, second_end, second, columns, count)
 }
 
 // The rows of the listed edges of the first tree.

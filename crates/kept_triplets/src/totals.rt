@@ -49,7 +49,14 @@ fn sums_of(
     let mut second_all = [0u64; TIPS];
     prefix(at, n - 1, 0, 255, &mut second_all);
     let mut columns = [0usize; NODES];
-    let column_count = list_edges(&second_all, second_begin, second_end, second, k, &mut columns);
+    let column_count = list_edges(
+        &second_all,
+        second_begin,
+        second_end,
+        second,
+        k,
+        &mut columns,
+    );
     let pairs = all_rows(
         first,
         second,
@@ -67,7 +74,14 @@ fn sums_of(
     );
     KeptSums {
         first: edge_terms(&first_all, first_begin, first_end, first, &rows, row_count),
-        second: edge_terms(&second_all, second_begin, second_end, second, &columns, column_count),
+        second: edge_terms(
+            &second_all,
+            second_begin,
+            second_end,
+            second,
+            &columns,
+            column_count,
+        ),
         alike: pairs.alike,
         apart: pairs.apart,
         others: second_all[n - 1],
@@ -94,11 +108,32 @@ pub(crate) fn kept_sums(
     let mut second_nodes = [0u16; TIPS];
     let mut second_begin = [0; NODES];
     let mut second_end = [0; NODES];
-    spans(second, &mut second_nodes, &mut second_begin, &mut second_end);
+    spans(
+        second,
+        &mut second_nodes,
+        &mut second_begin,
+        &mut second_end,
+    );
     let mut at = [0; TIPS];
-    fill_places(marks, n, &first_nodes, &second_nodes, &first_begin, &second_begin, &mut at);
+    fill_places(
+        marks,
+        n,
+        &first_nodes,
+        &second_nodes,
+        &first_begin,
+        &second_begin,
+        &mut at,
+    );
     let mut back = [0; TIPS];
-    fill_places(marks, n, &second_nodes, &first_nodes, &second_begin, &first_begin, &mut back);
+    fill_places(
+        marks,
+        n,
+        &second_nodes,
+        &first_nodes,
+        &second_begin,
+        &first_begin,
+        &mut back,
+    );
     sums_of(
         first,
         second,

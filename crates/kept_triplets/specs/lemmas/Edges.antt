@@ -248,9 +248,12 @@ module _ (t : Table) (g : IsTree t) (marks : List ℕ) (n : ℕ) (en : n ≡ tip
         each j m true e = rw e (unfold bit in omega arith)
         each j m false e =
             let a = at-word (j + 2) (omega arith) (omega arith) in
-            rw (e, none (j + 2) (omega arith) (omega arith)
-            (subst (λ (z : ℕ). (sizeOver marks n t (j + 2) ≤ 1) ⊎ (z ≤ sizeOver marks n t (j + 2))) (a .2)
-            (subst (λ (z : ℕ). (z ≤ 1) ⊎ (spanOf all begin end (word t (2 + (j + 2))) ≤ z)) (a .1) (adds-nothing _ _ e))))
+            rw (
+              e,
+              none (j + 2) (omega arith) (omega arith)
+                  (subst (λ (z : ℕ). (sizeOver marks n t (j + 2) ≤ 1) ⊎ (z ≤ sizeOver marks n t (j + 2))) (a .2)
+                  (subst (λ (z : ℕ). (z ≤ 1) ⊎ (spanOf all begin end (word t (2 + (j + 2))) ≤ z)) (a .1) (adds-nothing _ _ e))),
+            )
             (unfold bit in omega arith)
 
     pub edge-sum : sum count (edgeListed all begin end t listed) ≡ sum (nodes t - 2) (λ j. edgeOver marks n t (j + 2))

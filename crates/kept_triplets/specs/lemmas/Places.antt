@@ -16,7 +16,7 @@ use Rattle.sums.specs.theorems.SumLaws.{sum-ext, sum-first, sum-part}
 use Rattle.sums.specs.Bits.{bit, is}
 use Rattle.sums.specs.Counts.{count}
 use Rattle.sums.specs.Lists.{inOrder}
-use Rattle.sums.specs.theorems.ListLaws.{in-order-at}
+use Rattle.sums.specs.theorems.ListLaws.{in-order-length, in-order-at}
 use Rattle.sums.specs.theorems.BitLaws.{bit-T, bit-no, is-other}
 use Rattle.tree_check.specs.Table.{Table, word, tips, nodes, label, nodeOf, beyond}
 use Rattle.tree_check.specs.IsTree.{IsTree}
@@ -47,6 +47,22 @@ pub record PlacesTo (k : ℕ) (t u : Table) (marks beginT beginU at : List ℕ) 
 pub record Prefixed (at : List ℕ) (b e n : ℕ) (sums : List ℕ) : Type 0 where
   pub long : length sums ≡ tipsMost
   pub sum-is : (k : ℕ) → k ≤ n → word sums k ≡ sum k (λ i. bit (inSpan (word at i) b e))
+
+-- .. and in each of two spans, the second counted from 65536 on
+pub record PrefixedTwo (at : List ℕ) (b e b' e' n : ℕ) (sums : List ℕ) : Type 0 where
+  pub long : length sums ≡ tipsMost
+  pub sum-is : (k : ℕ) → k ≤ n
+      → word sums k ≡ sum k (λ i. bit (inSpan (word at i) b e)) + 65536 * sum k (λ i. bit (inSpan (word at i) b' e'))
+
+-- a list of such totals
+abbrev pub totalsOf : List ℕ → ℕ → ℕ → List ℕ
+totalsOf at b e = inOrder tipsMost (λ k. sum k (λ i. bit (inSpan (word at i) b e)))
+
+pub totals-are : (at : List ℕ) (b e n : ℕ) → n < tipsMost → Prefixed at b e n (totalsOf at b e)
+totals-are at b e n l = record {
+  long = in-order-length tipsMost _;
+  sum-is = λ k m. in-order-at tipsMost (λ k. sum k (λ i. bit (inSpan (word at i) b e))) k (omega arith);
+}
 
 -- where the spans of a table's nodes begin and end
 pub record SpanLists (t : Table) (begin end : List ℕ) : Type 0 where

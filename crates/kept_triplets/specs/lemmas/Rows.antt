@@ -4,7 +4,7 @@ use mathlib.Core.Path.{_≡_, refl, sym, _∙_, ap, ap₂, subst}
 use mathlib.Core.Bool.{Bool, true, false}
 use mathlib.Core.Logic.{inl, inr, _⊎_}
 use mathlib.Core.List.{List}
-use Prim.Native.Nat.{ℕ, zero, suc, _+_, _*_, _-_, _≤_, _<_}
+use Prim.Native.Nat.{ℕ, zero, suc, _+_, _*_, _-_, _/_, _%_, _≤_, _<_}
 use native.Mathlib.Omega.{arith}
 use lib.ListN.{length}
 use Rattle.table_words.specs.Sizes.{nodeRoom}
@@ -21,58 +21,69 @@ use Rattle.tree_check.specs.theorems.RootedTables.{rooted}
 use Rattle.walks.specs.theorems.SpanLaws.{inSpan}
 use Rattle.counting.specs.Kept.{isOther}
 use Rattle.counting.specs.theorems.KeptTripletSums.{sizeOver, bothOver, alikeOver, apartOver, nested}
-use Rattle.kept_triplets.specs.lemmas.Places.{SpanLists, PlacesTo, Prefixed, span-fits, cell-is}
+use Rattle.kept_triplets.specs.lemmas.Places.{SpanLists, PlacesTo, Prefixed, PrefixedTwo, totalsOf, totals-are, span-fits, cell-is}
 use Rattle.kept_triplets.specs.lemmas.Terms.{Nested, alike-most, apart-most, sum-most}
 use Rattle.kept_triplets.specs.lemmas.Edges.{spanOf, addsAt, ListedTo, SizesOf, parent-word, size-few, listed-node, listed-few, listed-enough}
 
 -- ---- as the code reads the sums
 
-abbrev pub alikeAt : List ℕ → List ℕ → List ℕ → List ℕ → ℕ → ℕ → ℕ
-alikeAt own above begin end j p =
-    alikeTerm (spanOf own begin end j) (spanOf own begin end p) (spanOf above begin end j) (spanOf above begin end p)
+-- the two parts of a number: an edge's labels, and its parent's
+abbrev pub low : ℕ → ℕ
+low x = x % 65536
 
-abbrev pub apartAt : List ℕ → List ℕ → List ℕ → List ℕ → ℕ → ℕ → ℕ
-apartAt own above begin end j p = apartTerm (spanOf own begin end j) (spanOf own begin end p) (spanOf above begin end j)
+abbrev pub high : ℕ → ℕ
+high x = x / 65536
+
+abbrev pub alikeAt : List ℕ → List ℕ → List ℕ → ℕ → ℕ → ℕ
+alikeAt sums begin end j p = alikeTerm (low (spanOf sums begin end j)) (low (spanOf sums begin end p))
+    (high (spanOf sums begin end j)) (high (spanOf sums begin end p))
+
+abbrev pub apartAt : List ℕ → List ℕ → List ℕ → ℕ → ℕ → ℕ
+apartAt sums begin end j p = apartTerm (low (spanOf sums begin end j)) (low (spanOf sums begin end p)) (high (spanOf sums begin end j))
 
 -- node j and its parent p
-pub record FourSums (own above begin end : List ℕ) (j p : ℕ) : Type 0 where
+pub record FourSums (sums begin end : List ℕ) (j p : ℕ) : Type 0 where
   pub node : j < nodeRoom
   pub parent-node : p < nodeRoom
-  pub rise : (word own (word begin j) ≤ word own (word end j)) × (word own (word begin p) ≤ word own (word end p))
-  pub rise-above : (word above (word begin j) ≤ word above (word end j)) × (word above (word begin p) ≤ word above (word end p))
-  pub nest : Nested (spanOf own begin end j) (spanOf own begin end p) (spanOf above begin end j) (spanOf above begin end p)
+  pub rise : (word sums (word begin j) ≤ word sums (word end j)) × (word sums (word begin p) ≤ word sums (word end p))
+  pub nest : Nested (low (spanOf sums begin end j)) (low (spanOf sums begin end p)) (high (spanOf sums begin end j)) (high (spanOf sums begin end p))
+
+pub nested-parts : (x x' y y' : ℕ) → x ≡ x' → y ≡ y' → Nested (low x') (low y') (high x') (high y') → Nested (low x) (low y) (high x) (high y)
+nested-parts x x' y y' a b n = rw (a, b) n
 
 -- each listed node of the second table, and its parent
-pub record RowSums (own above begin end second columns : List ℕ) (count : ℕ) : Type 0 where
+pub record RowSums (sums begin end second columns : List ℕ) (count : ℕ) : Type 0 where
   pub few : count ≤ nodeRoom
   pub listed : (q : ℕ) → q < count → (word columns q ≤ nodeRoom) × (2 + word columns q < length second)
-  pub sums : (q : ℕ) → q < count → FourSums own above begin end (word columns q) (word second (2 + word columns q))
+  pub four : (q : ℕ) → q < count → FourSums sums begin end (word columns q) (word second (2 + word columns q))
 
-abbrev pub alikeListed : List ℕ → List ℕ → List ℕ → List ℕ → List ℕ → List ℕ → ℕ → ℕ
-alikeListed own above begin end second columns q =
-    alikeAt own above begin end (word columns q) (word second (2 + word columns q))
+abbrev pub alikeListed : List ℕ → List ℕ → List ℕ → List ℕ → List ℕ → ℕ → ℕ
+alikeListed sums begin end second columns q = alikeAt sums begin end (word columns q) (word second (2 + word columns q))
 
-abbrev pub apartListed : List ℕ → List ℕ → List ℕ → List ℕ → List ℕ → List ℕ → ℕ → ℕ
-apartListed own above begin end second columns q =
-    apartAt own above begin end (word columns q) (word second (2 + word columns q))
+abbrev pub apartListed : List ℕ → List ℕ → List ℕ → List ℕ → List ℕ → ℕ → ℕ
+apartListed sums begin end second columns q = apartAt sums begin end (word columns q) (word second (2 + word columns q))
 
-module _ (own above begin end second columns : List ℕ) (count : ℕ) (h : RowSums own above begin end second columns count) where
+module _ (sums begin end second columns : List ℕ) (count : ℕ) (h : RowSums sums begin end second columns count) where
   -- sums over the first q listed nodes
   pub listed-low : (q : ℕ) → q ≤ count
-      → (sum q (alikeListed own above begin end second columns) ≤ 17179869184)
-      × (sum q (apartListed own above begin end second columns) ≤ 17179869184)
+      → (sum q (alikeListed sums begin end second columns) ≤ 17179869184)
+      × (sum q (apartListed sums begin end second columns) ≤ 17179869184)
   listed-low q l = (
     omega (
       arith,
-      sum-most q 16777216 (alikeListed own above begin end second columns) (λ i m. alike-most _ _ _ _ (h .sums i (omega arith) .nest)),
+      sum-most q 16777216 (alikeListed sums begin end second columns) (λ i m. alike-most _ _ _ _ (h .four i (omega arith) .nest)),
       product-le nodeRoom 16777216 q 16777216 (omega (arith, h .few)) (omega arith),
     ),
     omega (
       arith,
-      sum-most q 16777216 (apartListed own above begin end second columns) (λ i m. apart-most _ _ _ _ (h .sums i (omega arith) .nest)),
+      sum-most q 16777216 (apartListed sums begin end second columns) (λ i m. apart-most _ _ _ _ (h .four i (omega arith) .nest)),
       product-le nodeRoom 16777216 q 16777216 (omega (arith, h .few)) (omega arith),
     ),
   )
+
+-- one subtraction for both parts
+halves : (d m x : ℕ) → d < 65536 → x ≡ d + 65536 * m → (low x ≡ d) × (high x ≡ m)
+halves d m x l e = rw e (omega arith, omega arith)
 
 -- ---- what is prepared for the rows of two tables
 
@@ -200,20 +211,24 @@ module _ (t u : Table) (marks : List ℕ) (n : ℕ) (fb fe sb se at columns : Li
   nest (suc (suc v)) (suc (suc j)) a l b m =
       nested marks t u (h .tree) (h .tree') (h .same) v j (omega arith) (omega arith)
 
-  module _ (v p : ℕ) (own above : List ℕ) (a : 2 ≤ v) (l : v < nodes t) (ep : p ≡ parent t v)
-      (o : Prefixed at (word fb v) (word fe v) (n - 1) own) (o' : Prefixed at (word fb p) (word fe p) (n - 1) above) where
+  module _ (v p : ℕ) (sums : List ℕ) (a : 2 ≤ v) (l : v < nodes t) (ep : p ≡ parent t v)
+      (o : PrefixedTwo at (word fb v) (word fe v) (word fb p) (word fe p) (n - 1) sums) where
     p-range : (1 ≤ p) × (p < nodes t)
     p-range = let r = h .tree .parents-range v a l in (omega (arith, ep, r .0), omega (arith, ep, r .1))
 
-    -- the sums of any row
-    module _ (w : ℕ) (sums : List ℕ) (pw : 1 ≤ w) (lw : w < nodes t) (q : Prefixed at (word fb w) (word fe w) (n - 1) sums) where
-      q' : Prefixed at (word fb w) (word fe w) (tips t - 1) sums
-      q' = subst (λ (k : ℕ). Prefixed at (word fb w) (word fe w) (k - 1) sums) (h .tips-are) q
+    -- the totals of one row
+    module _ (w : ℕ) (pw : 1 ≤ w) (lw : w < nodes t) where
+      abbrev row : List ℕ
+      row = totalsOf at (word fb w) (word fe w)
 
-      cell : (j : ℕ) → 1 ≤ j → j < nodes u → spanOf sums sb se j ≡ X w j
-      cell j pj lj = cell-is t u (h .tree) (h .tree') (h .same) marks fb fe sb se at (h .spans) (h .spans') (h .places) w j pw lw pj lj sums q'
+      q' : Prefixed at (word fb w) (word fe w) (tips t - 1) (totalsOf at (word fb w) (word fe w))
+      q' = totals-are at (word fb w) (word fe w) (tips t - 1) (let r = h .tree .tips-range in omega arith)
 
-      rising : (j : ℕ) → 1 ≤ j → j < nodes u → word sums (word sb j) ≤ word sums (word se j)
+      cell : (j : ℕ) → 1 ≤ j → j < nodes u → spanOf (totalsOf at (word fb w) (word fe w)) sb se j ≡ X w j
+      cell j pj lj = cell-is t u (h .tree) (h .tree') (h .same) marks fb fe sb se at (h .spans) (h .spans') (h .places) w j pw lw pj lj row q'
+
+      rising : (j : ℕ) → 1 ≤ j → j < nodes u
+          → word (totalsOf at (word fb w) (word fe w)) (word sb j) ≤ word (totalsOf at (word fb w) (word fe w)) (word se j)
       rising j pj lj =
           let f = span-fits u (h .tree') sb se (h .spans') j pj lj in
           let e = h .same in
@@ -224,27 +239,55 @@ module _ (t u : Table) (marks : List ℕ) (n : ℕ) (fb fe sb se at columns : Li
             sum-part (word sb j) (word se j) (λ i. bit (inSpan (word at i) (word fb w) (word fe w))) (f .0),
           )
 
+      at-place : (k : ℕ) → k ≤ tips t - 1 → word (totalsOf at (word fb w) (word fe w)) k ≡ sum k (λ i. bit (inSpan (word at i) (word fb w) (word fe w)))
+      at-place k m = q' .sum-is k m
+
+    -- both rows at node j
+    both : (j : ℕ) → 1 ≤ j → j < nodes u
+        → (low (spanOf sums sb se j) ≡ X v j) × (high (spanOf sums sb se j) ≡ X p j) × (word sums (word sb j) ≤ word sums (word se j))
+    both j pj lj =
+        let f = span-fits u (h .tree') sb se (h .spans') j pj lj in
+        let e = h .same in
+        let pr = p-range in
+        let v1 : 1 ≤ v = omega arith in
+        let mb : word sb j ≤ n - 1 = omega (arith, f, h .tips-are) in
+        let me : word se j ≤ n - 1 = omega (arith, f, h .tips-are) in
+        let eb = o .sum-is (word sb j) mb in
+        let ee = o .sum-is (word se j) me in
+        let ov = at-place v v1 l in
+        let op = at-place p (pr .0) (pr .1) in
+        let vb = ov (word sb j) (omega (arith, f)) in
+        let ve = ov (word se j) (omega (arith, f)) in
+        let pb = op (word sb j) (omega (arith, f)) in
+        let pe = op (word se j) (omega (arith, f)) in
+        let rv = rising v v1 l j pj lj in
+        let rp = rising p (pr .0) (pr .1) j pj lj in
+        let q = halves (X v j) (X p j) (spanOf sums sb se j)
+        (omega (arith, both-size marks (tips t) t u v j .0, size-few marks (tips t) t v, h .tree .tips-range .1))
+        (omega (arith, eb, ee, vb, ve, pb, pe, rv, rp, cell v v1 l j pj lj, cell p (pr .0) (pr .1) j pj lj)) in
+        (q .0, q .1, omega (arith, eb, ee, vb, ve, pb, pe, rv, rp))
+
     -- node j of the second table, and its parent
     four : (j pj : ℕ) → 2 ≤ j → j < nodes u → pj ≡ parent u j
-        → FourSums own above sb se j pj × (alikeAt own above sb se j pj ≡ alikeOver marks (tips t) t u v j)
-        × (apartAt own above sb se j pj ≡ apartOver marks (tips t) t u v j)
+        → FourSums sums sb se j pj × (alikeAt sums sb se j pj ≡ alikeOver marks (tips t) t u v j)
+        × (apartAt sums sb se j pj ≡ apartOver marks (tips t) t u v j)
     unfolding alikeOver apartOver
     four j pj b m e' =
         let g = h .tree' in
         let r = g .parents-range j b m in
         let pp : 1 ≤ pj = omega (arith, e', r .0) in
         let lp : pj < nodes u = omega (arith, e', r .1) in
-        let pr = p-range in
-        let i = cell v own (omega arith) l o j (omega arith) m in
-        let ri = cell v own (omega arith) l o pj pp lp ∙ ap (X v) e' in
-        let c = cell p above (pr .0) (pr .1) o' j (omega arith) m ∙ ap (λ (k : ℕ). X k j) ep in
-        let w = cell p above (pr .0) (pr .1) o' pj pp lp ∙ ap₂ X ep e' in
+        let own = both j (omega arith) m in
+        let over = both pj pp lp in
+        let i = own .0 in
+        let ri = over .0 ∙ ap (X v) e' in
+        let c = own .1 ∙ ap (λ (k : ℕ). X k j) ep in
+        let w = over .1 ∙ ap₂ X ep e' in
         let z = nest v j a l b m in (
           record {
             node = omega (arith, g .tips-range, g .nodes-range);
             parent-node = omega (arith, g .tips-range, g .nodes-range);
-            rise = (rising v own (omega arith) l o j (omega arith) m, rising v own (omega arith) l o pj pp lp);
-            rise-above = (rising p above (pr .0) (pr .1) o' j (omega arith) m, rising p above (pr .0) (pr .1) o' pj pp lp);
+            rise = (own .2, over .2);
             nest = record {
               in-row = omega (arith, i, ri, z .0);
               in-column = omega (arith, i, c, z .1);
@@ -256,18 +299,18 @@ module _ (t u : Table) (marks : List ℕ) (n : ℕ) (fb fe sb se at columns : Li
           rw (i, ri, c) refl,
         )
 
-    pub row-sums : RowSums own above sb se u columns count
+    pub row-sums : RowSums sums sb se u columns count
     row-sums =
         let g = h .tree' in record {
           few = h .few;
           listed = λ q m. let c = h .column q m in
               (omega (arith, c .1, g .tips-range, g .nodes-range), omega (arith, c .1, g .words));
-          sums = λ q m. let c = h .column q m in four (word columns q) _ (c .0) (c .1) (parent-word u (word columns q) (c .1)) .0;
+          four = λ q m. let c = h .column q m in four (word columns q) _ (c .0) (c .1) (parent-word u (word columns q) (c .1)) .0;
         }
 
     -- the columns that are not listed add nothing
-    pub row-terms : (sum count (alikeListed own above sb se u columns) ≡ sum (nodes u - 2) (λ j. alikeOver marks (tips t) t u v (j + 2)))
-        × (sum count (apartListed own above sb se u columns) ≡ sum (nodes u - 2) (λ j. apartOver marks (tips t) t u v (j + 2)))
+    pub row-terms : (sum count (alikeListed sums sb se u columns) ≡ sum (nodes u - 2) (λ j. alikeOver marks (tips t) t u v (j + 2)))
+        × (sum count (apartListed sums sb se u columns) ≡ sum (nodes u - 2) (λ j. apartOver marks (tips t) t u v (j + 2)))
     unfolding alikeOver apartOver
     row-terms = (
       sum-ext count _ _ (λ q m. let c = h .column q m in four (word columns q) _ (c .0) (c .1) (parent-word u (word columns q) (c .1)) .1)

@@ -92,7 +92,7 @@ loop-again c =
     let l = t .before in
     let s = start l in
     let e : c .cell-index .result ≡ word (s .args .second-begin .now) (word (s .args .second-nodes .now) (l .loop .y)) =
-        c .cell-index .ensures .0 ∙ ap (word (s .args .second-begin .now)) (a .as-index2 .ensures .0) in (
+    c .cell-index .ensures .0 ∙ ap (word (s .args .second-begin .now)) (a .as-index2 .ensures .0) in (
       omega (arith, l .loop .inv .0),
       rw e (places-next _ _ _ _ _ _ _ _ _ _ (s .pre) (l .loop .inv .0) (t .loop-test .taken)
           (p .place-of .ensures ∙ ap₂ (λ (b : Bool) (v : ℕ). placeOf b (word (s .args .first-begin .now) v)) (k .is-kept .ensures) (a .before .before .as-index .ensures .0))

@@ -11,8 +11,8 @@ use Rattle.kept_triplets.proofs.rows.row_at.Tie as tie
 abbrev start : tie.After-as-index → tie.Start
 start c = c .before .before .before .before .before
 
-abbrev as-read : tie.After-prefix2 → tie.After-as-index
-as-read c = c .before .before .before .before .before .before .before .before
+abbrev as-read : tie.After-prefix-two → tie.After-as-index
+as-read c = c .before .before .before .before .before .before
 
 -- ---- what is known there
 
@@ -33,41 +33,33 @@ shared-slice-read-as-index c = search needs
 as-index-requires : tie.Need-as-index-requires
 as-index-requires c κs = search needs
 
-sub-prefix : tie.Need-sub-prefix
-sub-prefix c = search needs
+sub-prefix-two : tie.Need-sub-prefix-two
+sub-prefix-two c = search needs
 
-element-copy-out-prefix : tie.Need-element-copy-out-prefix
-element-copy-out-prefix c = search needs
+element-copy-out-prefix-two : tie.Need-element-copy-out-prefix-two
+element-copy-out-prefix-two c = search needs
 
-element-copy-out-prefix-2 : tie.Need-element-copy-out-prefix-2
-element-copy-out-prefix-2 c = search needs
+element-copy-out-prefix-two-2 : tie.Need-element-copy-out-prefix-two-2
+element-copy-out-prefix-two-2 c = search needs
 
-prefix-requires : tie.Need-prefix-requires
-prefix-requires c κs = search needs
+element-copy-out-prefix-two-3 : tie.Need-element-copy-out-prefix-two-3
+element-copy-out-prefix-two-3 c = known (c .before .before) .parent-in
 
-sub-prefix-2 : tie.Need-sub-prefix-2
-sub-prefix-2 c = search needs
+element-copy-out-prefix-two-4 : tie.Need-element-copy-out-prefix-two-4
+element-copy-out-prefix-two-4 c = known (c .before .before .before) .parent-in
 
-element-copy-out-prefix-3 : tie.Need-element-copy-out-prefix-3
-element-copy-out-prefix-3 c = known (c .before .before .before .before) .parent-in
-
-element-copy-out-prefix-4 : tie.Need-element-copy-out-prefix-4
-element-copy-out-prefix-4 c = known (c .before .before .before .before .before) .parent-in
-
-prefix-requires-2 : tie.Need-prefix-requires-2
-prefix-requires-2 c κs = search needs
+prefix-two-requires : tie.Need-prefix-two-requires
+prefix-two-requires c κs = search needs
 
 row-terms-requires : tie.Need-row-terms-requires
 row-terms-requires c κs =
-    let k = c .before .before in let s = start (as-read k) in
-    row-sums _ _ _ _ _ _ _ _ _ _ _ (s .pre .0) _ _ _ _ (s .pre .1) (s .pre .2) (known (as-read k) .parent-is)
-    (k .before .before .before .before .prefix .ensures) (k .prefix2 .ensures)
+    let k = c .before in let s = start (as-read k) in
+    row-sums _ _ _ _ _ _ _ _ _ _ _ (s .pre .0) _ _ _ (s .pre .1) (s .pre .2) (known (as-read k) .parent-is) (k .prefix-two .ensures)
 
 returns : tie.Need-returns
 returns c =
-    let k = c .before .before .before in let s = start (as-read k) in
-    let e = row-terms _ _ _ _ _ _ _ _ _ _ _ (s .pre .0) _ _ _ _ (s .pre .1) (s .pre .2) (known (as-read k) .parent-is)
-    (k .before .before .before .before .prefix .ensures) (k .prefix2 .ensures) in
+    let k = c .before .before in let s = start (as-read k) in
+    let e = row-terms _ _ _ _ _ _ _ _ _ _ _ (s .pre .0) _ _ _ (s .pre .1) (s .pre .2) (known (as-read k) .parent-is) (k .prefix-two .ensures) in
     (c .row-terms .ensures .0 ∙ e .0, c .row-terms .ensures .1 ∙ e .1)
 
 pub row-at-spec : {M : Type 1} → statement M
@@ -78,13 +70,11 @@ row-at-spec =
     mul-as-index
     shared-slice-read-as-index
     as-index-requires
-    sub-prefix
-    element-copy-out-prefix
-    element-copy-out-prefix-2
-    prefix-requires
-    sub-prefix-2
-    element-copy-out-prefix-3
-    element-copy-out-prefix-4
-    prefix-requires-2
+    sub-prefix-two
+    element-copy-out-prefix-two
+    element-copy-out-prefix-two-2
+    element-copy-out-prefix-two-3
+    element-copy-out-prefix-two-4
+    prefix-two-requires
     row-terms-requires
     returns)
