@@ -9,13 +9,13 @@
  * is aligned for its elements and not null, even where the number is 0. Nothing is kept after a call returns: a slice
  * has to live only as long as the call.
  *
- * Overlap. Tables and marks are only read, so the two tables of a pair may be one slice, or share words. The lent cells
- * (`walk`, `work`) must not overlap a table or the marks.
+ * Overlap. Tables are only read, so the two of a pair may be one slice, or share words; and so are marks, but for those
+ * of leskwyn_change_mark. The lent cells (`walk`, `out`, `work`, and those marks) must not overlap a table or marks.
  *
  * Threads. No globals, no allocation, no input or output. Calls from several threads at once need no lock, as long as
  * no two of them lend the same cells and nobody writes to a table or to marks that are being read. leskwyn_claim_sums,
- * leskwyn_quartet_table and leskwyn_weighted_distance take up to 240 kB of stack, leskwyn_triplet_table up to 64 kB, the
- * others up to 40 kB.
+ * leskwyn_quartet_table and leskwyn_weighted_distance take up to 240 kB of stack, leskwyn_triplet_table,
+ * leskwyn_holding and leskwyn_change_mark up to 64 kB, the others up to 40 kB.
  *
  * A tree table. 16-bit words: n, the tips (2 to 256); m, the nodes (n to 4n); then m parent words; then m label words;
  * 2 + 2m words in all.
@@ -28,11 +28,13 @@
  *
  * Work. A call that counts two trees is lent cells of one byte each, one for each edge of the first tree with each edge
  * of the second: how many labels lie beyond both edges. They are 255 at most, since tip 0 lies beyond no edge.
+ * leskwyn_evidence, leskwyn_holding and leskwyn_change_mark take no work.
  *
  * Marks. n bytes, one for each label from 0 on: LESKWYN_KEPT, 1, or LESKWYN_STRUCK, 0. A call that takes marks counts
- * kept labels only, in its cells too: its figures are those of the two trees cut down to the kept labels. Any
- * labels may be struck, tip 0 and even all of them; fewer than four kept labels give zero counts. With all marks 1 all
- * labels count. leskwyn_triplet_table and leskwyn_evidence take no marks and know all labels.
+ * kept labels only, in its cells too: its figures are those of the two trees cut down to the kept labels. Any labels
+ * may be struck, tip 0 and even all of them; fewer than four kept labels give zero counts. With all marks 1 all labels
+ * count. leskwyn_holding counts one label besides, kept or struck. leskwyn_triplet_table and leskwyn_evidence take no
+ * marks and know all labels.
  *
  * Refusals. 0 stands for accepted. A refused call gives its number, 0 in every other field of its answer (but case E
  * where a case is told), and no change to a lent cell. Where several conditions hold, the first in this order decides.
@@ -48,12 +50,15 @@
  *   of labels   10   a label is n or more
  *               11   two of the labels are equal
  *   of an edge  13   the edge is 0, or m or more
- *   of a walk   12   the lent walk is shorter than n
+ *   of room     12   the lent walk is shorter than n, or `out` has fewer than 2 + 2m cells
  *   of a pair    the first table's number; then the second's, with 100 more (101 to 106, 131, 107); then
  *                8   the two n differ
- *               32   there are not n marks, or a mark is above 1, where the call takes marks
+ *               32   there are not n marks, or a mark is above 1, where the call takes marks; or `mark` is above 1
  *                9   the work has fewer than (m - 1)(m' - 1) cells, m' being the second table's m
  *   of a weight 30   the kind is not 0 to 2, or the fraction of a part is not k/256 with a k from 0 to 256
+ *   of a change 33   the label already is as wished
+ *               34   the given counts do not add up to the number of sets of four kept labels, or a strike would take
+ *                    more from a case than it holds
  */
 #ifndef LESKWYN_H
 #define LESKWYN_H
@@ -99,6 +104,9 @@ typedef struct { uint16_t refusal; uint64_t first, second, same, different; } le
  * b + c + d.
  */
 typedef struct { uint16_t refusal; uint64_t a, b, c, d, e, distance; } leskwyn_quartet_table_answer;
+
+/* The refusal, or 0; how many sets of four of some kind are in each of these five cases. */
+typedef struct { uint16_t refusal; uint64_t a, b, c, d, e; } leskwyn_five_answer;
 
 /*
  * The refusal, or 0; the splits of the first tree, of the second, and of both; the Robinson-Foulds distance,
@@ -170,6 +178,14 @@ leskwyn_topology_answer leskwyn_topology(const uint16_t *table, size_t words,
                                          uint16_t a, uint16_t b, uint16_t c, uint16_t d);
 
 /*
+ * The table re-rooted at the tip with that label, into the first 2 + 2m cells of `out`; later cells stay. The path from
+ * the tip to node 0 is numbered first, from the tip on, and the parent of a node on it is the one before. The other
+ * nodes follow in their order and keep their parents. The labels 0 and `label` change places. Answers 0, or the table's
+ * refusal, then 10, then 12.
+ */
+uint16_t leskwyn_reroot(const uint16_t *table, size_t table_words, uint16_t label, uint16_t *out, size_t out_words);
+
+/*
  * The crossings of two trees: afterwards cell (i - 1)(m' - 1) + (j - 1) of the work holds how many kept labels lie
  * beyond both edge i of the first tree and edge j of the second; later cells stay. What the cells held before plays no
  * part. Answers 0, or the pair's refusal.
@@ -229,6 +245,27 @@ leskwyn_weighted_distance_answer leskwyn_weighted_distance(const uint16_t *first
 leskwyn_evidence_answer leskwyn_evidence(const uint16_t *first, size_t first_words,
                                          const uint16_t *second, size_t second_words,
                                          uint16_t a, uint16_t b, uint16_t c, uint16_t d);
+
+/*
+ * The sets of four that hold a label and three other kept ones, whether the label itself is kept or struck. Refuses by
+ * the pair's numbers without 9, then 10.
+ */
+leskwyn_five_answer leskwyn_holding(const uint16_t *first, size_t first_words,
+                                    const uint16_t *second, size_t second_words,
+                                    const uint8_t *marks, size_t marks_count,
+                                    uint16_t label);
+
+/*
+ * A label struck, where `mark` is LESKWYN_STRUCK, or restored, where it is LESKWYN_KEPT: its mark changes, and no
+ * other. The five counts given are to be those of the quartet table under the marks as they are. The answer is these
+ * without the sets that leskwyn_holding counts, or with them: the quartet table's under the new marks. Refuses by the
+ * pair's numbers without 9, then 10, 33 and 34.
+ */
+leskwyn_five_answer leskwyn_change_mark(const uint16_t *first, size_t first_words,
+                                        const uint16_t *second, size_t second_words,
+                                        uint8_t *marks, size_t marks_count,
+                                        uint64_t a, uint64_t b, uint64_t c, uint64_t d, uint64_t e,
+                                        uint16_t label, uint16_t mark);
 
 #ifdef __cplusplus
 }

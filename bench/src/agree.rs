@@ -1,6 +1,8 @@
 //! The exported functions against figures that were counted some other way: every number, every figure, every lent
 //! cell before and after, and the cells on either side of those that are lent.
 
+mod one_label;
+
 use std::fmt::Debug;
 
 use leskwyn::raw::{
@@ -13,11 +15,12 @@ use crate::enumerate::{self, Tips, Topology, Tree};
 use crate::evidence::{self, Climbs};
 use crate::generate::{any_marks, wrong_marks};
 use crate::pass_through::{taken_out, TakenOut};
-use crate::pruned::pruned;
 use crate::random::Random;
 use crate::reference::X;
 use crate::weights::{self, Weighing};
-use crate::{common_ancestors, cubic};
+use crate::{common_ancestors, cubic, pruned};
+
+pub use one_label::{change_agrees, holding_agrees, reroot_agrees};
 
 /// Pairs of claims that are summed one by one; for more, S2 and S3 are read from the cases.
 const MOST_CLAIM_PAIRS: usize = 500_000;
@@ -58,11 +61,8 @@ impl Expected {
     /// The cases of quartets and of triplets by O(n^3) methods, those of quartets from the trees without struck tips; the
     /// rest by the enumerator.
     pub fn by_pruning(first: &[u16], second: &[u16], marks: &[u8]) -> Expected {
-        let quartets = match (pruned(first, marks), pruned(second, marks)) {
-            (Some(ours), Some(theirs)) => cubic::cases(&ours, &theirs),
-            _ => [0; 5],
-        };
-        let triplets = common_ancestors::triplet_cases(first, second);
+        let (quartets, triplets) =
+            (pruned::cases(first, second, marks), common_ancestors::triplet_cases(first, second));
         Expected::with_cases(&Tree::of(first), &Tree::of(second), marks, quartets, triplets)
     }
 

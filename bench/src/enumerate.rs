@@ -432,6 +432,12 @@ pub fn kept_cases(first: &Tree, second: &Tree, kept: Tips) -> [u64; 5] {
     cases_of(first, second, |four| four & !kept.0[0] == 0)
 }
 
+/// The five cases A to E, over the sets of four of a label, kept or struck, and three other kept ones. Up to 64 tips.
+pub fn held_cases(first: &Tree, second: &Tree, kept: Tips, label: u16) -> [u64; 5] {
+    let own = 1 << label;
+    cases_of(first, second, |four| four & own != 0 && four & !own & !kept.0[0] == 0)
+}
+
 /// The five cases A to E, over the sets of four that hold tip 0. Up to 64 tips.
 pub fn cases_with_outgroup(first: &Tree, second: &Tree) -> [u64; 5] {
     cases_of(first, second, |four| four & 1 == 1)

@@ -481,6 +481,17 @@ pub fn any_chained(table: &[u16], random: &mut Random) -> Vec<u16> {
     chained(table, chains, nodes, random)
 }
 
+/// Two tables of a pair, with pass-through nodes in neither, in the first, in the second, or in both, by turns.
+pub fn any_pair(turn: usize, shape: Shape, n: usize, partner: Partner, random: &mut Random) -> [Vec<u16>; 2] {
+    let (first, second) = pair(shape, n, partner, random);
+    match turn % 4 {
+        0 => [first, second],
+        1 => [any_chained(&first, random), second],
+        2 => [first, any_chained(&second, random)],
+        _ => [any_chained(&first, random), any_chained(&second, random)],
+    }
+}
+
 /// The table of a tree, in any numbering.
 pub fn table(shape: Shape, n: usize, random: &mut Random) -> Vec<u16> {
     let numbering = *random.pick(&Numbering::ALL);

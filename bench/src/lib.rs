@@ -2,10 +2,11 @@
 //!
 //! `enumerate` is written from docs/SPECIFICATION.md alone: topologies by looking at every edge, claims one by one,
 //! splits as a set of pairs of tip sets, triplets by climbing to lowest common ancestors. `evidence` looks at every
-//! edge and every node, `weights` has the weighted distance in whole numbers, `pass_through` takes pass-through nodes
-//! out, and `pruned` the tips of struck labels. Nothing in these, in `cubic` and `expanded`, which follow document 001, or in `common_ancestors` comes
-//! from the library. `straight` is the library's own algorithm as a Rust programmer would write it, and is there to be
-//! timed.
+//! edge and every node, `weights` has the weighted distance in whole numbers, `one_label` says what comes of a label
+//! that is struck or restored, `rerooted` hangs a tree from another tip, `pass_through` takes pass-through nodes out,
+//! and `pruned` the tips of struck labels. Nothing in these, in `cubic` and `expanded`, which follow document 001, or
+//! in `common_ancestors` comes from the library. `straight` is the library's own algorithm as a Rust programmer would
+//! write it, and is there to be timed.
 
 pub mod agree;
 pub mod common_ancestors;
@@ -15,10 +16,12 @@ pub mod enumerate;
 pub mod evidence;
 pub mod expanded;
 pub mod generate;
+pub mod one_label;
 pub mod pass_through;
 pub mod pruned;
 pub mod random;
 pub mod reference;
+pub mod rerooted;
 mod sides;
 pub mod straight;
 pub mod weights;

@@ -1,17 +1,49 @@
 //! `cargo run --release` times this library beside three other methods, prints the tables, and writes
-//! docs/BENCHMARKS.md and docs/scaling.svg.
+//! docs/BENCHMARKS.md and docs/scaling.svg. `cargo run --release -- one-label` prints the table of a label struck or
+//! restored, and writes nothing.
 
 mod chart;
+mod label_times;
 mod report;
 mod timing;
 
+use std::env;
 use std::fs;
+use std::io;
 use std::path::Path;
 use std::process::ExitCode;
 
+use label_times::LabelTimes;
 use timing::{Measured, PAIRINGS};
 
 fn main() -> ExitCode {
+    let words: Vec<String> = env::args().skip(1).collect();
+    match words.iter().map(String::as_str).collect::<Vec<_>>()[..] {
+        [] => match write_page() {
+            Ok(()) => ExitCode::SUCCESS,
+            Err(error) => {
+                eprintln!("docs: {error}");
+                ExitCode::FAILURE
+            }
+        },
+        ["one-label"] => {
+            print!("{}", report::one_label(&one_label()));
+            ExitCode::SUCCESS
+        }
+        _ => {
+            eprintln!("usage: bench [one-label]");
+            ExitCode::FAILURE
+        }
+    }
+}
+
+fn one_label() -> Vec<LabelTimes> {
+    eprintln!("timing one label");
+    label_times::measure()
+}
+
+/// Times everything, prints the tables, and writes the page and the chart.
+fn write_page() -> io::Result<()> {
     let mut measured: Vec<Measured> = Vec::new();
     for pairing in &PAIRINGS {
         eprintln!("timing {}", pairing.name);
@@ -19,23 +51,19 @@ fn main() -> ExitCode {
     }
     eprintln!("timing pass-through nodes");
     let passed_through = timing::measure_pass_through();
-    print!("{}", report::table(&measured));
-    println!();
-    print!("{}", report::ratios(&measured));
-    println!();
-    print!("{}", report::triplets(&measured));
-    println!();
-    print!("{}", report::pass_through(&passed_through));
+    let labels = one_label();
+    let tables = [
+        report::table(&measured),
+        report::ratios(&measured),
+        report::triplets(&measured),
+        report::pass_through(&passed_through),
+        report::one_label(&labels),
+    ];
+    print!("{}", tables.join("\n"));
     let docs = Path::new(env!("CARGO_MANIFEST_DIR")).join("../docs");
     let before = fs::read_to_string(docs.join("BENCHMARKS.md")).unwrap_or_default();
-    let written = fs::create_dir_all(&docs)
-        .and_then(|()| {
-            fs::write(docs.join("BENCHMARKS.md"), report::page(&measured, &passed_through) + report::commands(&before))
-        })
-        .and_then(|()| fs::write(docs.join("scaling.svg"), chart::drawn(&measured)));
-    if let Err(error) = written {
-        eprintln!("docs: {error}");
-        return ExitCode::FAILURE;
-    }
-    ExitCode::SUCCESS
+    let page = report::page(&measured, &passed_through, &labels) + report::commands(&before);
+    fs::create_dir_all(&docs)?;
+    fs::write(docs.join("BENCHMARKS.md"), page)?;
+    fs::write(docs.join("scaling.svg"), chart::drawn(&measured))
 }

@@ -1,5 +1,6 @@
 //! A tree without the tips of struck labels: what is left of its table, with the kept labels by rank.
 
+use crate::cubic;
 use crate::reference::X;
 
 /// The table of the tree that holds the kept tips of an accepted table, or none for fewer than two of them. It hangs from
@@ -38,6 +39,14 @@ pub fn pruned(table: &[u16], marks: &[u8]) -> Option<Vec<u16>> {
     }
     let head = [kept.len() as u16, hung.len() as u16];
     Some([&head[..], &hung, &named].concat())
+}
+
+/// The five cases of two trees without the tips of struck labels, by the O(n^3) method.
+pub fn cases(first: &[u16], second: &[u16], marks: &[u8]) -> [u64; 5] {
+    match (pruned(first, marks), pruned(second, marks)) {
+        (Some(ours), Some(theirs)) => cubic::cases(&ours, &theirs),
+        _ => [0; 5],
+    }
 }
 
 #[cfg(test)]

@@ -5,6 +5,7 @@ use std::fs;
 use std::num::NonZero;
 use std::thread;
 
+use crate::label_times::LabelTimes;
 use crate::timing::{Measured, PAIRINGS};
 
 /// A time with three digits or so.
@@ -95,6 +96,20 @@ pub fn pass_through(measured: &[Measured]) -> String {
     text
 }
 
+/// The time of a label struck or restored at 256 tips beside the quartet table's, as a table in Markdown.
+pub fn one_label(measured: &[LabelTimes]) -> String {
+    let mut text = String::from(
+        "| trees, n = 256 | one label (µs) | quartet table (µs) | one label ÷ quartets (≤ 0.5) |\n\
+         |---|---:|---:|---:|\n",
+    );
+    for LabelTimes { name, change, quartets } in measured {
+        let columns =
+            [micros(*change), micros(*quartets), marked(change / quartets, *change <= 0.5 * quartets)].join(" | ");
+        writeln!(text, "| {name} | {columns} |").expect("a string takes all");
+    }
+    text
+}
+
 /// The processor as the system names it.
 fn processor() -> String {
     let told = fs::read_to_string("/proc/cpuinfo").unwrap_or_default();
@@ -110,9 +125,9 @@ pub fn commands(page: &str) -> &str {
 }
 
 /// docs/BENCHMARKS.md but for its last section.
-pub fn page(measured: &[Measured], passed_through: &[Measured]) -> String {
+pub fn page(measured: &[Measured], passed_through: &[Measured], labels: &[LabelTimes]) -> String {
     let (processor, table, ratios, triplets) = (processor(), table(measured), ratios(measured), triplets(measured));
-    let pass_through = pass_through(passed_through);
+    let (pass_through, one_label) = (pass_through(passed_through), one_label(labels));
     format!(
         "# Benchmarks
 
@@ -154,7 +169,17 @@ all two tips (`bench/src/common_ancestors.rs`).
 Two random binary trees of 256 tips, without pass-through nodes and with 514 of them in each on random edges, which is the
 most that a table may have: m = 4n. Both pairs are timed in the same turns.
 
-{pass_through}"
+{pass_through}
+## One label struck or restored
+
+`leskwyn_change_mark`, with the check of both tables and of the marks, beside `leskwyn_quartet_table` on the same pairs, timed
+in the same turns. All labels are kept, and each in its turn is struck and restored, half of which is the time of one label.
+Of each label's turns the fastest counts, and of all labels the mean. The five counts without each label agree with those of
+*straight Rust* before they are timed. The last pair is the one above with m = 1024. This table alone is printed by
+
+    cd bench && cargo run --release --offline -- one-label
+
+{one_label}"
     )
 }
 

@@ -9,7 +9,10 @@ use bench::random::Random;
 use bench::{common_ancestors, cubic, expanded, straight};
 
 /// The tips of the trees that are timed.
-pub const TIPS: [usize; 4] = [16, 64, 128, 256];
+pub const TIPS: [usize; 4] = [16, 64, 128, MOST_TIPS];
+
+/// The most tips that a tree may have.
+pub const MOST_TIPS: usize = 256;
 
 /// Two shapes under a name.
 pub struct Pairing {
@@ -122,7 +125,8 @@ impl<'a> Course<'a> {
     }
 }
 
-fn tables(pairing: &Pairing, tips: usize) -> [Vec<u16>; 2] {
+/// The tables of a pairing with so many tips.
+pub fn tables(pairing: &Pairing, tips: usize) -> [Vec<u16>; 2] {
     let mut random = Random::seeded(tips as u64);
     [pairing.first, pairing.second].map(|shape| Graph::of(shape, tips, &mut random).table(Numbering::Any, &mut random))
 }
@@ -147,14 +151,19 @@ pub fn measure(pairing: &Pairing) -> Vec<Measured> {
 }
 
 /// Two random binary trees of 256 tips, without pass-through nodes and with as many as there may be.
-pub fn measure_pass_through() -> Vec<Measured> {
-    const TIPS: usize = 256;
-    let mut random = Random::seeded(4 * TIPS as u64);
-    let bare = tables(&RANDOM_BINARY, TIPS);
+pub fn bare_and_long() -> [[Vec<u16>; 2]; 2] {
+    let mut random = Random::seeded(4 * MOST_TIPS as u64);
+    let bare = tables(&RANDOM_BINARY, MOST_TIPS);
     let long = bare.each_ref().map(|table| {
-        let tree = Graph::of_table(table).with_chains(Chains::Anywhere, 4 * TIPS, &mut random);
+        let tree = Graph::of_table(table).with_chains(Chains::Anywhere, 4 * MOST_TIPS, &mut random);
         tree.table(Numbering::Any, &mut random)
     });
     assert_eq!([&bare, &long].map(|[first, second]| [first[1], second[1]]), [[510, 510], [1024, 1024]]);
+    [bare, long]
+}
+
+/// The same trees without pass-through nodes and with them.
+pub fn measure_pass_through() -> Vec<Measured> {
+    let [bare, long] = bare_and_long();
     timed(&[("random binary, m = 510", bare), ("the same trees, m = 1024", long)])
 }

@@ -4,7 +4,7 @@
 use bench::agree::{pair_agrees, passing_through_agrees, refused_agrees, weighted_agrees, Asked, Expected, Told};
 use bench::damage::{damaged, Met, NUMBERS};
 use bench::evidence::every_four;
-use bench::generate::{any_chained, any_marks, chained, marks, pair, table, wrong_marks};
+use bench::generate::{any_chained, any_marks, any_pair, chained, marks, pair, table, wrong_marks};
 use bench::generate::{Chains, Graph, Kept, Numbering, Partner, Shape};
 use bench::pass_through::taken_out;
 use bench::pruned::pruned;
@@ -81,17 +81,6 @@ fn all_marks_of_every_pair() {
                 pair_agrees(first, second, &expected, &mut random);
             }
         }
-    }
-}
-
-/// Two tables, with pass-through nodes in neither, in the first, in the second, or in both.
-fn any_pair(at: usize, shape: Shape, n: usize, partner: Partner, random: &mut Random) -> [Vec<u16>; 2] {
-    let (first, second) = pair(shape, n, partner, random);
-    match at % 4 {
-        0 => [first, second],
-        1 => [any_chained(&first, random), second],
-        2 => [first, any_chained(&second, random)],
-        _ => [any_chained(&first, random), any_chained(&second, random)],
     }
 }
 

@@ -10,15 +10,16 @@
 //! The calls that count two trees take *marks*, a byte for each label: [`KEPT`] or [`STRUCK`]. Kept labels alone are
 //! counted, as if the tips of the others were not there; [`all_kept`] are the marks that strike none. Any labels may be
 //! struck, label 0 and all of them too. [`triplet_table`] and [`evidence`] take no marks and know all labels.
+//! [`change_mark`] strikes or restores one label and keeps the five counts of the quartet table up to date.
 //!
 //! A call that counts two trees is lent *work*: cells of one byte each, one for each edge of the first tree with each edge
 //! of the second. They hold how many labels lie beyond both edges, 255 at most, since tip 0 lies beyond no edge.
-//! [`work_cells`] tells how many cells a pair takes.
+//! [`work_cells`] tells how many cells a pair takes. [`holding`] and [`change_mark`] take none.
 //!
 //! Any words in slices of any length may be passed. The answer is the whole answer or a [`Refusal`]; a refused call
 //! changes no lent cell. No call allocates, keeps a slice, or touches anything global, so all may be made from several
 //! threads at once. [`claim_sums`], [`quartet_table`] and [`weighted_distance`] take up to 240 kB of stack,
-//! [`triplet_table`] up to 64 kB, the others up to 40 kB.
+//! [`triplet_table`], [`holding`] and [`change_mark`] up to 64 kB, the others up to 40 kB.
 //!
 //! ```
 //! use leskwyn::{all_kept, quartet_table, work_cells, INNER as X};
@@ -93,6 +94,55 @@ pub struct QuartetTable {
     pub e: u64,
     /// The quartet distance, B + C + D.
     pub distance: u64,
+}
+
+/// How many sets of four fall into each of five cases. A [`QuartetTable`] has the counts of all sets of four kept tips.
+#[derive(Clone, Copy, Debug, PartialEq, Eq, Hash)]
+pub struct FiveCounts {
+    /// The same butterfly in both trees.
+    pub a: u64,
+    /// Different butterflies.
+    pub b: u64,
+    /// A butterfly in the first tree only.
+    pub c: u64,
+    /// A butterfly in the second tree only.
+    pub d: u64,
+    /// A star in both.
+    pub e: u64,
+}
+
+impl FiveCounts {
+    /// The counts of an accepted call.
+    fn of(answer: raw::FiveAnswer) -> Result<FiveCounts, Refusal> {
+        let raw::FiveAnswer { refusal, a, b, c, d, e } = answer;
+        Refusal::or(refusal, FiveCounts { a, b, c, d, e })
+    }
+}
+
+impl From<QuartetTable> for FiveCounts {
+    fn from(QuartetTable { a, b, c, d, e, .. }: QuartetTable) -> FiveCounts {
+        FiveCounts { a, b, c, d, e }
+    }
+}
+
+/// What becomes of a label in [`change_mark`].
+#[derive(Clone, Copy, Debug, PartialEq, Eq, Hash)]
+pub enum Wish {
+    /// A kept label is struck.
+    Strike,
+    /// A struck label is kept again.
+    Restore,
+}
+
+impl Wish {
+    /// The mark that the label gets.
+    #[must_use]
+    pub const fn mark(self) -> u8 {
+        match self {
+            Wish::Strike => STRUCK,
+            Wish::Restore => KEPT,
+        }
+    }
 }
 
 /// The splits of two trees. A split is the pair of sets of kept tips of an edge that has at least two of them on each
@@ -307,6 +357,31 @@ pub fn topology(table: &[u16], a: u16, b: u16, c: u16, d: u16) -> Result<Topolog
     let answer = unsafe { raw::leskwyn_topology(table.as_ptr(), table.len(), a, b, c, d) };
     let topology = if answer.butterfly == 1 { Topology::Butterfly(answer.partner) } else { Topology::Star };
     Refusal::or(answer.refusal, topology)
+}
+
+/// Writes the table re-rooted at the tip with that label into the first 2 + 2m cells; later cells stay.
+///
+/// The path from the tip to node 0 is numbered first, from the tip on, and the parent of a node on it is the one
+/// before. The other nodes follow in their order and keep their parents. The labels 0 and `label` change places.
+///
+/// ```
+/// use leskwyn::{reroot, INNER as X};
+/// // Below tip 0: ((1,2),3). Re-rooted at 1, with 0 and 1 exchanged: ((1,3),2).
+/// let table = [4, 6, 0, 0, 1, 2, 2, 1, 0, X, X, 1, 2, 3];
+/// let mut cells = [9; 15];
+/// reroot(&table, 1, &mut cells)?;
+/// assert_eq!(cells, [4, 6, 0, 0, 1, 2, 1, 2, 0, X, X, 1, 2, 3, 9]);
+/// assert_eq!(reroot(&table, 4, &mut cells).unwrap_err().number(), 10);
+/// # Ok::<(), leskwyn::Refusal>(())
+/// ```
+///
+/// # Errors
+///
+/// 1 to 6, 31 and 7, then 10, then 12.
+pub fn reroot(table: &[u16], label: u16, cells: &mut [u16]) -> Result<(), Refusal> {
+    // SAFETY: each pointer and length are those of one live slice, and `cells` is borrowed alone.
+    let number = unsafe { raw::leskwyn_reroot(table.as_ptr(), table.len(), label, cells.as_mut_ptr(), cells.len()) };
+    Refusal::or(number, ())
 }
 
 /// Marks that keep all n labels of a table. A copy of them can have labels struck.
@@ -548,4 +623,91 @@ pub fn evidence(first: &[u16], second: &[u16], a: u16, b: u16, c: u16, d: u16) -
         second: Witness::of(answer.second_edge, answer.second_number),
     };
     Refusal::or(answer.refusal, shown)
+}
+
+/// How many sets of four that hold a label and three other kept ones fall into each of five cases, whether the label
+/// itself is kept or struck. It takes no work.
+///
+/// ```
+/// use leskwyn::{all_kept, holding, FiveCounts, INNER as X};
+/// // Below tip 0: (1,(2,(3,4))) and (1,(2,3,4)).
+/// let p = [5, 8, 0, 0, 1, 1, 3, 3, 5, 5, 0, X, 1, X, 2, X, 3, 4];
+/// let q = [5, 7, 0, 0, 1, 1, 3, 3, 3, 0, X, 1, X, 2, 3, 4];
+/// assert_eq!(holding(&p, &q, all_kept(&p), 1), Ok(FiveCounts { a: 3, b: 0, c: 1, d: 0, e: 0 }));
+/// // Without label 3 one set holds label 1.
+/// assert_eq!(holding(&p, &q, &[1, 1, 1, 0, 1], 1)?.a, 1);
+/// assert_eq!(holding(&p, &q, all_kept(&p), 5).unwrap_err().number(), 10);
+/// # Ok::<(), leskwyn::Refusal>(())
+/// ```
+///
+/// # Errors
+///
+/// Those of [`work_cells`], then 32, then 10.
+pub fn holding(first: &[u16], second: &[u16], marks: &[u8], label: u16) -> Result<FiveCounts, Refusal> {
+    // SAFETY: each pointer and length are those of one live slice.
+    let answer = unsafe {
+        raw::leskwyn_holding(
+            first.as_ptr(),
+            first.len(),
+            second.as_ptr(),
+            second.len(),
+            marks.as_ptr(),
+            marks.len(),
+            label,
+        )
+    };
+    FiveCounts::of(answer)
+}
+
+/// Strikes or restores one label: its mark changes, and no other. The counts given are to be those of the quartet table
+/// under the marks as they are. The answer is these without the sets that [`holding`] counts, or with them: the quartet
+/// table's under the new marks. It takes no work.
+///
+/// ```
+/// use leskwyn::{all_kept, change_mark, quartet_table, work_cells, FiveCounts, Wish, INNER as X};
+/// // Below tip 0: (1,(2,(3,4))) and (1,(2,3,4)).
+/// let p = [5, 8, 0, 0, 1, 1, 3, 3, 5, 5, 0, X, 1, X, 2, X, 3, 4];
+/// let q = [5, 7, 0, 0, 1, 1, 3, 3, 3, 0, X, 1, X, 2, 3, 4];
+/// let mut marks = all_kept(&p).to_vec();
+/// let mut work = vec![0; work_cells(&p, &q)?];
+/// let all = FiveCounts::from(quartet_table(&p, &q, &marks, &mut work)?);
+/// let without_1 = change_mark(&p, &q, &mut marks, all, 1, Wish::Strike)?;
+/// assert_eq!(marks, [1, 0, 1, 1, 1]);
+/// assert_eq!(without_1, quartet_table(&p, &q, &marks, &mut work)?.into());
+/// assert_eq!(change_mark(&p, &q, &mut marks, without_1, 1, Wish::Strike).unwrap_err().number(), 33);
+/// assert_eq!(change_mark(&p, &q, &mut marks, all, 1, Wish::Restore).unwrap_err().number(), 34);
+/// assert_eq!(change_mark(&p, &q, &mut marks, without_1, 1, Wish::Restore), Ok(all));
+/// # Ok::<(), leskwyn::Refusal>(())
+/// ```
+///
+/// # Errors
+///
+/// Those of [`holding`], then 33, then 34.
+pub fn change_mark(
+    first: &[u16],
+    second: &[u16],
+    marks: &mut [u8],
+    FiveCounts { a, b, c, d, e }: FiveCounts,
+    label: u16,
+    wish: Wish,
+) -> Result<FiveCounts, Refusal> {
+    // SAFETY: each pointer and length are those of one live slice, and `marks` is borrowed alone.
+    let answer = unsafe {
+        raw::leskwyn_change_mark(
+            first.as_ptr(),
+            first.len(),
+            second.as_ptr(),
+            second.len(),
+            marks.as_mut_ptr(),
+            marks.len(),
+            a,
+            b,
+            c,
+            d,
+            e,
+            label,
+            u16::from(wish.mark()),
+        )
+    };
+    FiveCounts::of(answer)
 }

@@ -107,12 +107,24 @@ pub struct EvidenceAnswer {
     pub second_number: u16,
 }
 
+/// The refusal, or 0; five counts of sets of four, A to E.
+#[repr(C)]
+#[derive(Clone, Copy, Debug, PartialEq, Eq)]
+pub struct FiveAnswer {
+    pub refusal: u16,
+    pub a: u64,
+    pub b: u64,
+    pub c: u64,
+    pub d: u64,
+    pub e: u64,
+}
+
 /// A function of two tables, the marks and the work: each as a pointer and a number of elements.
 pub type PairFunction<T> =
     unsafe extern "C" fn(*const u16, usize, *const u16, usize, *const u8, usize, *mut u8, usize) -> T;
 
-// Every function is safe to call with pointers to that many elements, aligned and live for the call, where the lent
-// cells overlap no table and no marks. The library holds no global and keeps no pointer.
+// Every function is safe to call with pointers to that many elements, aligned and live for the call, where the slice of
+// a `*mut` overlaps no other. The library holds no global and keeps no pointer.
 extern "C" {
     pub fn leskwyn_version() -> u32;
 
@@ -125,6 +137,8 @@ extern "C" {
     pub fn leskwyn_centre(table: *const u16, words: usize, a: u16, b: u16, c: u16) -> CentreAnswer;
 
     pub fn leskwyn_topology(table: *const u16, words: usize, a: u16, b: u16, c: u16, d: u16) -> TopologyAnswer;
+
+    pub fn leskwyn_reroot(table: *const u16, table_words: usize, label: u16, out: *mut u16, out_words: usize) -> u16;
 
     pub fn leskwyn_crossings(
         first: *const u16,
@@ -202,4 +216,30 @@ extern "C" {
         c: u16,
         d: u16,
     ) -> EvidenceAnswer;
+
+    pub fn leskwyn_holding(
+        first: *const u16,
+        first_words: usize,
+        second: *const u16,
+        second_words: usize,
+        marks: *const u8,
+        marks_count: usize,
+        label: u16,
+    ) -> FiveAnswer;
+
+    pub fn leskwyn_change_mark(
+        first: *const u16,
+        first_words: usize,
+        second: *const u16,
+        second_words: usize,
+        marks: *mut u8,
+        marks_count: usize,
+        a: u64,
+        b: u64,
+        c: u64,
+        d: u64,
+        e: u64,
+        label: u16,
+        mark: u16,
+    ) -> FiveAnswer;
 }

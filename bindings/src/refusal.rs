@@ -32,8 +32,8 @@ impl Refusal {
     }
 
     /// The number: 1 to 7 or 31 of a table or of the first of two; 101 to 107 or 131 of the second; 8 to 13; 15 of a file;
-    /// 30 of a weight; 32 of marks. Where several rules are broken, 31 stands between 6 and 7, 131 between 106 and 107, and
-    /// 32 between 8 and 9.
+    /// 30 of a weight; 32 of marks; 33 or 34 of a changed mark. Where several rules are broken, 31 stands between 6 and
+    /// 7, 131 between 106 and 107, and 32 between 8 and 9.
     #[must_use]
     pub fn number(self) -> u16 {
         self.0.get()
@@ -55,11 +55,13 @@ impl Refusal {
             9 => "the work has fewer than (m - 1)(m' - 1) cells",
             10 => "a label asked about is n or more",
             11 => "two labels asked about are equal",
-            12 => "the lent walk is shorter than n",
+            12 => "the lent walk is shorter than n, or a re-rooted table's cells are fewer than 2 + 2m",
             13 => "the edge is 0, or m or more",
             15 => "an odd number of bytes",
             30 => "the weight's fraction is not k/256 with a k from 0 to 256",
             32 => "there are not n marks, or a mark is above 1",
+            33 => "the label already is as wished",
+            34 => "the counts do not add up to the sets of four kept labels, or a strike would overdraw a case",
             _ => "a rule is broken",
         }
     }
