@@ -8,3 +8,4 @@ pub mod Prepare
 pub mod Rows
 pub mod SpanSums
 pub mod Terms
+pub mod Weighing

@@ -6,13 +6,14 @@ use table_words::TIPS;
 use table_words::as_index;
 use table_words::cell_index;
 ghost use mathlib.Core.Path.{_≡_};
-ghost use Prim.Native.Nat.{_+_, _*_, _≤_, _<_};
+ghost use Prim.Native.Nat.{_≤_, _<_};
 ghost use lib.ListN.{length};
 ghost use Rattle.table_words.specs.Sizes.{tipsMost};
 ghost use Rattle.sums.specs.Bits.{bit};
 ghost use Rattle.walks.specs.theorems.SpanLaws.{inSpan};
-ghost use Rattle.kept_triplets.specs.lemmas.Places.{placeOf, Prefixed, PrefixedTwo};
+ghost use Rattle.kept_triplets.specs.lemmas.Places.{placeOf, Prefixed};
 ghost use Rattle.kept_triplets.specs.lemmas.Filling.{PlaceRoom, PlacesListed};
+ghost use Rattle.kept_triplets.specs.lemmas.Weighing.{SpanFilled, LowWeights, Weighed};
 
 // The place of a kept label; a struck one gets 255, which lies in no span.
 fn place_of(keeps: bool, place: Cell) -> Cell
@@ -81,31 +82,29 @@ pub(crate) fn prefix(
     }
 }
 
-// Of two spans in one number: 1 where the place lies in the first, 65536 where it lies in the second.
-fn within_two(at: Cell, begin: Cell, end: Cell, above_begin: Cell, above_end: Cell) -> u64
-    ensures { λ r. ⌜ r ≡ bit (inSpan at begin end) + 65536 * bit (inSpan at «above_begin» «above_end») ⌝ }
+// One value at all places of a span.
+pub(crate) fn fill_span(weights: &mut [u64; TIPS], begin: Cell, end: Cell, value: u64)
+    requires { ⌜ length (now weights) ≡ tipsMost ⌝ }
+    ensures { λ _. ⌜ SpanFilled begin end end value (now (weights .entry)) (now (weights .exit)) ⌝ }
 {
-    within(at, begin, end) + 65536 * within(at, above_begin, above_end)
+    let last = cell_index(end);
+    let mut k = cell_index(begin);
+    while k < last {
+        weights[k] = value;
+        k += 1;
+    }
 }
 
-// How many of the first k places lie in each of two spans, in one number, for each k up to `count`.
-pub(crate) fn prefix_two(
-    at: &[Cell; TIPS],
-    count: usize,
-    begin: Cell,
-    end: Cell,
-    above_begin: Cell,
-    above_end: Cell,
-    sums: &mut [u64; TIPS],
-)
-    requires { ⌜ (count < tipsMost) × (length (now sums) ≡ tipsMost) ⌝ }
-    ensures { λ _. ⌜ PrefixedTwo (now (at .entry)) begin end «above_begin» «above_end» count (now (sums .exit)) ⌝ }
+// What the first k places weigh, for each k up to `count`.
+pub(crate) fn weigh(at: &[Cell; TIPS], count: usize, weights: &[u64; TIPS], sums: &mut [u64; TIPS])
+    requires { ⌜ (count < tipsMost) × (length (now sums) ≡ tipsMost) × LowWeights (now weights) ⌝ }
+    ensures { λ _. ⌜ Weighed (now (at .entry)) (now (weights .entry)) count (now (sums .exit)) ⌝ }
 {
     sums[0] = 0;
     let mut total = 0u64;
     let mut k = 0;
     while k < count {
-        total += within_two(at[k], begin, end, above_begin, above_end);
+        total += weights[cell_index(at[k])];
         k += 1;
         sums[k] = total;
     }

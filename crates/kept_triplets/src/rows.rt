@@ -1,5 +1,6 @@
 // What pairs of edges add, row by row: the sums of an edge and of its parent's are enough for a row.
-use super::places::prefix_two;
+use super::places::fill_span;
+use super::places::weigh;
 use super::terms::alike_term;
 use super::terms::apart_term;
 use super::terms::cell;
@@ -20,8 +21,9 @@ pub(crate) struct PairTerms {
     pub apart: u64,
 }
 
-// Node j of the second tree and its parent p. The totals have those of an edge of the first tree in the lower part, and those
-// of its parent's in the upper one: both parts of a difference are got by one subtraction.
+// Node j of the second tree and its parent p, from the totals of an edge of the first tree. A total has the labels beyond the
+// edge in its lower part, and those that leave there, beyond the edge above alone, from 65536 on: both parts of a difference
+// are got by one subtraction.
 fn pair_at(
     sums: &[u64; TIPS],
     begin: &[Cell; NODES],
@@ -36,14 +38,11 @@ fn pair_at(
         ⌝ }
 {
     let own = cell(sums, begin[j], end[j]);
-    let over = cell(sums, begin[p], end[p]);
+    let rest = cell(sums, begin[p], end[p]) - own;
     let i = own % 65536;
-    let c = own / 65536;
-    let r = over % 65536;
-    let w = over / 65536;
     PairTerms {
-        alike: alike_term(i, r, c, w),
-        apart: apart_term(i, r, c),
+        alike: alike_term(i, rest / 65536),
+        apart: apart_term(i, rest % 65536, own / 65536),
     }
 }
 
@@ -104,16 +103,11 @@ fn row_at(
         ⌝ }
 {
     let p = as_index(first[2 + v]);
+    let mut weights = [0u64; TIPS];
+    fill_span(&mut weights, first_begin[p], first_end[p], 65536);
+    fill_span(&mut weights, first_begin[v], first_end[v], 1);
     let mut sums = [0u64; TIPS];
-    prefix_two(
-        at,
-        n - 1,
-        first_begin[v],
-        first_end[v],
-        first_begin[p],
-        first_end[p],
-        &mut sums,
-    );
+    weigh(at, n - 1, &weights, &mut sums);
     row_terms(&sums, second_begin, second_end, second, columns, count)
 }
 

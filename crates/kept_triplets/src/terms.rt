@@ -3,10 +3,9 @@ use table_words::Cell;
 use table_words::TIPS;
 use table_words::cell_index;
 ghost use mathlib.Core.Path.{_≡_};
-ghost use Prim.Native.Nat.{_-_, _≤_, _<_};
+ghost use Prim.Native.Nat.{_*_, _-_, _≤_};
 ghost use Rattle.tree_check.specs.Table.{word};
-ghost use Rattle.shapes.specs.theorems.TripletCounts.{alikeTerm, apartTerm, edgeTerm};
-ghost use Rattle.kept_triplets.specs.lemmas.Terms.{Nested};
+ghost use Rattle.shapes.specs.theorems.TripletCounts.{edgeTerm};
 
 // An edge with s labels beyond it, and p beyond its parent's edge.
 pub(crate) fn edge_term(s: u64, p: u64) -> u64
@@ -16,20 +15,20 @@ pub(crate) fn edge_term(s: u64, p: u64) -> u64
     (s * s - s) * (p - s)
 }
 
-// Two labels beyond both edges, and a third that leaves at both.
-pub(crate) fn alike_term(i: u64, r: u64, c: u64, w: u64) -> u64
-    requires { ⌜ Nested i r c w ⌝ }
-    ensures { λ t. ⌜ t ≡ alikeTerm i r c w ⌝ }
+// Two of i labels beyond both edges, and one of z that leave at both.
+pub(crate) fn alike_term(i: u64, z: u64) -> u64
+    requires { ⌜ (i ≤ 256) × (z ≤ 256) ⌝ }
+    ensures { λ t. ⌜ t ≡ i * (i - 1) * z ⌝ }
 {
-    (i * i - i) * (w + i - r - c)
+    (i * i - i) * z
 }
 
-// One label beyond both edges, one that leaves at the second alone, one that leaves at the first alone.
-pub(crate) fn apart_term(i: u64, r: u64, c: u64) -> u64
-    requires { ⌜ (i ≤ r) × (i ≤ c) × (r ≤ 256) × (c ≤ 256) ⌝ }
-    ensures { λ t. ⌜ t ≡ apartTerm i r c ⌝ }
+// One of i labels beyond both edges, one of x that leave at the second alone, one of y that leave at the first alone.
+pub(crate) fn apart_term(i: u64, x: u64, y: u64) -> u64
+    requires { ⌜ (i ≤ 256) × (x ≤ 256) × (y ≤ 256) ⌝ }
+    ensures { λ t. ⌜ t ≡ i * (x * y) ⌝ }
 {
-    i * ((r - i) * (c - i))
+    i * (x * y)
 }
 
 // How many of the places of a span were counted.

@@ -21,7 +21,7 @@ use Rattle.sums.specs.theorems.CountLaws.{count-le}
 use Rattle.tree_check.specs.Table.{word}
 use Rattle.marks.specs.Marks.{isKept}
 use Rattle.walks.specs.theorems.SpanLaws.{inSpan}
-use Rattle.kept_triplets.specs.lemmas.Places.{placeOf, Prefixed, PrefixedTwo}
+use Rattle.kept_triplets.specs.lemmas.Places.{placeOf, Prefixed}
 
 pub place-kept : (b : Bool) (p : ℕ) → b ≡ true → placeOf b p ≡ p
 unfolding placeOf
@@ -86,34 +86,3 @@ sums-next at b e k sums x l q h = record {
 
 pub sum-low : (at : List ℕ) (b e k : ℕ) → sum k (λ i. bit (inSpan (word at i) b e)) ≤ k
 sum-low at b e k = count-le k (λ i. inSpan (word at i) b e)
-
--- ---- the sums of two spans, place by place
-
-pub two-none : (at : List ℕ) (b e b' e' : ℕ) (sums : List ℕ) → length sums ≡ tipsMost → PrefixedTwo at b e b' e' 0 (set sums 0 0)
-two-none at b e b' e' sums l = record {
-  long = length-set sums 0 0 ∙ l;
-  sum-is = λ k q. let z : k ≡ 0 = omega arith in rw z (getD-set-same sums 0 0 0 (omega (arith, l)) ∙ (unfold sum in refl));
-}
-
-module _ (at : List ℕ) (b e b' e' k : ℕ) (sums : List ℕ) (x : ℕ) (h : PrefixedTwo at b e b' e' k sums) where
-  abbrev both : ℕ → ℕ
-  both j = sum j (λ i. bit (inSpan (word at i) b e)) + 65536 * sum j (λ i. bit (inSpan (word at i) b' e'))
-
-  pub two-sum : (total d : ℕ) → total ≡ both k → d ≡ bit (inSpan (word at k) b e) + 65536 * bit (inSpan (word at k) b' e')
-      → total + d ≡ both (k + 1)
-  two-sum total d e1 e2 = omega (
-    arith,
-    e1,
-    e2,
-    sum-next k (λ i. bit (inSpan (word at i) b e)),
-    sum-next k (λ i. bit (inSpan (word at i) b' e')),
-  )
-
-  pub two-next : k + 1 < tipsMost → x ≡ both (k + 1) → PrefixedTwo at b e b' e' (k + 1) (set sums (k + 1) x)
-  two-next l q = record {
-    long = length-set sums (k + 1) x ∙ h .long;
-    sum-is = λ j m. elim (ℕ-discrete j (k + 1)) [
-      | yes d ↦ rw d (getD-set-same sums (k + 1) x 0 (omega (arith, h .long)) ∙ q)
-      | no d ↦ getD-set-other sums (k + 1) j x 0 d ∙ h .sum-is j (omega arith)
-    ];
-  }

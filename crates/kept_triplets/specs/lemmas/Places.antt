@@ -18,7 +18,7 @@ use Rattle.sums.specs.Counts.{count}
 use Rattle.sums.specs.Lists.{inOrder}
 use Rattle.sums.specs.theorems.ListLaws.{in-order-length, in-order-at}
 use Rattle.sums.specs.theorems.BitLaws.{bit-T, bit-no, is-other}
-use Rattle.tree_check.specs.Table.{Table, word, tips, nodes, label, nodeOf, beyond}
+use Rattle.tree_check.specs.Table.{Table, word, tips, nodes, parent, label, nodeOf, beyond}
 use Rattle.tree_check.specs.IsTree.{IsTree}
 use Rattle.walks.specs.Walk.{walk, below, start}
 use Rattle.walks.specs.theorems.NodeLabels.{node-at}
@@ -30,7 +30,11 @@ use Rattle.walks.specs.theorems.SpanLaws.{inSpan, in-span-iff, SpansOf, start-a
 use Rattle.counting.specs.Kept.{isOther}
 use Rattle.counting.specs.theorems.OtherLabels.{other-bit, not-itself}
 use Rattle.counting.specs.theorems.KeptTripletSums.{bothOver, sizeOver}
-use Rattle.sums.specs.theorems.Permutations.{sum-permuted}
+use Rattle.sums.specs.theorems.Permutations.{onto, sum-permuted}
+use Rattle.sums.specs.theorems.Products.{product-le}
+use Rattle.shapes.specs.theorems.AncestorLaws.{parent-lt}
+use Rattle.shapes.specs.theorems.LowestAncestors.{leaves-once}
+use Rattle.tree_check.specs.theorems.RootedTables.{rooted}
 use Rattle.kept_triplets.specs.lemmas.SpanSums.{span-sum}
 
 -- a kept label is at place p, a struck one at none: no span reaches past place 254
@@ -47,12 +51,6 @@ pub record PlacesTo (k : ℕ) (t u : Table) (marks beginT beginU at : List ℕ) 
 pub record Prefixed (at : List ℕ) (b e n : ℕ) (sums : List ℕ) : Type 0 where
   pub long : length sums ≡ tipsMost
   pub sum-is : (k : ℕ) → k ≤ n → word sums k ≡ sum k (λ i. bit (inSpan (word at i) b e))
-
--- .. and in each of two spans, the second counted from 65536 on
-pub record PrefixedTwo (at : List ℕ) (b e b' e' n : ℕ) (sums : List ℕ) : Type 0 where
-  pub long : length sums ≡ tipsMost
-  pub sum-is : (k : ℕ) → k ≤ n
-      → word sums k ≡ sum k (λ i. bit (inSpan (word at i) b e)) + 65536 * sum k (λ i. bit (inSpan (word at i) b' e'))
 
 -- a list of such totals
 abbrev pub totalsOf : List ℕ → ℕ → ℕ → List ℕ
@@ -276,3 +274,22 @@ module _ (t u : Table) (g : IsTree t) (h : IsTree u) (e : tips t ≡ tips u) (ma
     pub cell-fits : (sums : List ℕ) → Prefixed at (word beginT v) (word endT v) (tips t - 1) sums
         → (word beginU j < tipsMost) × (word endU j < tipsMost)
     cell-fits sums q = omega (arith, span-fits u h beginU endU s' j pj lj, g .tips-range .1, e)
+
+  -- where a place lies in a span, it lies in that of the node above
+  pub above-too : (v k : ℕ) → 1 ≤ v → v < nodes t → 1 ≤ parent t v → k < tips t - 1
+      → bit (inSpan (word at k) (word beginT v) (word endT v))
+      ≤ bit (inSpan (word at k) (word beginT (parent t v)) (word endT (parent t v)))
+  unfolding π beyond
+  above-too v k pv lv pp lk =
+      let r = onto N π π-lt π-one k lk in
+      let i = r .0 in
+      let li : i < N = r .1 in
+      let y = suc i in
+      let lp : parent t v < nodes t = omega (arith, parent-lt (parent t) (rooted t g) v pv) in
+      let e = ap (word at) (sym (r .2)) ∙ p .at-is y (omega arith) (omega arith) in
+      let s1 = kept-beyond v 1 pv lv (omega arith) second-some y (omega arith) (omega arith) in
+      let s2 = kept-beyond (parent t v) 1 pp lp (omega arith) second-some y (omega arith) (omega arith) in
+      rw (e, s1, s2) (product-le _ _ _ _ (omega arith) (omega (arith, leaves-once (parent t) (rooted t g) v (nodeOf t y) pv)))
+    where
+      second-some : 1 < nodes u
+      second-some = let a = h .tips-range in let b = h .nodes-range in omega arith

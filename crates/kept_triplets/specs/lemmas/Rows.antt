@@ -21,35 +21,38 @@ use Rattle.tree_check.specs.theorems.RootedTables.{rooted}
 use Rattle.walks.specs.theorems.SpanLaws.{inSpan}
 use Rattle.counting.specs.Kept.{isOther}
 use Rattle.counting.specs.theorems.KeptTripletSums.{sizeOver, bothOver, alikeOver, apartOver, nested}
-use Rattle.kept_triplets.specs.lemmas.Places.{SpanLists, PlacesTo, Prefixed, PrefixedTwo, totalsOf, totals-are, span-fits, cell-is}
-use Rattle.kept_triplets.specs.lemmas.Terms.{Nested, alike-most, apart-most, sum-most}
+use Rattle.kept_triplets.specs.lemmas.Places.{SpanLists, PlacesTo, Prefixed, totalsOf, totals-are, span-fits, cell-is, above-too}
+use Rattle.kept_triplets.specs.lemmas.Weighing.{leaving, Weighed, weighed-parts}
+use Rattle.kept_triplets.specs.lemmas.Terms.{alike-most, apart-most, sum-most}
 use Rattle.kept_triplets.specs.lemmas.Edges.{spanOf, addsAt, ListedTo, SizesOf, parent-word, size-few, listed-node, listed-few, listed-enough}
 
 -- ---- as the code reads the sums
 
--- the two parts of a number: an edge's labels, and its parent's
+-- the two parts of a number: the labels beyond an edge, and those that leave there
 abbrev pub low : ℕ → ℕ
 low x = x % 65536
 
 abbrev pub high : ℕ → ℕ
 high x = x / 65536
 
+abbrev pub restOf : List ℕ → List ℕ → List ℕ → ℕ → ℕ → ℕ
+restOf sums begin end j p = spanOf sums begin end p - spanOf sums begin end j
+
 abbrev pub alikeAt : List ℕ → List ℕ → List ℕ → ℕ → ℕ → ℕ
-alikeAt sums begin end j p = alikeTerm (low (spanOf sums begin end j)) (low (spanOf sums begin end p))
-    (high (spanOf sums begin end j)) (high (spanOf sums begin end p))
+alikeAt sums begin end j p = let i = low (spanOf sums begin end j) in i * (i - 1) * high (restOf sums begin end j p)
 
 abbrev pub apartAt : List ℕ → List ℕ → List ℕ → ℕ → ℕ → ℕ
-apartAt sums begin end j p = apartTerm (low (spanOf sums begin end j)) (low (spanOf sums begin end p)) (high (spanOf sums begin end j))
+apartAt sums begin end j p =
+    low (spanOf sums begin end j) * (low (restOf sums begin end j p) * high (spanOf sums begin end j))
 
 -- node j and its parent p
 pub record FourSums (sums begin end : List ℕ) (j p : ℕ) : Type 0 where
   pub node : j < nodeRoom
   pub parent-node : p < nodeRoom
   pub rise : (word sums (word begin j) ≤ word sums (word end j)) × (word sums (word begin p) ≤ word sums (word end p))
-  pub nest : Nested (low (spanOf sums begin end j)) (low (spanOf sums begin end p)) (high (spanOf sums begin end j)) (high (spanOf sums begin end p))
-
-pub nested-parts : (x x' y y' : ℕ) → x ≡ x' → y ≡ y' → Nested (low x') (low y') (high x') (high y') → Nested (low x) (low y) (high x) (high y)
-nested-parts x x' y y' a b n = rw (a, b) n
+  pub inside : spanOf sums begin end j ≤ spanOf sums begin end p
+  pub few : (low (spanOf sums begin end j) ≤ 256) × (high (spanOf sums begin end j) ≤ 256)
+  pub few-rest : (low (restOf sums begin end j p) ≤ 256) × (high (restOf sums begin end j p) ≤ 256)
 
 -- each listed node of the second table, and its parent
 pub record RowSums (sums begin end second columns : List ℕ) (count : ℕ) : Type 0 where
@@ -71,15 +74,43 @@ module _ (sums begin end second columns : List ℕ) (count : ℕ) (h : RowSums s
   listed-low q l = (
     omega (
       arith,
-      sum-most q 16777216 (alikeListed sums begin end second columns) (λ i m. alike-most _ _ _ _ (h .four i (omega arith) .nest)),
+      sum-most q 16777216 (alikeListed sums begin end second columns) (λ i m.
+          let f = h .four i (omega arith) in alike-most _ _ (f .few .0) (f .few-rest .1)),
       product-le nodeRoom 16777216 q 16777216 (omega (arith, h .few)) (omega arith),
     ),
     omega (
       arith,
-      sum-most q 16777216 (apartListed sums begin end second columns) (λ i m. apart-most _ _ _ _ (h .four i (omega arith) .nest)),
+      sum-most q 16777216 (apartListed sums begin end second columns) (λ i m.
+          let f = h .four i (omega arith) in apart-most _ _ _ (f .few .0) (f .few-rest .0) (f .few .1)),
       product-le nodeRoom 16777216 q 16777216 (omega (arith, h .few)) (omega arith),
     ),
   )
+
+-- the parts of numbers that are read
+pub parts-few : (x x' y y' : ℕ) → x ≡ x' → y ≡ y' → x' ≤ y' → (low x' ≤ 256) × (high x' ≤ 256)
+    → (low (y' - x') ≤ 256) × (high (y' - x') ≤ 256)
+    → (x ≤ y) × ((low x ≤ 256) × (high x ≤ 256)) × ((low (y - x) ≤ 256) × (high (y - x) ≤ 256))
+parts-few x x' y y' a b l f r = rw (a, b) (l, f, r)
+
+-- i labels beyond both edges, x that leave at the second, y that leave at the first, d that leave at both
+parted : (i r c w : ℕ) → i ≤ r → i ≤ c → r + c ≤ w + i
+    → (c ≡ i + (c - i)) × (r ≡ i + (r - i)) × (w ≡ r + ((c - i) + (w + i - r - c)))
+parted i r c w a b d = (omega arith, omega arith, omega arith)
+
+differ : (i x y d own over : ℕ) → own ≡ i + 65536 * y → over ≡ i + x + 65536 * (y + d) → (over - own ≡ x + 65536 * d) × (own ≤ over)
+differ i x y d own over a b = (omega arith, omega arith)
+
+few-of : (a b : ℕ) → a ≡ b → b ≤ 256 → a ≤ 256
+few-of a b e l = omega arith
+
+part-few : (i x r : ℕ) → r ≡ i + x → r ≤ 256 → x ≤ 256
+part-few i x r e l = omega arith
+
+few-part : (i x r : ℕ) → r ≡ i + x → r ≤ 256 → x < 65536
+few-part i x r e l = omega arith
+
+last-few : (r y d w : ℕ) → w ≡ r + (y + d) → w ≤ 256 → d ≤ 256
+last-few r y d w e l = omega arith
 
 -- one subtraction for both parts
 halves : (d m x : ℕ) → d < 65536 → x ≡ d + 65536 * m → (low x ≡ d) × (high x ≡ m)
@@ -211,92 +242,98 @@ module _ (t u : Table) (marks : List ℕ) (n : ℕ) (fb fe sb se at columns : Li
   nest (suc (suc v)) (suc (suc j)) a l b m =
       nested marks t u (h .tree) (h .tree') (h .same) v j (omega arith) (omega arith)
 
-  module _ (v p : ℕ) (sums : List ℕ) (a : 2 ≤ v) (l : v < nodes t) (ep : p ≡ parent t v)
-      (o : PrefixedTwo at (word fb v) (word fe v) (word fb p) (word fe p) (n - 1) sums) where
+  module _ (v p : ℕ) (weights sums : List ℕ) (a : 2 ≤ v) (l : v < nodes t) (ep : p ≡ parent t v)
+      (ws : (q : ℕ) → word weights q ≡ bit (inSpan q (word fb v) (word fe v)) + 65536 * leaving (word fb v) (word fe v) (word fb p) (word fe p) q)
+      (o : Weighed at weights (n - 1) sums) where
     p-range : (1 ≤ p) × (p < nodes t)
     p-range = let r = h .tree .parents-range v a l in (omega (arith, ep, r .0), omega (arith, ep, r .1))
 
     -- the totals of one row
     module _ (w : ℕ) (pw : 1 ≤ w) (lw : w < nodes t) where
-      abbrev row : List ℕ
-      row = totalsOf at (word fb w) (word fe w)
-
       q' : Prefixed at (word fb w) (word fe w) (tips t - 1) (totalsOf at (word fb w) (word fe w))
       q' = totals-are at (word fb w) (word fe w) (tips t - 1) (let r = h .tree .tips-range in omega arith)
 
       cell : (j : ℕ) → 1 ≤ j → j < nodes u → spanOf (totalsOf at (word fb w) (word fe w)) sb se j ≡ X w j
-      cell j pj lj = cell-is t u (h .tree) (h .tree') (h .same) marks fb fe sb se at (h .spans) (h .spans') (h .places) w j pw lw pj lj row q'
+      cell j pj lj = cell-is t u (h .tree) (h .tree') (h .same) marks fb fe sb se at (h .spans) (h .spans') (h .places) w j pw lw pj lj
+          (totalsOf at (word fb w) (word fe w)) q'
 
-      rising : (j : ℕ) → 1 ≤ j → j < nodes u
-          → word (totalsOf at (word fb w) (word fe w)) (word sb j) ≤ word (totalsOf at (word fb w) (word fe w)) (word se j)
-      rising j pj lj =
+      -- a total at the end of a span is one at its beginning and the labels beyond both
+      total : (j : ℕ) → 1 ≤ j → j < nodes u
+          → sum (word se j) (λ i. bit (inSpan (word at i) (word fb w) (word fe w)))
+          ≡ sum (word sb j) (λ i. bit (inSpan (word at i) (word fb w) (word fe w))) + X w j
+      total j pj lj =
           let f = span-fits u (h .tree') sb se (h .spans') j pj lj in
           let e = h .same in
           omega (
             arith,
+            cell j pj lj,
             q' .sum-is (word sb j) (omega (arith, f)),
             q' .sum-is (word se j) (omega (arith, f)),
             sum-part (word sb j) (word se j) (λ i. bit (inSpan (word at i) (word fb w) (word fe w))) (f .0),
           )
 
-      at-place : (k : ℕ) → k ≤ tips t - 1 → word (totalsOf at (word fb w) (word fe w)) k ≡ sum k (λ i. bit (inSpan (word at i) (word fb w) (word fe w)))
-      at-place k m = q' .sum-is k m
+    -- what the first k places weigh
+    weight : (k : ℕ) → k ≤ n - 1
+        → word sums k + 65536 * sum k (λ i. bit (inSpan (word at i) (word fb v) (word fe v)))
+        ≡ sum k (λ i. bit (inSpan (word at i) (word fb v) (word fe v))) + 65536 * sum k (λ i. bit (inSpan (word at i) (word fb p) (word fe p)))
+    weight k m = rw (o .sum-is k m) (weighed-parts at weights (word fb v) (word fe v) (word fb p) (word fe p) k ws (λ i li.
+        subst (λ (q : ℕ). bit (inSpan (word at i) (word fb v) (word fe v)) ≤ bit (inSpan (word at i) (word fb q) (word fe q))) (sym ep)
+        (above-too t u (h .tree) (h .tree') (h .same) marks fb fe sb se at (h .spans) (h .spans') (h .places) v i (omega arith) l
+        (omega (arith, ep, p-range .0)) (omega (arith, h .tips-are)))))
 
-    -- both rows at node j
-    both : (j : ℕ) → 1 ≤ j → j < nodes u
-        → (low (spanOf sums sb se j) ≡ X v j) × (high (spanOf sums sb se j) ≡ X p j) × (word sums (word sb j) ≤ word sums (word se j))
-    both j pj lj =
+    -- both parts at node j, where y labels leave
+    both : (j y : ℕ) → 1 ≤ j → j < nodes u → X p j ≡ X v j + y
+        → (spanOf sums sb se j ≡ X v j + 65536 * y) × (word sums (word sb j) ≤ word sums (word se j))
+    both j y pj lj leave =
         let f = span-fits u (h .tree') sb se (h .spans') j pj lj in
         let e = h .same in
         let pr = p-range in
-        let v1 : 1 ≤ v = omega arith in
-        let mb : word sb j ≤ n - 1 = omega (arith, f, h .tips-are) in
-        let me : word se j ≤ n - 1 = omega (arith, f, h .tips-are) in
-        let eb = o .sum-is (word sb j) mb in
-        let ee = o .sum-is (word se j) me in
-        let ov = at-place v v1 l in
-        let op = at-place p (pr .0) (pr .1) in
-        let vb = ov (word sb j) (omega (arith, f)) in
-        let ve = ov (word se j) (omega (arith, f)) in
-        let pb = op (word sb j) (omega (arith, f)) in
-        let pe = op (word se j) (omega (arith, f)) in
-        let rv = rising v v1 l j pj lj in
-        let rp = rising p (pr .0) (pr .1) j pj lj in
-        let q = halves (X v j) (X p j) (spanOf sums sb se j)
-        (omega (arith, both-size marks (tips t) t u v j .0, size-few marks (tips t) t v, h .tree .tips-range .1))
-        (omega (arith, eb, ee, vb, ve, pb, pe, rv, rp, cell v v1 l j pj lj, cell p (pr .0) (pr .1) j pj lj)) in
-        (q .0, q .1, omega (arith, eb, ee, vb, ve, pb, pe, rv, rp))
+        let wb = weight (word sb j) (omega (arith, f, h .tips-are)) in
+        let we = weight (word se j) (omega (arith, f, h .tips-are)) in
+        let tv = total v (omega arith) l j pj lj in
+        let tp = total p (pr .0) (pr .1) j pj lj in
+        (omega (arith, wb, we, tv, tp), omega (arith, wb, we, tv, tp))
+
+    few-both : (i j : ℕ) → X i j ≤ 256
+    few-both i j = omega (arith, both-size marks (tips t) t u i j .0, size-few marks (tips t) t i, h .tree .tips-range .1)
 
     -- node j of the second table, and its parent
     four : (j pj : ℕ) → 2 ≤ j → j < nodes u → pj ≡ parent u j
         → FourSums sums sb se j pj × (alikeAt sums sb se j pj ≡ alikeOver marks (tips t) t u v j)
         × (apartAt sums sb se j pj ≡ apartOver marks (tips t) t u v j)
-    unfolding alikeOver apartOver
+    unfolding alikeOver apartOver alikeTerm apartTerm
     four j pj b m e' =
         let g = h .tree' in
         let r = g .parents-range j b m in
         let pp : 1 ≤ pj = omega (arith, e', r .0) in
         let lp : pj < nodes u = omega (arith, e', r .1) in
-        let own = both j (omega arith) m in
-        let over = both pj pp lp in
-        let i = own .0 in
-        let ri = over .0 ∙ ap (X v) e' in
-        let c = own .1 ∙ ap (λ (k : ℕ). X k j) ep in
-        let w = over .1 ∙ ap₂ X ep e' in
-        let z = nest v j a l b m in (
+        let z = nest v j a l b m in
+        let vp : X v pj ≡ X v (parent u j) = ap (X v) e' in
+        let pq : X p pj ≡ X (parent t v) (parent u j) = ap₂ X ep e' in
+        let pc : X p j ≡ X (parent t v) j = ap (λ (k : ℕ). X k j) ep in
+        let q = parted (X v j) (X v (parent u j)) (X (parent t v) j) (X (parent t v) (parent u j)) (z .0) (z .1) (z .2) in
+        let y = X (parent t v) j - X v j in
+        let x = X v (parent u j) - X v j in
+        let d = X (parent t v) (parent u j) + X v j - X v (parent u j) - X (parent t v) j in
+        let own = both j y (omega arith) m (pc ∙ q .0) in
+        let over = both pj (y + d) pp lp (pq ∙ q .2 ∙ ap (λ (k : ℕ). k + (y + d)) (sym vp)) in
+        let over-is : spanOf sums sb se pj ≡ X v j + x + 65536 * (y + d) = over .0 ∙ ap (λ (k : ℕ). k + 65536 * (y + d)) (vp ∙ q .1) in
+        let fi = few-both v j in
+        let fr = few-both v (parent u j) in
+        let fc = few-both (parent t v) j in
+        let fw = few-both (parent t v) (parent u j) in
+        let i = halves (X v j) y (spanOf sums sb se j) (omega arith) (own .0) in
+        let rest = halves x d (restOf sums sb se j pj) (few-part (X v j) x (X v (parent u j)) (q .1) fr) (differ (X v j) x y d _ _ (own .0) over-is .0) in (
           record {
             node = omega (arith, g .tips-range, g .nodes-range);
             parent-node = omega (arith, g .tips-range, g .nodes-range);
-            rise = (own .2, over .2);
-            nest = record {
-              in-row = omega (arith, i, ri, z .0);
-              in-column = omega (arith, i, c, z .1);
-              in-whole = omega (arith, i, ri, c, w, z .2);
-              few = omega (arith, w, both-size marks (tips t) t u (parent t v) (parent u j) .0, size-few marks (tips t) t (parent t v), h .tree .tips-range .1);
-            };
+            rise = (own .1, over .1);
+            inside = differ (X v j) x y d _ _ (own .0) over-is .1;
+            few = (few-of _ _ (i .0) fi, few-of _ _ (i .1) (part-few (X v j) y (X (parent t v) j) (q .0) fc));
+            few-rest = (few-of _ _ (rest .0) (part-few (X v j) x (X v (parent u j)) (q .1) fr), few-of _ _ (rest .1) (last-few (X v (parent u j)) y d _ (q .2) fw));
           },
-          rw (i, ri, c, w) refl,
-          rw (i, ri, c) refl,
+          rw (i .0, rest .1) refl,
+          rw (i .0, i .1, rest .0) refl,
         )
 
     pub row-sums : RowSums sums sb se u columns count

@@ -1,6 +1,14 @@
 -- The sums of the edge and of its parent's, then the listed columns.
 -- Assumes nothing.
 use mathlib.Core.Path.{_≡_, _∙_}
+use Prim.Native.Nat.{ℕ, _+_, _*_}
+use native.Mathlib.Omega.{arith}
+use lib.ListN.{length-replicate}
+use Rattle.table_words.specs.Sizes.{tipsMost}
+use Rattle.sums.specs.Bits.{bit}
+use Rattle.tree_check.specs.Table.{word}
+use Rattle.walks.specs.theorems.SpanLaws.{inSpan}
+use Rattle.kept_triplets.specs.lemmas.Weighing.{leaving, weights-are, weights-low}
 use Rattle.kept_triplets.specs.lemmas.Rows.{RowAt, row-at, row-sums, row-terms}
 use borrow.Author.Needs.{needs}
 use Rattle.kept_triplets.proofs.rows.row_at.Statement.{statement}
@@ -11,8 +19,11 @@ use Rattle.kept_triplets.proofs.rows.row_at.Tie as tie
 abbrev start : tie.After-as-index → tie.Start
 start c = c .before .before .before .before .before
 
-abbrev as-read : tie.After-prefix-two → tie.After-as-index
-as-read c = c .before .before .before .before .before .before
+abbrev read : tie.After-fill-span2 → tie.After-as-index
+read c = c .before .before .before .before .before .before .before .before
+
+abbrev filled : tie.After-weigh → tie.After-fill-span2
+filled c = c .before .before .before
 
 -- ---- what is known there
 
@@ -33,33 +44,48 @@ shared-slice-read-as-index c = search needs
 as-index-requires : tie.Need-as-index-requires
 as-index-requires c κs = search needs
 
-sub-prefix-two : tie.Need-sub-prefix-two
-sub-prefix-two c = search needs
+weights : (c : tie.After-fill-span2) → let a = start (read c) .args in let p = read c .as-index .result in (q : ℕ) →
+    word (c .fill-span2 .last .0) q ≡ bit (inSpan q (word (a .first-begin .now) (a .v)) (word (a .first-end .now) (a .v)))
+    + 65536 * leaving (word (a .first-begin .now) (a .v)) (word (a .first-end .now) (a .v)) (word (a .first-begin .now) p) (word (a .first-end .now) p) q
+weights c = weights-are _ _ _ _ _ _ (c .before .before .before .before .fill-span .ensures) (c .fill-span2 .ensures)
 
-element-copy-out-prefix-two : tie.Need-element-copy-out-prefix-two
-element-copy-out-prefix-two c = search needs
+element-copy-out-fill-span : tie.Need-element-copy-out-fill-span
+element-copy-out-fill-span c = known (c .before) .parent-in
 
-element-copy-out-prefix-two-2 : tie.Need-element-copy-out-prefix-two-2
-element-copy-out-prefix-two-2 c = search needs
+element-copy-out-fill-span-2 : tie.Need-element-copy-out-fill-span-2
+element-copy-out-fill-span-2 c = known (c .before .before) .parent-in
 
-element-copy-out-prefix-two-3 : tie.Need-element-copy-out-prefix-two-3
-element-copy-out-prefix-two-3 c = known (c .before .before) .parent-in
+fill-span-requires : tie.Need-fill-span-requires
+fill-span-requires c κs = length-replicate {A = ℕ} tipsMost 0
 
-element-copy-out-prefix-two-4 : tie.Need-element-copy-out-prefix-two-4
-element-copy-out-prefix-two-4 c = known (c .before .before .before) .parent-in
+element-copy-out-fill-span-3 : tie.Need-element-copy-out-fill-span-3
+element-copy-out-fill-span-3 c = known (c .before .before .before .before .before) .in-table .1
 
-prefix-two-requires : tie.Need-prefix-two-requires
-prefix-two-requires c κs = search needs
+element-copy-out-fill-span-4 : tie.Need-element-copy-out-fill-span-4
+element-copy-out-fill-span-4 c = known (c .before .before .before .before .before .before) .in-table .1
+
+fill-span-requires-2 : tie.Need-fill-span-requires-2
+fill-span-requires-2 c κs = c .before .before .before .fill-span .ensures .long
+
+sub-weigh : tie.Need-sub-weigh
+sub-weigh c = let s = start (read c) in omega (arith, s .pre .0 .tips-are, s .pre .0 .tree .tips-range)
+
+weigh-requires : tie.Need-weigh-requires
+weigh-requires c κs = let k = c .before .before in let s = start (read k) in (
+  omega (arith, s .pre .0 .tips-are, s .pre .0 .tree .tips-range),
+  length-replicate {A = ℕ} tipsMost 0,
+  weights-low _ _ _ _ _ _ (k .before .before .before .before .fill-span .ensures) (k .fill-span2 .ensures),
+)
 
 row-terms-requires : tie.Need-row-terms-requires
 row-terms-requires c κs =
-    let k = c .before in let s = start (as-read k) in
-    row-sums _ _ _ _ _ _ _ _ _ _ _ (s .pre .0) _ _ _ (s .pre .1) (s .pre .2) (known (as-read k) .parent-is) (k .prefix-two .ensures)
+    let k = c .before in let f = filled k in let s = start (read f) in
+    row-sums _ _ _ _ _ _ _ _ _ _ _ (s .pre .0) _ _ _ _ (s .pre .1) (s .pre .2) (known (read f) .parent-is) (weights f) (k .weigh .ensures)
 
 returns : tie.Need-returns
 returns c =
-    let k = c .before .before in let s = start (as-read k) in
-    let e = row-terms _ _ _ _ _ _ _ _ _ _ _ (s .pre .0) _ _ _ (s .pre .1) (s .pre .2) (known (as-read k) .parent-is) (k .prefix-two .ensures) in
+    let k = c .before .before in let f = filled k in let s = start (read f) in
+    let e = row-terms _ _ _ _ _ _ _ _ _ _ _ (s .pre .0) _ _ _ _ (s .pre .1) (s .pre .2) (known (read f) .parent-is) (weights f) (k .weigh .ensures) in
     (c .row-terms .ensures .0 ∙ e .0, c .row-terms .ensures .1 ∙ e .1)
 
 pub row-at-spec : {M : Type 1} → statement M
@@ -70,11 +96,13 @@ row-at-spec =
     mul-as-index
     shared-slice-read-as-index
     as-index-requires
-    sub-prefix-two
-    element-copy-out-prefix-two
-    element-copy-out-prefix-two-2
-    element-copy-out-prefix-two-3
-    element-copy-out-prefix-two-4
-    prefix-two-requires
+    element-copy-out-fill-span
+    element-copy-out-fill-span-2
+    fill-span-requires
+    element-copy-out-fill-span-3
+    element-copy-out-fill-span-4
+    fill-span-requires-2
+    sub-weigh
+    weigh-requires
     row-terms-requires
     returns)
