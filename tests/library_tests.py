@@ -14,7 +14,7 @@ import unittest
 ROOT = pathlib.Path(__file__).resolve().parent.parent
 PROGRAMS = ["crates/library_example/src/main.rt", "crates/library_example/proofs/distance/Proof.antt",
             "examples/compare.c", "bindings/examples/distance.rs"]
-LIBRARIES = ["trees", "quartets", "weights", "pair_file"]
+LIBRARIES = ["trees", "quartets", "weights", "pair_file", "rerooting", "kept_triplets", "one_label"]
 
 
 def text(path: str) -> str:
@@ -49,7 +49,12 @@ def public_functions(crate: str) -> dict[str, list[str]]:
 # The types of a slice's pointer and of a number in C and in Rust, by those of crates/capi.
 SLICES = {"&[u16]": ("const uint16_t *", "*const u16"), "&mut [u16]": ("uint16_t *", "*mut u16"),
           "&[u8]": ("const uint8_t *", "*const u8"), "&mut [u8]": ("uint8_t *", "*mut u8")}
-NUMBERS = {"u16": ("uint16_t ", "u16"), "usize": ("size_t ", "usize"), "f64": ("double ", "f64")}
+NUMBERS = {"u16": ("uint16_t ", "u16"), "u64": ("uint64_t ", "u64"), "usize": ("size_t ", "usize"), "f64": ("double ", "f64")}
+
+
+def exports() -> str:
+    """The exported functions of crates/capi but the version's."""
+    return text("crates/capi/src/exports.rt") + text("crates/capi/src/labels.rt")
 
 
 def parameter_types(pattern: str, source: str, of_parameter: str) -> dict[str, list[str]]:
@@ -79,8 +84,7 @@ class Calls(unittest.TestCase):
         self.assertEqual(listed, {crate: public_functions(crate) for crate in LIBRARIES})
 
     def test_functions_for_c(self) -> None:
-        exported = set(re.findall(r'^#\[no_mangle\]\npub extern "C" fn (\w+)',
-                                  text("crates/capi/src/exports.rt") + text("crates/capi/src/version.rt"), re.M))
+        exported = set(re.findall(r'^#\[no_mangle\]\npub extern "C" fn (\w+)', exports() + text("crates/capi/src/version.rt"), re.M))
         self.assertEqual(set(re.findall(r"^\w+ (leskwyn_\w+)\(", text("include/leskwyn.h"), re.M)), exported)
         self.assertEqual(set(re.findall(r"^    pub fn (\w+)\(", text("bindings/src/raw.rs"), re.M)), exported)
         self.assertEqual(set(re.findall(r"^\| `(leskwyn_\w+)` \|", PAGE, re.M)), exported)
@@ -89,8 +93,8 @@ class Calls(unittest.TestCase):
         """A linker does not see types: a work of words where the library takes bytes would pass unseen."""
         cell = re.search(r"^pub type Cell = (\w+);", text("crates/table_words/src/lib.rt"), re.M)
         assert cell is not None
-        exports = text("crates/capi/src/exports.rt").replace("[Cell]", f"[{cell[1]}]")
-        exported = parameter_types(r'^pub extern "C" fn (\w+)\(([^)]*)\)', exports, r"\w+: ([^,\n]+)")
+        exported = parameter_types(r'^pub extern "C" fn (\w+)\(([^)]*)\)', exports().replace("[Cell]", f"[{cell[1]}]"),
+                                   r"\w+: ([^,\n)]+)")
         in_c = parameter_types(r"^\w+ (leskwyn_\w+)\(([^)]*)\);", text("include/leskwyn.h"), r"((?:const )?\w+ \*?)\w+(?:,|$)")
         in_rust = parameter_types(r"^    pub fn (\w+)\(([^)]*)\)", text("bindings/src/raw.rs"), r"\w+: ([^,\n]+)")
         self.assertIn("&mut [u8]", exported["leskwyn_crossings"])

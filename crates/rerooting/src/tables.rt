@@ -75,24 +75,24 @@ fn write_table(table: &[u16], m: usize, x: u16, out: &mut [u16])
     write_nodes(table, m, x, &news, out);
 }
 
-// The table re-rooted at the tip x, with the labels 0 and x exchanged, into the first 2 + 2m lent cells.
-pub fn reroot(table: &[u16], x: u16, out: &mut [u16]) -> u16
+// The table re-rooted at the tip with this label, which changes places with label 0, into the first 2 + 2m lent cells.
+pub fn reroot(table: &[u16], label: u16, out: &mut [u16]) -> u16
     ensures { λ r. ⌜
-        (r ≡ refusal (rerootOrder (now (table .entry)) x (length (now (out .entry)))))
-        × (now (out .exit) ≡ afterReroot (now (table .entry)) x (now (out .entry)))
+        (r ≡ refusal (rerootOrder (now (table .entry)) label (length (now (out .entry)))))
+        × (now (out .exit) ≡ afterReroot (now (table .entry)) label (now (out .entry)))
         ⌝ }
 {
     let answer = check(table);
     let Checked::Tree { tips, nodes } = answer else {
         return refusal_of(answer);
     };
-    if tips <= x {
+    if tips <= label {
         return 10;
     }
     let m = as_index(nodes);
     if out.len() < 2 + 2 * m {
         return 12;
     }
-    write_table(table, m, x, out);
+    write_table(table, m, label, out);
     0
 }
