@@ -1,4 +1,4 @@
--- The triplet table over kept labels, with no work cells.
+-- The triplet table over kept labels, with no work cells (docs/SPECIFICATION.md, 'Triplets over kept labels').
 -- Assumes nothing.
 use mathlib.Core.List.{List, _++_}
 use Prim.Native.Nat.{ℕ, _+_}

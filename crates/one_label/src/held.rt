@@ -2,6 +2,7 @@
 use super::answers::FiveCounts;
 use kept_triplets::kept_triplets;
 use rerooting::reroot;
+use table_words::NODES;
 use table_words::TIPS;
 use table_words::as_index;
 ghost use mathlib.Core.Path.{_≡_};
@@ -12,8 +13,8 @@ ghost use Rattle.marks.specs.Marks.{AreMarks};
 ghost use Rattle.tree_check.specs.lemmas.Sized.{Sized};
 ghost use Rattle.one_label.specs.lemmas.HeldCounts.{MarksExchanged, HeldAre};
 
-// 2 + 2 · 1024 words.
-const WORDS: usize = 2050;
+// The words of the largest table.
+const WORDS: usize = 2 + 2 * NODES;
 
 // The marks with those of 0 and x exchanged.
 fn exchanged_marks(marks: &[u8], x: usize) -> [u8; TIPS]

@@ -1,4 +1,4 @@
--- With all labels kept, the triplets over the labels other than 0 are the triplets of L1.
+-- With all labels kept, the triplets over the labels other than 0 are those of the triplet table.
 -- Assumes nothing.
 use mathlib.Core.Path.{_≡_, refl, sym, _∙_, ap}
 use mathlib.Core.Bool.{Bool, true}

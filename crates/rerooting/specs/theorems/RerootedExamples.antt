@@ -1,4 +1,4 @@
--- The definition computed: a tree of four tips, 01|23, re-rooted at tip 2.
+-- The definition computed: a tree of four tips that parts 0 and 1 from 2 and 3, re-rooted at tip 2.
 -- Assumes nothing.
 use mathlib.Core.Path.{_≡_, refl}
 use mathlib.Core.List.{[], _∷_}

@@ -22,7 +22,7 @@ returns c =
     let t = c .before .before in
     let a = t .before .before .before .before .args in
     let o = mark-refused (a .first .now) (a .second .now) (a .marks .now) (five (a .a) (a .b) (a .c) (a .d) (a .e)) (a .label) (a .mark) _
-    (t .if1 .taken) (c .before .tables-or-32 .ensures) in
+    (omega (arith, t .if1 .taken)) (c .before .tables-or-32 .ensures) in
     (c .plain-five .ensures ∙ ap plainFive (o .0), o .1)
 
 wish-of-requires : tie.Need-wish-of-requires
@@ -44,7 +44,7 @@ returns-2 c =
     let l = w .before .before in
     let a = l .before .before .before .before .args in
     let n = five (a .a) (a .b) (a .c) (a .d) (a .e) in
-    let o = mark-wished (a .first .now) (a .second .now) (a .marks .now) n (a .label) (a .mark) (l .if1 .left) in (
+    let o = mark-wished (a .first .now) (a .second .now) (a .marks .now) n (a .label) (a .mark) (omega (arith, l .if1 .left)) in (
       c .plain-five2 .ensures ∙ ap plainFive (m .change-mark .ensures .0
           ∙ ap (λ (q : Wish). changeAnswer (a .first .now) (a .second .now) (a .marks .now) n (a .label) q) (w .wish-of .ensures) ∙ o .0),
       m .change-mark .ensures .1
