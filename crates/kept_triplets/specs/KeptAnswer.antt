@@ -7,7 +7,8 @@ use Rattle.tree_check.specs.Refusals.{Rule, refusal, ifAccepted}
 use Rattle.marks.specs.Marks.{marksOrder}
 use Rattle.pair_check.specs.PairOrder.{tablesOrder}
 use Rattle.counting.specs.declared.Case.the-variants.{A, B, C, D, E}
-use Rattle.kept_triplets.specs.declared.tables.KeptTable.{KeptTable}
+use Rattle.triplets.specs.declared.tables.TripletTable.{TripletTable}
+use Rattle.triplets.specs.TripletAnswer.{refusedTriplets}
 use Rattle.counting.specs.Kept.{others}
 use Rattle.counting.specs.Triplets.{tripletsOver}
 
@@ -16,7 +17,7 @@ unfoldable pub keptOrder : Table → Table → List ℕ → List Rule
 keptOrder t u marks = tablesOrder t u ++ marksOrder marks (tips t)
 
 -- how many sets of three kept labels other than 0 the two trees put in each case, and the distance B + C + D
-abbrev pub keptCounts : Table → Table → List ℕ → KeptTable
+abbrev pub keptCounts : Table → Table → List ℕ → TripletTable
 keptCounts t u marks = let l = others marks 0 (tips t) in record {
   refusal = 0;
   a = tripletsOver l t u A;
@@ -27,10 +28,6 @@ keptCounts t u marks = let l = others marks 0 (tips t) in record {
   distance = tripletsOver l t u B + tripletsOver l t u C + tripletsOver l t u D;
 }
 
--- the number of a refusal, with zeros
-abbrev pub refusedKept : ℕ → KeptTable
-refusedKept number = record { refusal = number; a = 0; b = 0; c = 0; d = 0; e = 0; distance = 0 }
-
-unfoldable pub keptAnswer : Table → Table → List ℕ → KeptTable
+unfoldable pub keptAnswer : Table → Table → List ℕ → TripletTable
 keptAnswer t u marks =
-    let number = refusal (keptOrder t u marks) in ifAccepted number (keptCounts t u marks) (refusedKept number)
+    let number = refusal (keptOrder t u marks) in ifAccepted number (keptCounts t u marks) (refusedTriplets number)

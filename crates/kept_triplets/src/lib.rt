@@ -7,5 +7,5 @@ mod tables; // tables.rt: the triplet table over kept labels
 mod terms; // terms.rt: what an edge and what two edges add
 mod totals; // totals.rt: the sums of two tables
 
-pub use tables::KeptTable;
 pub use tables::kept_triplets;
+pub use triplets::TripletTable;

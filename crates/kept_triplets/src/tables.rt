@@ -5,23 +5,13 @@ use pair_check::CheckedPair;
 use pair_check::check_pair;
 use pair_check::pair_refusal;
 use table_words::as_index;
+use triplets::TripletTable;
 ghost use mathlib.Core.Path.{_≡_};
 ghost use Prim.Native.Nat.{_-_, _≤_};
 ghost use Rattle.sums.specs.theorems.ThreesLaws.{threes};
-ghost use Rattle.kept_triplets.specs.lemmas.Formed.{TableFits, formed};
-ghost use Rattle.kept_triplets.specs.KeptAnswer.{refusedKept, keptAnswer};
-
-// The number; the triplets resolved alike in both trees, differently, in the first only, in the second only, in neither;
-// and the distance B + C + D.
-pub struct KeptTable {
-    pub refusal: u16,
-    pub a: u64,
-    pub b: u64,
-    pub c: u64,
-    pub d: u64,
-    pub e: u64,
-    pub distance: u64,
-}
+ghost use Rattle.triplets.specs.TripletAnswer.{refusedTriplets};
+ghost use Rattle.triplets.specs.lemmas.FormedTriplets.{TableFits, formed};
+ghost use Rattle.kept_triplets.specs.KeptAnswer.{keptAnswer};
 
 // How many sets of three there are among the labels 1 to n - 1.
 fn sets_of_three(n: u64) -> u64
@@ -35,7 +25,7 @@ fn sets_of_three(n: u64) -> u64
 }
 
 // The five counts, from the sums over edges and over pairs of edges.
-fn form_table(first: u64, second: u64, alike: u64, apart: u64, n: u64) -> KeptTable
+fn form_table(first: u64, second: u64, alike: u64, apart: u64, n: u64) -> TripletTable
     requires { ⌜ TableFits n first second alike apart ⌝ }
     ensures { λ r. ⌜ r ≡ formed n first second alike apart ⌝ }
 {
@@ -45,7 +35,7 @@ fn form_table(first: u64, second: u64, alike: u64, apart: u64, n: u64) -> KeptTa
     let d = second / 2 - a - b;
     let e = sets_of_three(n) - a - b - c - d;
     let distance = b + c + d;
-    KeptTable {
+    TripletTable {
         refusal: 0,
         a,
         b,
@@ -56,10 +46,10 @@ fn form_table(first: u64, second: u64, alike: u64, apart: u64, n: u64) -> KeptTa
     }
 }
 
-fn refused(number: u16) -> KeptTable
-    ensures { λ r. ⌜ r ≡ refusedKept number ⌝ }
+fn refused(number: u16) -> TripletTable
+    ensures { λ r. ⌜ r ≡ refusedTriplets number ⌝ }
 {
-    KeptTable {
+    TripletTable {
         refusal: number,
         a: 0,
         b: 0,
@@ -71,7 +61,7 @@ fn refused(number: u16) -> KeptTable
 }
 
 // The triplets of the kept labels other than 0, under the outgroup. It takes no work.
-pub fn kept_triplets(first: &[u16], second: &[u16], marks: &[u8]) -> KeptTable
+pub fn kept_triplets(first: &[u16], second: &[u16], marks: &[u8]) -> TripletTable
     ensures { λ r. ⌜ r ≡ keptAnswer (now (first .entry)) (now (second .entry)) (now (marks .entry)) ⌝ }
 {
     let answer = check_pair(first, second);

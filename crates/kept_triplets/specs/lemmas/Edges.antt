@@ -24,7 +24,7 @@ use Rattle.tree_check.specs.IsTree.{IsTree}
 use Rattle.tree_check.specs.theorems.RootedTables.{rooted}
 use Rattle.counting.specs.Kept.{isOther}
 use Rattle.counting.specs.theorems.KeptTripletSums.{sizeOver, edgeOver}
-use Rattle.kept_triplets.specs.lemmas.Terms.{edge-term-most, sum-most}
+use Rattle.triplets.specs.lemmas.EdgeSums.{edge-term-most, sum-most}
 
 -- ---- as the code reads the totals
 

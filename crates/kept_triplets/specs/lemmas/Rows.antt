@@ -23,7 +23,8 @@ use Rattle.counting.specs.Kept.{isOther}
 use Rattle.counting.specs.theorems.KeptTripletSums.{sizeOver, bothOver, alikeOver, apartOver, nested}
 use Rattle.kept_triplets.specs.lemmas.Places.{SpanLists, PlacesTo, Prefixed, totalsOf, totals-are, span-fits, cell-is, above-too}
 use Rattle.kept_triplets.specs.lemmas.Weighing.{leaving, Weighed, weighed-parts}
-use Rattle.kept_triplets.specs.lemmas.Terms.{alike-most, apart-most, sum-most}
+use Rattle.triplets.specs.lemmas.EdgeSums.{sum-most}
+use Rattle.kept_triplets.specs.lemmas.Terms.{alike-most, apart-most}
 use Rattle.kept_triplets.specs.lemmas.Edges.{spanOf, addsAt, ListedTo, SizesOf, parent-word, size-few, listed-node, listed-few, listed-enough}
 
 -- ---- as the code reads the sums

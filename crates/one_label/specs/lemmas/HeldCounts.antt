@@ -26,7 +26,7 @@ use Rattle.rerooting.specs.Rerooted.{rerooted, written, afterReroot}
 use Rattle.rerooting.specs.theorems.RerootedParts.{same-tips, rerooted-length}
 use Rattle.rerooting.specs.theorems.RerootedTree.{rerooted-tree}
 use Rattle.rerooting.specs.lemmas.Writing.{reroot-accepted}
-use Rattle.kept_triplets.specs.declared.tables.KeptTable.{KeptTable}
+use Rattle.triplets.specs.declared.tables.TripletTable.{TripletTable}
 use Rattle.counting.specs.Kept.{isOther, others}
 use Rattle.counting.specs.Triplets.{tripletsOver}
 use Rattle.counting.specs.theorems.KeptTripletSums.{total}
@@ -83,7 +83,7 @@ pub record HeldAre (t u : Table) (marks : List ℕ) (x : ℕ) (r : FiveCounts) :
   pub few : totalOf (countsOf r) ≤ 2731135
 
 -- the five counts of a table
-abbrev pub fiveCounts : KeptTable → FiveCounts
+abbrev pub fiveCounts : TripletTable → FiveCounts
 fiveCounts r = record { a = r .a; b = r .b; c = r .c; d = r .d; e = r .e }
 
 -- the front of the lent words is the re-rooted table
@@ -122,35 +122,35 @@ module _ (t u : Table) (n m k x : ℕ) (marks out : List ℕ) (h : Sized t n m) 
       ∙ sym (holding-is-triplets t u (h .tree) (h' .tree) same x (omega (arith, h .tips-are)) c marks (take n out)
       (λ y l. front y (omega (arith, h .tips-are))))
 
-  total-few : (r : KeptTable) → r ≡ keptCounts (rerooted t x) (rerooted u x) (take n out) → totalOf (countsOf (fiveCounts r)) ≤ 2731135
+  total-few : (r : TripletTable) → r ≡ keptCounts (rerooted t x) (rerooted u x) (take n out) → totalOf (countsOf (fiveCounts r)) ≤ 2731135
   unfolding totalOf
   total-few r q =
       let l = take n out in
       let g = pair .first in
       omega (
         arith,
-        ap (λ (z : KeptTable). z .a) q,
-        ap (λ (z : KeptTable). z .b) q,
-        ap (λ (z : KeptTable). z .c) q,
-        ap (λ (z : KeptTable). z .d) q,
-        ap (λ (z : KeptTable). z .e) q,
+        ap (λ (z : TripletTable). z .a) q,
+        ap (λ (z : TripletTable). z .b) q,
+        ap (λ (z : TripletTable). z .c) q,
+        ap (λ (z : TripletTable). z .d) q,
+        ap (λ (z : TripletTable). z .e) q,
         total l (rerooted t x) (rerooted u x) g (pair .second) (pair .same-tips),
         threes-mono (count (tips (rerooted t x)) (isOther l 0)) 255
             (let r = g .tips-range in omega (arith, others-few l (tips (rerooted t x)) (omega arith))),
         threes-of-255,
       )
 
-  pub held-are : (r : KeptTable) → r ≡ keptAnswer (rerooted t x) (rerooted u x) (take n out) → HeldAre t u marks x (fiveCounts r)
+  pub held-are : (r : TripletTable) → r ≡ keptAnswer (rerooted t x) (rerooted u x) (take n out) → HeldAre t u marks x (fiveCounts r)
   held-are r e =
       let q = e ∙ sym (counted (rerooted t x) (rerooted u x) (take n out) pair (marks-check (take n out) (tips (rerooted t x)) .1 are-marks)) in
       record { held-is = by-case q; few = total-few r q }
     where
       by-case : r ≡ keptCounts (rerooted t x) (rerooted u x) (take n out) → (k : Case) → countsOf (fiveCounts r) k ≡ holdingKept t u marks x k
-      by-case q A = ap (λ (z : KeptTable). z .a) q ∙ held A
-      by-case q B = ap (λ (z : KeptTable). z .b) q ∙ held B
-      by-case q C = ap (λ (z : KeptTable). z .c) q ∙ held C
-      by-case q D = ap (λ (z : KeptTable). z .d) q ∙ held D
-      by-case q E = ap (λ (z : KeptTable). z .e) q ∙ held E
+      by-case q A = ap (λ (z : TripletTable). z .a) q ∙ held A
+      by-case q B = ap (λ (z : TripletTable). z .b) q ∙ held B
+      by-case q C = ap (λ (z : TripletTable). z .c) q ∙ held C
+      by-case q D = ap (λ (z : TripletTable). z .d) q ∙ held D
+      by-case q E = ap (λ (z : TripletTable). z .e) q ∙ held E
 
 pub front-length : (t : Table) (n m x : ℕ) (cells out : List ℕ) → Sized t n m → x < n → 2 + 2 * m ≤ length cells → out ≡ afterReroot t x cells
     → 2 + 2 * m ≡ length (take (2 + 2 * m) out)
