@@ -135,7 +135,7 @@ module _ (t u : Table) (marks : List ℕ) (counts : FiveCounts) (x : ℕ) (wish 
   unfolding changeAnswer marksAfter
   refused-call k d e = (
     rw (sym e) (sym (if-refused _ (fiveOf (newCounts t u marks counts x wish)) _ (λ q. d (sym e ∙ q)))),
-    sym (if-refused _ (set marks x (bit (restores wish))) marks (λ q. d (sym e ∙ q))),
+    sym (if-refused _ _ marks (λ q. d (sym e ∙ q))),
   )
 
   accepted-call : refusal (changeOrder t u marks counts x wish) ≡ 0
