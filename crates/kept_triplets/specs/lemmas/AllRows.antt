@@ -1,7 +1,6 @@
 -- What all rows add, and that it is low.
 -- Assumes nothing.
-use mathlib.Core.Path.{_≡_, refl, sym, _∙_, ap, ap₂}
-use mathlib.Core.Bool.{Bool}
+use mathlib.Core.Path.{_≡_, _∙_, ap, ap₂}
 use mathlib.Core.Logic.{_⊎_}
 use mathlib.Core.List.{List}
 use Prim.Native.Nat.{ℕ, zero, suc, _+_, _*_, _-_, _≤_, _<_}
@@ -11,7 +10,6 @@ use Rattle.sums.specs.theorems.SumLaws.{sum-cong, sum-part, sum-first}
 use Rattle.sums.specs.Bits.{bit}
 use Rattle.sums.specs.Counts.{count}
 use Rattle.sums.specs.theorems.CountLaws.{count-le}
-use Rattle.sums.specs.theorems.ThreesLaws.{threes}
 use Rattle.sums.specs.theorems.ThreesLaws.{threes-mono, threes-of-255}
 use Rattle.table_words.specs.Sizes.{nodeRoom}
 use Rattle.tree_check.specs.Table.{Table, word, tips, nodes, parent}

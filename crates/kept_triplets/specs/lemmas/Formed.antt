@@ -1,12 +1,12 @@
 -- The five counts of two tables, formed from their sums, and what the call answers.
 -- Assumes nothing.
-use mathlib.Core.Path.{_≡_, refl, sym, _∙_, ap, ap₂}
+use mathlib.Core.Path.{_≡_, sym, _∙_, ap}
 use mathlib.Core.Logic.{_≢_}
 use mathlib.Core.List.{List}
 use Rattle.sums.specs.theorems.ThreesLaws.{threes, threes-mono, threes-of-255}
 use Rattle.tree_check.specs.Table.{Table, tips, nodes}
 use Rattle.tree_check.specs.IsTree.{IsTree}
-use Rattle.tree_check.specs.Refusals.{refusal, ifAccepted}
+use Rattle.tree_check.specs.Refusals.{refusal}
 use Rattle.tree_check.specs.theorems.RefusalLaws.{refusal-first, refusal-kept, if-accepted, if-refused}
 use Rattle.marks.specs.declared.marked.CheckedMarks.{CheckedMarks}
 use Rattle.marks.specs.Marks.{marksOrder, checkedMarks}
@@ -16,7 +16,7 @@ use Rattle.kept_triplets.specs.KeptAnswer.{keptOrder, keptCounts, keptAn
 use Rattle.kept_triplets.specs.lemmas.AllRows.{others-few}
 use Rattle.kept_triplets.specs.lemmas.Prepare.{KeptSumsAre}
 use Rattle.tree_check.specs.lemmas.Sized.{Sized}
-use Prim.Native.Nat.{ℕ, _+_, _*_, _-_, _/_, _≤_, _<_}
+use Prim.Native.Nat.{ℕ, _+_, _-_, _≤_}
 use native.Mathlib.Omega.{arith}
 use Rattle.triplets.specs.TripletAnswer.{refusedTriplets}
 use Rattle.triplets.specs.lemmas.FormedTriplets.{formed, TableFits, formed-is}

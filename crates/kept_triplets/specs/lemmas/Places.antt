@@ -1,26 +1,24 @@
 -- The places of labels in the walks of two trees: how many labels lie beyond two edges, from sums over places.
 -- Assumes nothing.
-use mathlib.Core.Path.{_≡_, refl, sym, _∙_, ap, ap₂}
+use mathlib.Core.Path.{_≡_, sym, _∙_, ap, ap₂}
 use mathlib.Core.Bool.{Bool, true, false}
-use mathlib.Core.Logic.{inl, inr, _⊎_, _≢_}
+use mathlib.Core.Logic.{inl, inr, _≢_}
 use mathlib.Core.List.{List}
-use Prim.Native.Nat.{ℕ, zero, suc, _+_, _*_, _-_, _≤_, _<_}
+use Prim.Native.Nat.{ℕ, zero, suc, _*_, _-_, _≤_, _<_}
 use native.Mathlib.Nat.{eq-zero-or-pos}
-use native.Mathlib.Decide.{ℕ-discrete}
 use native.Mathlib.Omega.{arith}
-use lib.ListN.{length, set, length-set}
-use lib.Seq.{getD-set-same, getD-set-other}
-use Rattle.table_words.specs.Sizes.{nodeRoom, tipsMost, cellMost}
+use lib.ListN.{length}
+use Rattle.table_words.specs.Sizes.{tipsMost, cellMost}
 use Rattle.sums.specs.Sum.{sum}
 use Rattle.sums.specs.theorems.SumLaws.{sum-ext, sum-first, sum-part}
-use Rattle.sums.specs.Bits.{bit, is}
+use Rattle.sums.specs.Bits.{bit}
 use Rattle.sums.specs.Counts.{count}
 use Rattle.sums.specs.Lists.{inOrder}
 use Rattle.sums.specs.theorems.ListLaws.{in-order-length, in-order-at}
 use Rattle.sums.specs.theorems.BitLaws.{bit-T, bit-no, is-other}
 use Rattle.tree_check.specs.Table.{Table, word, tips, nodes, parent, label, nodeOf, beyond}
 use Rattle.tree_check.specs.IsTree.{IsTree}
-use Rattle.walks.specs.Walk.{walk, below, start}
+use Rattle.walks.specs.Walk.{walk, start}
 use Rattle.walks.specs.theorems.NodeLabels.{node-at}
 use Rattle.walks.specs.theorems.Reach.{walk-at}
 use Rattle.walks.specs.theorems.WalkLaws.{part-fits}
@@ -249,31 +247,6 @@ module _ (t u : Table) (g : IsTree t) (h : IsTree u) (e : tips t ≡ tips u) (ma
         whole (suc n) l =
             let q : suc n - 1 ≡ n = omega arith in
             rw q (sum-first n _ ∙ omega (arith, ap (λ (z : ℕ). z * (bit (beyond t v 0) * bit (beyond u j 0))) (not-itself marks 0)))
-
-    -- the sum over all places
-    pub size-is : (sums : List ℕ) → Prefixed at (word beginT v) (word endT v) (tips t - 1) sums
-        → word sums (tips t - 1) ≡ sizeOver marks (tips t) t v
-    unfolding sizeOver
-    size-is sums q =
-        q .sum-is N (omega arith)
-        ∙ sym (sum-permuted N π π-lt π-one φ)
-        ∙ sum-ext N _ _ one
-        ∙ sym (whole (tips t) (let r = g .tips-range in omega arith))
-      where
-        one : (i : ℕ) → i < N → φ (π i) ≡ bit (isOther marks 0 (suc i)) * bit (beyond t v (suc i))
-        one i l = unfold π in rw (p .at-is (suc i) (omega arith) (omega arith), kept-beyond (suc i) (omega arith) (omega arith))
-            (ap (λ (z : ℕ). z * bit (beyond t v (suc i))) (sym (other-is i)))
-
-        whole : (n : ℕ) → 1 ≤ n → sizeOver marks n t v ≡ sum (n - 1) (λ i. bit (isOther marks 0 (suc i)) * bit (beyond t v (suc i)))
-        whole zero l = absurd (omega arith)
-        whole (suc n) l =
-            let q : suc n - 1 ≡ n = omega arith in
-            rw q (sum-first n _ ∙ omega (arith, ap (λ (z : ℕ). z * bit (beyond t v 0)) (not-itself marks 0)))
-
-    -- the sums rise
-    pub cell-fits : (sums : List ℕ) → Prefixed at (word beginT v) (word endT v) (tips t - 1) sums
-        → (word beginU j < tipsMost) × (word endU j < tipsMost)
-    cell-fits sums q = omega (arith, span-fits u h beginU endU s' j pj lj, g .tips-range .1, e)
 
   -- where a place lies in a span, it lies in that of the node above
   pub above-too : (v k : ℕ) → 1 ≤ v → v < nodes t → 1 ≤ parent t v → k < tips t - 1

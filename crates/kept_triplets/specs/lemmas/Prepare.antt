@@ -2,7 +2,7 @@
 -- Assumes nothing.
 use mathlib.Core.Path.{_≡_, refl, sym, _∙_, ap, subst}
 use mathlib.Core.List.{List}
-use Prim.Native.Nat.{ℕ, _+_, _*_, _-_, _≤_, _<_}
+use Prim.Native.Nat.{ℕ, _+_, _*_, _-_, _≤_}
 use native.Mathlib.Omega.{arith}
 use Rattle.table_words.specs.Sizes.{nodeRoom, cellMost}
 use Rattle.sums.specs.Sum.{sum}
@@ -10,7 +10,6 @@ use Rattle.sums.specs.Counts.{count}
 use Rattle.sums.specs.theorems.ThreesLaws.{threes}
 use Rattle.tree_check.specs.Table.{Table, word, tips, nodes}
 use Rattle.tree_check.specs.IsTree.{IsTree}
-use Rattle.counting.specs.declared.Case.{Case}
 use Rattle.counting.specs.declared.Case.the-variants.{A, B, C, D, E}
 use Rattle.counting.specs.Kept.{isOther, others}
 use Rattle.counting.specs.Triplets.{tripletsOver}

@@ -11,7 +11,6 @@ use Rattle.table_words.specs.Sizes.{nodeRoom}
 use Rattle.sums.specs.Sum.{sum}
 use Rattle.sums.specs.theorems.SumLaws.{sum-ext, sum-none, sum-mono, sum-add, sum-part}
 use Rattle.sums.specs.Bits.{bit}
-use Rattle.sums.specs.theorems.BitLaws.{bit-le}
 use Rattle.sums.specs.theorems.Products.{product-le}
 use Rattle.shapes.specs.theorems.TripletCounts.{alikeTerm, apartTerm}
 use Rattle.shapes.specs.theorems.LowestAncestors.{leaves-once}
@@ -25,7 +24,7 @@ use Rattle.kept_triplets.specs.lemmas.Places.{SpanLists, PlacesTo, Prefi
 use Rattle.kept_triplets.specs.lemmas.Weighing.{leaving, Weighed, weighed-parts}
 use Rattle.triplets.specs.lemmas.EdgeSums.{sum-most}
 use Rattle.kept_triplets.specs.lemmas.Terms.{alike-most, apart-most}
-use Rattle.kept_triplets.specs.lemmas.Edges.{spanOf, addsAt, ListedTo, SizesOf, parent-word, size-few, listed-node, listed-few, listed-enough}
+use Rattle.kept_triplets.specs.lemmas.Edges.{spanOf, parent-word, size-few}
 
 -- ---- as the code reads the sums
 
@@ -219,7 +218,6 @@ module _ (t u : Table) (marks : List ℕ) (n : ℕ) (fb fe sb se at columns : Li
     pub in-table : (2 + v < length t) × (v < nodeRoom)
     pub parent-in : p < nodeRoom
     pub parent-is : p ≡ parent t v
-    pub parent-range : (1 ≤ p) × (p < nodes t)
 
   pub row-at : (v p : ℕ) → 2 ≤ v → v < nodes t → p ≡ word t (2 + v) → RowAt v p
   row-at v p a l q =
@@ -230,7 +228,6 @@ module _ (t u : Table) (marks : List ℕ) (n : ℕ) (fb fe sb se at columns : Li
         in-table = (omega (arith, g .words), omega (arith, g .tips-range, g .nodes-range));
         parent-in = omega (arith, q, w, r, g .tips-range, g .nodes-range);
         parent-is = q ∙ w;
-        parent-range = (omega (arith, q, w, r .0), omega (arith, q, w, r .1));
       }
 
   nest : (v j : ℕ) → 2 ≤ v → v < nodes t → 2 ≤ j → j < nodes u

@@ -1,20 +1,19 @@
 -- Places with weights: 1 in a span, 65536 in the rest of the span above it; and what the first places weigh.
 -- Assumes nothing.
-use mathlib.Core.Path.{_≡_, refl, sym, _∙_, ap}
+use mathlib.Core.Path.{_≡_, refl, _∙_}
 use mathlib.Core.Bool.{Bool, true, false}
 use mathlib.Core.Logic.{inl, inr, _⊎_}
 use mathlib.Core.List.{List}
 use Prim.Native.Nat.{ℕ, zero, suc, _+_, _*_, _-_, _≤_, _<_}
 use native.Mathlib.Decide.{ℕ-discrete, decLe, decLt}
 use native.Mathlib.Omega.{arith}
-use lib.Dec.{T, T-not}
-use lib.ListN.{length, set, replicate, length-set, length-replicate, getD-replicate}
+use lib.Dec.{T}
+use lib.ListN.{length, set, replicate, length-set}
 use lib.Seq.{getD-set-same, getD-set-other}
 use Rattle.table_words.specs.Sizes.{tipsMost}
 use Rattle.sums.specs.Sum.{sum}
-use Rattle.sums.specs.theorems.SumLaws.{sum-ext, sum-add, sum-mul-left, sum-next}
 use Rattle.sums.specs.Bits.{bit}
-use Rattle.sums.specs.theorems.BitLaws.{bit-T, bit-no, bit-cases, bit-le}
+use Rattle.sums.specs.theorems.BitLaws.{bit-T, bit-cases, bit-le}
 use Rattle.tree_check.specs.Table.{word}
 use Rattle.walks.specs.theorems.SpanLaws.{inSpan, in-span-iff}
 

@@ -1,14 +1,12 @@
 -- What `holding_counts` tells of each kept label, added up over all kept labels, is four times what `quartet_table` tells.
 -- Assumes nothing.
 use mathlib.Core.Path.{_≡_, refl, sym, _∙_, ap}
-use mathlib.Core.List.{List, [], _∷_, _++_}
+use mathlib.Core.List.{List}
 use Prim.Native.Nat.{ℕ, _*_, _<_}
-use native.Mathlib.Omega.{arith}
 use borrow.Author.Tests.{lt-leb}
 use Rattle.sums.specs.Sum.{sum}
 use Rattle.sums.specs.theorems.SumLaws.{sum-ext}
 use Rattle.tree_check.specs.Table.{Table, tips}
-use Rattle.tree_check.specs.Refusals.{refusal}
 use Rattle.tree_check.specs.theorems.RefusalLaws.{refusal-kept, refusal-next, refusal-none, if-accepted}
 use Rattle.marks.specs.Marks.{keptOf, marksOrder, AreMarks}
 use Rattle.marks.specs.theorems.MarksCheck.{marks-kept}
@@ -24,8 +22,8 @@ use Rattle.quartets.specs.declared.tables.QuartetTable.{QuartetTable}
 use Rattle.quartets.specs.QuartetAnswer.{casesOver, quartetAnswer}
 use Rattle.quartets.specs.theorems.DemandThree.{accepted}
 use Rattle.one_label.specs.declared.answers.FiveAnswer.{FiveAnswer}
-use Rattle.counting.specs.Holding.{holding, holdingKept}
-use Rattle.one_label.specs.FiveAnswers.{Counts, countsOf, fiveOf, refusedFive, holdingOrder, holdingAnswer}
+use Rattle.counting.specs.Holding.{holdingKept}
+use Rattle.one_label.specs.FiveAnswers.{countsOf, fiveOf, holdingOrder, holdingAnswer}
 use Rattle.counting.specs.theorems.HeldByFour.{held-by-four}
 use Rattle.one_label.specs.theorems.ChangeLaws.{answerCounts, counts-told}
 use Rattle.mark_changes.specs.theorems.Sequences.{tableCounts}

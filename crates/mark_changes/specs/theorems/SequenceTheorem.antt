@@ -1,28 +1,28 @@
 -- The sequence theorem: after a quartet table and any number of calls of `change_mark`, each accepted call's counts are those of
 -- a fresh quartet table under the marks that it leaves, and 34 is never told.
 -- Assumes nothing.
-use mathlib.Core.Path.{_≡_, refl, sym, _∙_, ap, subst}
-use mathlib.Core.Logic.{_⊎_, inl, inr, _≢_}
+use mathlib.Core.Path.{_≡_, refl, sym, _∙_, ap}
+use mathlib.Core.Logic.{_⊎_, inl, inr}
 use mathlib.Core.List.{List, [], _∷_}
-use Prim.Native.Nat.{ℕ, zero, suc}
+use Prim.Native.Nat.{ℕ}
 use native.Mathlib.Decide.{ℕ-discrete}
 use native.Mathlib.Omega.{arith}
 use lib.ListN.{set}
 use Rattle.sums.specs.Bits.{bit}
 use Rattle.tree_check.specs.Table.{Table, tips}
-use Rattle.tree_check.specs.Refusals.{refusal, ifAccepted}
+use Rattle.tree_check.specs.Refusals.{refusal}
 use Rattle.tree_check.specs.theorems.RefusalLaws.{if-accepted, if-refused}
-use Rattle.pair_check.specs.PairOrder.{IsPair, PairWithCells, MarkedPair, pairOrder}
+use Rattle.pair_check.specs.PairOrder.{IsPair, PairWithCells, MarkedPair}
 use Rattle.pair_check.specs.theorems.PairCheck.{pair-check}
 use Rattle.counting.specs.Kept.{kept}
 use Rattle.counting.specs.declared.Case.{Case}
 use Rattle.counting.specs.declared.Case.the-variants.{A, B, C, D, E}
 use Rattle.counting.specs.Cases.{quartets}
-use Rattle.quartets.specs.QuartetAnswer.{casesOver, refusedTable, quartetAnswer}
+use Rattle.quartets.specs.QuartetAnswer.{casesOver, quartetAnswer}
 use Rattle.quartets.specs.theorems.DemandThree.{demand-three, accepted}
 use Rattle.one_label.specs.declared.answers.FiveCounts.{FiveCounts}
 use Rattle.one_label.specs.FiveAnswers.{Counts, countsOf}
-use Rattle.one_label.specs.Changes.{restores, changeOrder, newCounts, marksAfter}
+use Rattle.one_label.specs.Changes.{restores, changeOrder, marksAfter}
 use Rattle.one_label.specs.theorems.ChangeLaws.{Fresh, answerCounts, answer-number, answer-counts, change-check, fresh-changed, fresh-number as change-number}
 use Rattle.mark_changes.specs.theorems.Sequences.{tableCounts, LabelWish, Shown, answered, marksLeft, afterWish, afterWishes, CountedAfresh}
 

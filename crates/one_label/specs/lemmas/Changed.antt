@@ -2,22 +2,20 @@
 -- Assumes nothing.
 use mathlib.Core.Path.{_≡_, refl, sym, _∙_, ap, subst, fun-ext}
 use mathlib.Core.Bool.{Bool, true, false, not, _&&_, _||_, Bool·beq}
-use mathlib.Core.Logic.{inl, inr, _≢_}
+use mathlib.Core.Logic.{_≢_}
 use mathlib.Core.List.{List, [], _∷_, _++_, append-assoc}
-use Prim.Native.Nat.{ℕ, _+_, _*_, _-_, _/_, _≤_, _<_}
+use Prim.Native.Nat.{ℕ, _+_, _-_, _≤_, _<_}
 use native.Mathlib.Omega.{arith}
-use borrow.Author.Tests.{ne-eqb, le-ltb, ltb-false, eqb-true}
+use borrow.Author.Tests.{ne-eqb, le-ltb, eqb-true}
 use lib.Dec.{T, eqb, ltb, leb}
 use lib.ListN.{set}
 use Rattle.sums.specs.Bits.{bit}
 use Rattle.sums.specs.Fours.{fours}
 use Rattle.sums.specs.theorems.FoursLaws.{fours-mono, fours-of-256}
-use Rattle.sums.specs.theorems.Products.{product-le}
 use Rattle.sums.specs.theorems.BitLaws.{T-true}
-use Rattle.sums.specs.theorems.TestLaws.{or-iff, lt-iff}
 use Rattle.tree_check.specs.Table.{Table, tips}
-use Rattle.tree_check.specs.Refusals.{Rule, refusal, ifAccepted}
-use Rattle.tree_check.specs.theorems.RefusalLaws.{Kept, Numbered, accepted, numbered-append, refusal-first, refusal-kept, refusal-here, refusal-next, refusal-none, if-accepted, if-refused}
+use Rattle.tree_check.specs.Refusals.{Rule, refusal}
+use Rattle.tree_check.specs.theorems.RefusalLaws.{Numbered, accepted, numbered-append, refusal-first, refusal-kept, refusal-here, refusal-next, refusal-none, if-accepted, if-refused}
 use Rattle.marks.specs.Marks.{isKept, keptOf, marksOrder}
 use Rattle.marks.specs.theorems.MarksCheck.{kept-few, marks-numbered}
 use Rattle.pair_check.specs.PairOrder.{tablesOrder}
@@ -29,7 +27,7 @@ use Rattle.one_label.specs.declared.answers.FiveCounts.{FiveCounts}
 use Rattle.one_label.specs.declared.answers.Wish.{Wish}
 use Rattle.one_label.specs.declared.checks.Sizes.{Sizes}
 use Rattle.one_label.specs.theorems.ChangeLaws.{drawn, enough}
-use Rattle.counting.specs.Holding.{holding, holdingKept}
+use Rattle.counting.specs.Holding.{holdingKept}
 use Rattle.one_label.specs.Changes.{restores, totalOf, overdrawn, wishOrder, changeOrder, newCount, newCounts, changeAnswer, marksAfter}
 use Rattle.one_label.specs.FiveAnswers.{Counts, countsOf, fiveOf, refusedFive, holdingOrder}
 use Rattle.one_label.specs.lemmas.HeldCounts.{HeldAre}

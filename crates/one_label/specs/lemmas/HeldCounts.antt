@@ -1,9 +1,8 @@
 -- The marks with two exchanged, and the sets that hold a label from the re-rooted tables.
 -- Assumes nothing.
-use mathlib.Core.Path.{_≡_, refl, sym, _∙_, ap, subst}
-use mathlib.Core.Logic.{_≢_}
-use mathlib.Core.List.{List, _++_}
-use Prim.Native.Nat.{ℕ, zero, suc, _+_, _*_, _-_, _≤_, _<_}
+use mathlib.Core.Path.{_≡_, sym, _∙_, ap}
+use mathlib.Core.List.{List}
+use Prim.Native.Nat.{ℕ, _+_, _*_, _-_, _≤_, _<_}
 use native.Mathlib.Decide.{ℕ-discrete}
 use native.Mathlib.Omega.{arith}
 use lib.ListN.{length, set, take, drop, replicate, length-set, length-replicate}
@@ -11,14 +10,11 @@ use lib.Seq.{getD-set-same, getD-set-other, getD-take, take-at, length-take-le}
 use Rattle.sums.specs.Counts.{count}
 use Rattle.sums.specs.Swaps.{swapped}
 use Rattle.sums.specs.theorems.SwapLaws.{swapped-first, swapped-second, swapped-other, swapped-lt}
-use Rattle.sums.specs.theorems.ThreesLaws.{threes}
 use Rattle.sums.specs.theorems.ThreesLaws.{threes-mono, threes-of-255}
 use Rattle.table_words.specs.Sizes.{tipsMost}
 use Rattle.tree_check.specs.Table.{Table, word, tips, nodes}
-use Rattle.tree_check.specs.Refusals.{refusal}
-use Rattle.tree_check.specs.IsTree.{IsTree}
-use Rattle.marks.specs.Marks.{AreMarks, marksOrder}
-use Rattle.marks.specs.theorems.MarksCheck.{marks-kept, marks-check}
+use Rattle.marks.specs.Marks.{AreMarks}
+use Rattle.marks.specs.theorems.MarksCheck.{marks-check}
 use Rattle.pair_check.specs.PairOrder.{IsPair}
 use Rattle.counting.specs.declared.Case.{Case}
 use Rattle.counting.specs.declared.Case.the-variants.{A, B, C, D, E}
@@ -35,7 +31,7 @@ use Rattle.kept_triplets.specs.KeptAnswer.{keptCounts, keptAnswer}
 use Rattle.tree_check.specs.lemmas.Sized.{Sized, sized-fit}
 use Rattle.kept_triplets.specs.lemmas.Formed.{counted}
 use Rattle.one_label.specs.declared.answers.FiveCounts.{FiveCounts}
-use Rattle.counting.specs.Holding.{holding, holdingKept}
+use Rattle.counting.specs.Holding.{holdingKept}
 use Rattle.one_label.specs.Changes.{totalOf}
 use Rattle.one_label.specs.FiveAnswers.{countsOf}
 use Rattle.one_label.specs.theorems.HoldingIsTriplets.{holding-is-triplets}

@@ -2,13 +2,13 @@
 -- Assumes nothing.
 use mathlib.Core.Path.{_≡_, refl, sym, _∙_, ap, subst}
 use mathlib.Core.Logic.{_≢_}
-use mathlib.Core.List.{List, [], _∷_, _++_}
+use mathlib.Core.List.{List, [], _∷_}
 use Prim.Native.Nat.{ℕ, _+_, _-_, _≤_, _<_}
 use native.Mathlib.Omega.{arith}
 use borrow.Author.Tests.{le-leb, lt-leb}
 use lib.Dec.{leb}
 use Rattle.tree_check.specs.Table.{Table, tips, nodes}
-use Rattle.tree_check.specs.Refusals.{Rule, refusal, ifAccepted}
+use Rattle.tree_check.specs.Refusals.{refusal}
 use Rattle.tree_check.specs.theorems.RefusalLaws.{refusal-first, refusal-kept, refusal-here, refusal-next, refusal-none, if-accepted, if-refused}
 use Rattle.marks.specs.declared.marked.CheckedMarks.{CheckedMarks}
 use Rattle.marks.specs.Marks.{keptOf, marksOrder, AreMarks, checkedMarks}
@@ -17,13 +17,11 @@ use Rattle.pair_check.specs.PairOrder.{IsPair, tablesOrder}
 use Rattle.pair_check.specs.theorems.PairCheck.{tables-kept}
 use Rattle.tree_check.specs.lemmas.Sized.{Sized}
 use Rattle.kept_triplets.specs.lemmas.Formed.{sized-of, marks-number}
-use Rattle.one_label.specs.declared.answers.FiveAnswer.{FiveAnswer}
 use Rattle.one_label.specs.declared.answers.FiveCounts.{FiveCounts}
 use Rattle.one_label.specs.declared.checks.Sizes.{Sizes}
-use Rattle.counting.specs.Holding.{holding, holdingKept}
+use Rattle.counting.specs.Holding.{holdingKept}
 use Rattle.one_label.specs.FiveAnswers.{countsOf, fiveOf, refusedFive, holdingOrder, holdingAnswer}
 use Rattle.one_label.specs.lemmas.HeldCounts.{HeldAre}
-use Rattle.counting.specs.declared.Case.{Case}
 use Rattle.counting.specs.declared.Case.the-variants.{A, B, C, D, E}
 
 abbrev pub noSizes : ℕ → Sizes

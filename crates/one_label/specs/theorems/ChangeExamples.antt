@@ -10,7 +10,7 @@ use Rattle.sums.specs.Tests.{some}
 use Rattle.sums.specs.SetsOfFour.{sets2, sets3}
 use Rattle.shapes.specs.Ancestors.{ancIn, anc}
 use Rattle.shapes.specs.Quartets.{parts, parted}
-use Rattle.tree_check.specs.Table.{Table, tips, nodes, parents, labels, parent, label, nodeBelow, nodeOf, beyond}
+use Rattle.tree_check.specs.Table.{tips, nodes, parents, labels, parent, label, nodeBelow, nodeOf, beyond}
 use Rattle.trees.specs.Topology.{butterfly, partner, named, topology}
 use Rattle.walks.specs.theorems.WalkExamples.{P, Q}
 use Rattle.marks.specs.Marks.{isKept}

@@ -1,9 +1,9 @@
 -- The call that strikes or restores a label: what it accepts, what it changes, and that a fresh count stays fresh.
 -- Assumes nothing.
 use mathlib.Core.Path.{_≡_, refl, sym, _∙_, ap, subst}
-use mathlib.Core.Bool.{Bool, true, false, not, _&&_, _||_, Bool·beq}
+use mathlib.Core.Bool.{Bool, true, false, not, _&&_, Bool·beq}
 use mathlib.Core.Logic.{_⊎_, inl, inr, _≢_, _↔_}
-use mathlib.Core.List.{List, [], _∷_, _++_}
+use mathlib.Core.List.{List, _++_}
 use Prim.Native.Nat.{ℕ, zero, suc, _+_, _-_, _≤_, _<_}
 use native.Mathlib.Decide.{ℕ-discrete, decLe}
 use native.Mathlib.Omega.{arith}
@@ -12,11 +12,11 @@ use lib.ListN.{length, set, length-set}
 use lib.Seq.{getD-set-same, getD-set-other}
 use Rattle.sums.specs.Bits.{bit}
 use Rattle.sums.specs.theorems.BitLaws.{bit-le, T-true, T-false}
-use Rattle.sums.specs.theorems.TestLaws.{and-iff, or-iff, eq-iff, le-iff, lt-iff, not-le-iff, not-not, beq-iff}
+use Rattle.sums.specs.theorems.TestLaws.{or-iff, eq-iff, lt-iff, not-le-iff, not-not, beq-iff}
 use Rattle.sums.specs.Fours.{fours}
 use Rattle.tree_check.specs.Table.{Table, word, tips}
-use Rattle.tree_check.specs.Refusals.{Rule, refusal, ifAccepted}
-use Rattle.tree_check.specs.theorems.RefusalLaws.{Kept, Numbered, accepted, kept-append, numbered-append, if-accepted, if-refused}
+use Rattle.tree_check.specs.Refusals.{refusal, ifAccepted}
+use Rattle.tree_check.specs.theorems.RefusalLaws.{Kept, Numbered, accepted, kept-append, numbered-append, if-accepted}
 use Rattle.tree_check.specs.theorems.RefusalLaws.{refusal-kept, refusal-here, refusal-next}
 use Rattle.marks.specs.Marks.{isKept, keptOf, marksOrder, AreMarks}
 use Rattle.marks.specs.theorems.MarksCheck.{marks-numbered, marks-kept}
@@ -32,7 +32,7 @@ use Rattle.counting.specs.theorems.TreeShape.{shapeOf}
 use Rattle.counting.specs.theorems.CasesInShapes.{quartets-in-shapes}
 use Rattle.shapes.specs.theorems.Topologies.{casesIn}
 use Rattle.counting.specs.theorems.FiveFormulas.{formulas-in-shapes}
-use Rattle.counting.specs.Holding.{holding, holdingKept}
+use Rattle.counting.specs.Holding.{holdingKept}
 use Rattle.one_label.specs.declared.answers.FiveAnswer.{FiveAnswer}
 use Rattle.one_label.specs.declared.answers.FiveCounts.{FiveCounts}
 use Rattle.one_label.specs.declared.answers.Wish.{Wish}

@@ -1,16 +1,13 @@
 -- The sets of four that hold x are the triplets of the two tables re-rooted at x, over the other kept labels.
 -- Assumes nothing.
 use mathlib.Core.Path.{_≡_, refl, sym, _∙_, ap, ap₂}
-use mathlib.Core.Bool.{Bool, not, _&&_}
 use mathlib.Core.Logic.{inl, inr, _≢_}
 use mathlib.Core.List.{List}
-use Prim.Native.Nat.{ℕ, zero, suc, _+_, _*_, _≤_, _<_}
+use Prim.Native.Nat.{ℕ, _*_, _≤_, _<_}
 use native.Mathlib.Decide.{ℕ-discrete}
 use native.Mathlib.Omega.{arith}
-use lib.Dec.{eqb}
 use Rattle.sums.specs.Bits.{bit, is}
-use Rattle.sums.specs.theorems.BitLaws.{is-self, is-other, is-eq, alike}
-use Rattle.sums.specs.SetsOfFour.{sets3}
+use Rattle.sums.specs.theorems.BitLaws.{is-other, alike}
 use Rattle.sums.specs.theorems.SetLaws.{sets3-ext}
 use Rattle.shapes.specs.theorems.FourLabels.{Four}
 use Rattle.trees.specs.declared.quartet.Topology.{Topology}
@@ -32,7 +29,7 @@ use Rattle.rerooting.specs.theorems.RerootedTopology.{rerooted-case}
 use Rattle.counting.specs.Kept.{isOther, others}
 use Rattle.counting.specs.Triplets.{tripletsOver}
 use Rattle.counting.specs.theorems.OtherLabels.{sets3-kept, other-bit, not-itself}
-use Rattle.counting.specs.Holding.{holding, holdingKept}
+use Rattle.counting.specs.Holding.{holdingKept}
 use Rattle.sums.specs.theorems.Exchanging.{AnyOrder, sets3-exchanged}
 use Rattle.counting.specs.theorems.OneLabelLaw.{held}
 

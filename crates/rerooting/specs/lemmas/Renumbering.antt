@@ -1,17 +1,16 @@
 -- New numbers for the nodes of a renumbered tree, as the code gives them: along the path first, then the others in order.
 -- Assumes nothing.
-use mathlib.Core.Path.{_≡_, refl, sym, _∙_, ap, subst}
+use mathlib.Core.Path.{_≡_, sym, _∙_, ap, subst}
 use mathlib.Core.Logic.{inl, inr, _⊎_, _≢_}
 use mathlib.Core.List.{List}
-use Prim.Native.Nat.{ℕ, zero, suc, _+_, _*_, _≤_, _<_}
-use native.Mathlib.Decide.{decLe, decLt, ℕ-discrete}
-use native.Mathlib.Nat.{eq-zero-or-pos}
+use Prim.Native.Nat.{ℕ, suc, _+_, _≤_, _<_}
+use native.Mathlib.Decide.{decLt, ℕ-discrete}
 use native.Mathlib.Omega.{arith}
 use lib.ListN.{length, getD, set, replicate, length-set, length-replicate, getD-replicate}
 use lib.Seq.{getD-set-same, getD-set-other}
 use Rattle.table_words.specs.Sizes.{nodeRoom}
 use Rattle.sums.specs.Bits.{bit}
-use Rattle.sums.specs.theorems.BitLaws.{bit-le, bit-cases}
+use Rattle.sums.specs.theorems.BitLaws.{bit-cases}
 use Rattle.shapes.specs.Ancestors.{anc}
 use Rattle.shapes.specs.theorems.AncestorLaws.{Rooted, anc-le, anc-self, anc-root, anc-down, anc-trans, anc-line, anc-past, parent-lt}
 use Rattle.tree_check.specs.Table.{word}

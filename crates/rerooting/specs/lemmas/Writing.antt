@@ -1,25 +1,24 @@
 -- The words of a re-rooted table, written node by node, and what the call gives.
 -- Assumes nothing.
 use mathlib.Core.Path.{_≡_, refl, sym, _∙_, ap, subst}
-use mathlib.Core.Bool.{Bool, true, false}
+use mathlib.Core.Bool.{true, false}
 use mathlib.Core.Logic.{inl, inr, _≢_}
 use mathlib.Core.List.{List, [], _∷_, _++_}
 use Prim.Native.Nat.{ℕ, zero, suc, _+_, _*_, _-_, _≤_, _<_}
 use native.Mathlib.Decide.{decLt, ℕ-discrete}
 use native.Mathlib.Nat.{eq-zero-or-pos}
 use native.Mathlib.Omega.{arith}
-use native.Mathlib.Numerals.{add-one}
-use borrow.Author.Tests.{lt-ltb, le-ltb, le-leb, lt-leb, eq-eqb, ne-eqb}
-use lib.Dec.{eqb, ltb, leb}
+use borrow.Author.Tests.{lt-ltb, le-ltb, le-leb, lt-leb}
+use lib.Dec.{leb}
 use lib.ListN.{length, getD, set, take, drop, length-set, length-append, length-drop}
-use lib.Seq.{drop-set-lt, getD-set-same, getD-set-other, getD-take, getD-drop, ext-getD, take-append-le, getD-append-add}
-use Rattle.table_words.specs.Sizes.{nodeRoom, tipsMost}
+use lib.Seq.{drop-set-lt, getD-set-same, getD-set-other, getD-take, getD-drop, ext-getD, getD-append-add}
+use Rattle.table_words.specs.Sizes.{nodeRoom}
 use Rattle.sums.specs.Bits.{bit}
 use Rattle.sums.specs.theorems.BitLaws.{bit-cases}
 use Rattle.shapes.specs.Ancestors.{anc}
-use Rattle.shapes.specs.theorems.AncestorLaws.{anc-root, parent-lt}
+use Rattle.shapes.specs.theorems.AncestorLaws.{anc-root}
 use Rattle.tree_check.specs.Table.{Table, word, tips, nodes, parents, labels, parent, label, nodeBelow, nodeOf}
-use Rattle.tree_check.specs.Refusals.{refusal, ifAccepted}
+use Rattle.tree_check.specs.Refusals.{refusal}
 use Rattle.tree_check.specs.IsTree.{IsTree}
 use Rattle.tree_check.specs.TreeOrder.{treeOrder}
 use Rattle.tree_check.specs.theorems.RefusalLaws.{refusal-none, refusal-here, refusal-next, if-accepted, if-refused}
@@ -29,8 +28,6 @@ use Rattle.tree_check.specs.theorems.RootedTables.{rooted}
 use Rattle.walks.specs.theorems.NodeLabels.{node-at}
 use Rattle.walks.specs.theorems.WalkOrderLaws.{tree-refused, tree-accepted}
 use Rattle.shapes.specs.Rerooting.{renumbered, nodeNumbered}
-use Rattle.sums.specs.Lists.{inOrder}
-use Rattle.sums.specs.theorems.ListLaws.{in-order-length, in-order-at}
 use Rattle.sums.specs.Swaps.{swapped}
 use Rattle.rerooting.specs.Rerooted.{newParent, newLabel, rerooted, rerootOrder, written, afterReroot}
 use Rattle.shapes.specs.theorems.RerootedNumbers.{renumbered-lt, renumbered-one, numbered-is, numbered-back, up-on, up-off, path-before, path-back}

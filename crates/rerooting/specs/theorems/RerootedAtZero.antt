@@ -1,16 +1,13 @@
 -- Re-rooted at tip 0, a table is what it was.
 -- Assumes nothing.
-use mathlib.Core.Path.{_≡_, refl, sym, _∙_, ap, ap₂, subst}
+use mathlib.Core.Path.{_≡_, sym, _∙_, ap, ap₂}
 use mathlib.Core.Logic.{inl, inr}
-use mathlib.Core.List.{List, [], _∷_, _++_}
-use Prim.Native.Nat.{ℕ, zero, suc, _+_, _-_, _≤_, _<_}
-use native.Mathlib.Nat.{eq-zero-or-pos}
+use Prim.Native.Nat.{ℕ, _-_, _<_}
 use native.Mathlib.Omega.{arith}
-use lib.ListN.{length, getD}
-use Rattle.sums.specs.Bits.{bit}
+use lib.ListN.{getD}
 use Rattle.sums.specs.theorems.BitLaws.{bit-cases}
 use Rattle.shapes.specs.Ancestors.{anc}
-use Rattle.shapes.specs.theorems.AncestorLaws.{Rooted, anc-le, anc-root, parent-lt}
+use Rattle.shapes.specs.theorems.AncestorLaws.{Rooted, anc-le}
 use Rattle.sums.specs.theorems.ListLaws.{in-order-is}
 use Rattle.sums.specs.theorems.SwapLaws.{swapped-none}
 use Rattle.tree_check.specs.Table.{Table, tips, nodes, parents, labels, parent, label, nodeOf}

@@ -1,13 +1,9 @@
 -- A re-rooted table is the same unrooted tree: the same edges, and the topologies of four labels with 0 and x exchanged.
 -- Assumes nothing.
 use mathlib.Core.Path.{_≡_, refl, sym, _∙_, ap, ap₂}
-use mathlib.Core.Bool.{Bool}
-use mathlib.Core.Logic.{_⊎_, inl, inr, _≢_}
-use mathlib.Core.List.{List, [], _∷_, _++_}
-use Prim.Native.Nat.{ℕ, zero, suc, _+_, _-_, _≤_, _<_}
+use mathlib.Core.Logic.{_⊎_, inl, inr}
+use Prim.Native.Nat.{ℕ, suc, _-_, _≤_, _<_}
 use native.Mathlib.Omega.{arith}
-use lib.Dec.{T, eqb}
-use lib.ListN.{length, getD}
 use Rattle.sums.specs.Bits.{bit}
 use Rattle.sums.specs.theorems.BitLaws.{bit-cases}
 use Rattle.sums.specs.theorems.TestLaws.{same-test}
@@ -17,19 +13,19 @@ use Rattle.shapes.specs.theorems.AncestorLaws.{Rooted, up-ind, anc-at-zero, anc
 use Rattle.shapes.specs.theorems.FourLabels.{Four}
 use Rattle.shapes.specs.theorems.PartedFours.{parted-iff}
 use Rattle.shapes.specs.theorems.Topologies.{firstPassed, caseIn}
-use Rattle.tree_check.specs.Table.{Table, tips, nodes, parent, label, nodeOf}
+use Rattle.tree_check.specs.Table.{Table, tips, nodes, parent, nodeOf}
 use Rattle.tree_check.specs.IsTree.{IsTree}
 use Rattle.tree_check.specs.theorems.RootedTables.{rooted}
 use Rattle.walks.specs.theorems.NodeLabels.{node-at}
-use Rattle.trees.specs.Topology.{butterfly, partner, topology}
+use Rattle.trees.specs.Topology.{butterfly, topology}
 use Rattle.trees.specs.theorems.PartnerLaws.{partner-apart, partner-swap-right}
 use Rattle.counting.specs.Cases.{caseOf, caseNumber}
 use Rattle.counting.specs.theorems.CasesInShapes.{case-named}
-use Rattle.shapes.specs.Rerooting.{renumbered, rerootedUp}
+use Rattle.shapes.specs.Rerooting.{rerootedUp}
 use Rattle.rerooting.specs.Rerooted.{rerooted, newParent}
 use Rattle.shapes.specs.theorems.RerootedNumbers.{rerooted-rooted}
 use Rattle.shapes.specs.theorems.RerootedSides.{SameEdge, kept, reversed, edge-there, edge-back, step-up}
-use Rattle.rerooting.specs.theorems.RerootedParts.{same-tips, same-nodes, new-parent}
+use Rattle.rerooting.specs.theorems.RerootedParts.{same-nodes, new-parent}
 use Rattle.sums.specs.Swaps.{swapped}
 use Rattle.sums.specs.theorems.SwapLaws.{swapped-one, swapped-lt}
 use Rattle.rerooting.specs.theorems.RerootedTree.{newNumber, number-lt, rerooted-tree, rerooted-node, parent-on, parent-off}

@@ -1,14 +1,14 @@
 -- A re-rooted tree table is a tree table.
 -- Assumes nothing.
-use mathlib.Core.Path.{_≡_, refl, sym, _∙_, ap, subst}
-use mathlib.Core.Logic.{inl, inr, _⊎_, _≢_, _↔_}
-use Prim.Native.Nat.{ℕ, zero, suc, _+_, _*_, _-_, _≤_, _<_}
-use native.Mathlib.Decide.{decLe, decLt, ℕ-discrete}
+use mathlib.Core.Path.{_≡_, sym, _∙_, ap, subst}
+use mathlib.Core.Logic.{inl, inr, _⊎_, _≢_}
+use Prim.Native.Nat.{ℕ, suc, _-_, _≤_, _<_}
+use native.Mathlib.Decide.{decLt}
 use native.Mathlib.Nat.{eq-zero-or-pos}
 use native.Mathlib.Omega.{arith}
 use Rattle.sums.specs.Bits.{bit}
 use Rattle.sums.specs.theorems.BitLaws.{bit-cases}
-use Rattle.table_words.specs.Sizes.{innerLabel, tipsMost}
+use Rattle.table_words.specs.Sizes.{innerLabel}
 use Rattle.shapes.specs.Ancestors.{anc}
 use Rattle.shapes.specs.theorems.AncestorLaws.{Rooted, anc-le, anc-self, anc-root, anc-trans, anc-line, anc-past, anc-down, parent-lt}
 use Rattle.tree_check.specs.Table.{Table, tips, nodes, parent, label, nodeOf}
@@ -18,8 +18,8 @@ use Rattle.walks.specs.theorems.NodeLabels.{node-at, node-only}
 use Rattle.shapes.specs.Rerooting.{renumbered, nodeNumbered, rerootedUp}
 use Rattle.rerooting.specs.Rerooted.{newParent, newLabel, rerooted}
 use Rattle.shapes.specs.theorems.RerootedNumbers.{renumbered-lt, renumbered-one, renumbered-root, rerooted-rooted, numbered-is, numbered-back}
-use Rattle.shapes.specs.theorems.RerootedNumbers.{up-on, up-off, path-before, path-back, off-pos, up-less, path-end}
-use Rattle.shapes.specs.theorems.RerootedSides.{Step, path-step, step-up, renumbered-pos}
+use Rattle.shapes.specs.theorems.RerootedNumbers.{up-on, up-off, path-before, path-back, off-pos, path-end}
+use Rattle.shapes.specs.theorems.RerootedSides.{path-step, step-up, renumbered-pos}
 use Rattle.rerooting.specs.theorems.RerootedParts.{same-tips, same-nodes, rerooted-length, new-parent, new-label}
 use Rattle.sums.specs.Swaps.{swapped}
 use Rattle.sums.specs.theorems.SwapLaws.{swapped-second, swapped-twice, swapped-other, swapped-lt}

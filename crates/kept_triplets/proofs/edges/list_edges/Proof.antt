@@ -1,11 +1,9 @@
 -- The invariant: of the first `i` nodes from node 2 on, those whose edges add anything are listed.
 -- Assumes nothing.
 use mathlib.Core.Path.{_≡_, sym, _∙_, ap, ap₂, subst}
-use mathlib.Core.Bool.{true, false}
 use mathlib.Core.Logic.{⊎-elim}
 use Prim.Native.Nat.{ℕ, _+_, _-_, _≤_, _<_}
 use native.Mathlib.Omega.{arith}
-use Rattle.tree_check.specs.Table.{word}
 use Rattle.kept_triplets.specs.lemmas.Edges.{spanOf, adds, addsAt, ListedTo, listed-none, listed-one, listed-other, TwoSums}
 use borrow.Author.Needs.{needs}
 use Rattle.kept_triplets.proofs.edges.list_edges.Statement.{statement}

@@ -1,13 +1,8 @@
 -- The invariant: `total` is the sum over the first `k` places, and the sums up to it are written.
 -- Assumes nothing.
-use mathlib.Core.Path.{_≡_, refl, sym, _∙_, ap, ap₂}
-use mathlib.Core.Bool.{Bool, true, false}
-use mathlib.Core.Logic.{⊎-elim}
-use mathlib.Core.List.{List}
-use Prim.Native.Nat.{ℕ, suc, _+_, _-_, _≤_, _<_}
+use mathlib.Core.Path.{_≡_, refl}
+use Prim.Native.Nat.{_-_, _≤_}
 use native.Mathlib.Omega.{arith}
-use lib.Dec.{ltb}
-use lib.ListN.{length, length-set}
 use Rattle.tree_check.specs.Table.{word}
 use Rattle.sums.specs.Bits.{bit}
 use Rattle.sums.specs.Sum.{sum}

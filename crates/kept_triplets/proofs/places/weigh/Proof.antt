@@ -1,7 +1,7 @@
 -- The invariant: `total` is what the first `k` places weigh, and the sums up to it are written.
 -- Assumes nothing.
-use mathlib.Core.Path.{_≡_, refl, _∙_, ap}
-use Prim.Native.Nat.{ℕ, _+_, _*_, _-_, _≤_, _<_}
+use mathlib.Core.Path.{_≡_, refl, ap}
+use Prim.Native.Nat.{_-_, _≤_, _<_}
 use native.Mathlib.Omega.{arith}
 use Rattle.tree_check.specs.Table.{word}
 use Rattle.sums.specs.Sum.{sum}

@@ -1,18 +1,10 @@
 -- Before, within, after.
 -- Assumes nothing.
-use mathlib.Core.Path.{_≡_, refl, sym, _∙_, ap, ap₂}
-use mathlib.Core.Bool.{Bool, true, false}
-use mathlib.Core.Logic.{⊎-elim}
-use mathlib.Core.List.{List}
-use Prim.Native.Nat.{ℕ, suc, _+_, _-_, _≤_, _<_}
+use mathlib.Core.Path.{sym}
+use Prim.Native.Nat.{_-_}
 use native.Mathlib.Omega.{arith}
-use lib.Dec.{ltb}
-use lib.ListN.{length, length-set}
-use Rattle.tree_check.specs.Table.{word}
-use Rattle.sums.specs.Bits.{bit}
 use Rattle.sums.specs.theorems.BitLaws.{bit-T, bit-no}
 use Rattle.walks.specs.theorems.SpanLaws.{inSpan, in-span-iff}
-use borrow.Author.Needs.{needs}
 use Rattle.kept_triplets.proofs.places.within.Statement.{statement}
 use Rattle.kept_triplets.proofs.places.within.Tie as tie
 

@@ -1,13 +1,12 @@
 -- The invariant: what the listed rows before `q` add.
 -- Assumes nothing.
 use mathlib.Core.Path.{_≡_, refl, _∙_}
-use Prim.Native.Nat.{ℕ, _+_, _-_, _≤_, _<_}
+use Prim.Native.Nat.{_+_, _-_, _≤_, _<_}
 use native.Mathlib.Omega.{arith}
 use Rattle.tree_check.specs.Table.{word}
 use Rattle.sums.specs.Sum.{sum}
 use Rattle.sums.specs.theorems.SumLaws.{sum-step}
 use Rattle.kept_triplets.specs.lemmas.AllRows.{alikeRow, apartRow, rows-are, rows-low}
-use borrow.Author.Needs.{needs}
 use Rattle.kept_triplets.proofs.rows.all_rows.Statement.{statement}
 use Rattle.kept_triplets.proofs.rows.all_rows.Tie as tie
 

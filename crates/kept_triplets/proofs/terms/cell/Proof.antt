@@ -1,16 +1,8 @@
 -- The two sums at the places.
 -- Assumes nothing.
-use mathlib.Core.Path.{_≡_, refl, sym, _∙_, ap, ap₂}
-use mathlib.Core.Bool.{Bool, true, false}
-use mathlib.Core.Logic.{⊎-elim}
-use mathlib.Core.List.{List}
-use Prim.Native.Nat.{ℕ, suc, _+_, _-_, _≤_, _<_}
-use native.Mathlib.Omega.{arith}
-use lib.Dec.{ltb}
-use lib.ListN.{length, length-set}
+use mathlib.Core.Path.{ap₂}
+use Prim.Native.Nat.{ℕ, _-_}
 use Rattle.tree_check.specs.Table.{word}
-use Rattle.sums.specs.Bits.{bit}
-use borrow.Author.Needs.{needs}
 use borrow.Author.Needs.{needs}
 use Rattle.kept_triplets.proofs.terms.cell.Statement.{statement}
 use Rattle.kept_triplets.proofs.terms.cell.Tie as tie

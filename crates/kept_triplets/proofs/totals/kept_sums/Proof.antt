@@ -1,6 +1,5 @@
 -- Spans, places, then the sums.
 -- Assumes nothing.
-use mathlib.Core.Path.{_≡_}
 use Prim.Native.Nat.{ℕ}
 use lib.ListN.{length-replicate}
 use Rattle.table_words.specs.Sizes.{tipsMost}

@@ -1,7 +1,6 @@
 -- A count above the whole, or a sum that does not wrap.
 -- Assumes nothing.
-use mathlib.Core.Path.{_≡_, refl, sym, _∙_, ap, subst}
-use Rattle.counting.specs.declared.Case.{Case}
+use mathlib.Core.Path.{refl}
 use Rattle.counting.specs.declared.Case.the-variants.{A, B, C, D, E}
 use Rattle.one_label.specs.Changes.{totalOf}
 use Rattle.one_label.specs.lemmas.Changed.{above}

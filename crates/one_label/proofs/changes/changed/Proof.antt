@@ -1,7 +1,5 @@
 -- Count by count.
 -- Assumes nothing.
-use mathlib.Core.Path.{_≡_, refl, sym, _∙_, ap, subst}
-use Rattle.counting.specs.declared.Case.{Case}
 use Rattle.counting.specs.declared.Case.the-variants.{A, B, C, D, E}
 use Rattle.one_label.specs.lemmas.Changed.{five-same}
 use Rattle.one_label.proofs.changes.changed.Statement.{statement}

@@ -1,7 +1,7 @@
 -- The sum or the difference.
 -- Assumes nothing.
-use mathlib.Core.Path.{_≡_, refl, sym, _∙_, ap, subst}
-use Prim.Native.Nat.{ℕ, _+_, _-_, _≤_, _<_}
+use mathlib.Core.Path.{refl}
+use Prim.Native.Nat.{_-_}
 use native.Mathlib.Omega.{arith}
 use Rattle.one_label.specs.Changes.{newCount}
 use Rattle.one_label.proofs.changes.new_count.Statement.{statement}

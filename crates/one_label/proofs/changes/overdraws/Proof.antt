@@ -1,10 +1,7 @@
 -- Case by case.
 -- Assumes nothing.
-use mathlib.Core.Path.{_≡_, refl, sym, _∙_, ap, subst}
-use Rattle.counting.specs.declared.Case.{Case}
-use Rattle.counting.specs.declared.Case.the-variants.{A, B, C, D, E}
+use Rattle.counting.specs.declared.Case.the-variants.{A, B, C, D}
 use Rattle.one_label.specs.lemmas.Changed.{draws-nothing, draws-at, draws-last}
-use borrow.Author.Needs.{needs}
 use Rattle.one_label.proofs.changes.overdraws.Statement.{statement}
 use Rattle.one_label.proofs.changes.overdraws.Tie as tie
 

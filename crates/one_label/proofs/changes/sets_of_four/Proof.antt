@@ -1,7 +1,7 @@
 -- No product wraps, and below four the formula is 0.
 -- Assumes nothing.
-use mathlib.Core.Path.{_≡_, refl, sym, _∙_, ap, subst}
-use Prim.Native.Nat.{ℕ, _+_, _-_, _≤_, _<_}
+use mathlib.Core.Path.{refl, sym}
+use Prim.Native.Nat.{_-_}
 use native.Mathlib.Omega.{arith}
 use Rattle.sums.specs.Fours.{fours}
 use Rattle.sums.specs.theorems.FoursLaws.{fours-none}

@@ -1,7 +1,7 @@
 -- The invariant: the marks before `y` are copied. Then the two are exchanged.
 -- Assumes nothing.
 use mathlib.Core.Path.{_≡_}
-use Prim.Native.Nat.{ℕ, _+_, _-_, _≤_, _<_}
+use Prim.Native.Nat.{_-_, _≤_}
 use native.Mathlib.Omega.{arith}
 use lib.ListN.{length}
 use Rattle.one_label.specs.lemmas.HeldCounts.{MarksCopied, copied-none, copied-next, marks-exchanged}

@@ -1,15 +1,13 @@
 -- The fronts of the two arrays are the re-rooted tables.
 -- Assumes nothing.
-use mathlib.Core.Path.{_≡_, refl, sym, _∙_, ap, ap₂, subst}
-use mathlib.Core.List.{List}
-use Prim.Native.Nat.{ℕ, _+_, _*_, _-_, _≤_, _<_}
+use mathlib.Core.Path.{sym, _∙_, ap₂, subst}
+use Prim.Native.Nat.{ℕ, _-_}
 use native.Mathlib.Omega.{arith}
-use lib.ListN.{length, take, replicate}
+use lib.ListN.{take, replicate}
 use lib.Seq.{length-take-le}
 use Rattle.tree_check.specs.Table.{Table}
 use Rattle.kept_triplets.specs.KeptAnswer.{keptAnswer}
 use Rattle.one_label.specs.lemmas.HeldCounts.{MarksExchanged, front-is, front-length, words-fit, held-are}
-use borrow.Author.Needs.{needs}
 use borrow.Author.Needs.{needs}
 use Rattle.one_label.proofs.held.held_counts.Statement.{statement}
 use Rattle.one_label.proofs.held.held_counts.Tie as tie

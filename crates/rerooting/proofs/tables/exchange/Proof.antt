@@ -1,10 +1,8 @@
 -- Each return is one of the three cases.
 -- Assumes nothing.
-use mathlib.Core.Path.{_≡_, sym, _∙_, ap}
-use native.Mathlib.Omega.{arith}
+use mathlib.Core.Path.{sym, _∙_, ap}
 use Rattle.sums.specs.Swaps.{swapped}
 use Rattle.sums.specs.theorems.SwapLaws.{swapped-first, swapped-second, swapped-other}
-use borrow.Author.Needs.{needs}
 use Rattle.rerooting.proofs.tables.exchange.Statement.{statement}
 use Rattle.rerooting.proofs.tables.exchange.Tie as tie
 

@@ -1,9 +1,8 @@
 -- Off the path, at its begin, and along it.
 -- Assumes nothing.
-use mathlib.Core.Path.{_≡_, sym, _∙_}
+use mathlib.Core.Path.{sym, _∙_}
 use native.Mathlib.Omega.{arith}
 use Rattle.rerooting.specs.lemmas.Writing.{on-the-path, off-the-path}
-use borrow.Author.Needs.{needs}
 use borrow.Author.Needs.{needs}
 use Rattle.rerooting.proofs.tables.parent_for.Statement.{statement}
 use Rattle.rerooting.proofs.tables.parent_for.Tie as tie

@@ -1,12 +1,12 @@
 -- The invariant: the words of the nodes before `v` are written.
 -- Assumes nothing.
-use mathlib.Core.Path.{_≡_, refl, sym, _∙_, ap, subst}
+use mathlib.Core.Path.{_≡_, refl, _∙_, ap, subst}
 use Prim.Native.Nat.{ℕ, _+_, _-_, _≤_, _<_}
 use native.Mathlib.Omega.{arith}
 use native.Mathlib.Nat.{mod-eq-of-lt}
 use lib.ListN.{length, length-set}
 use Rattle.tree_check.specs.Table.{word}
-use Rattle.rerooting.specs.lemmas.Writing.{NodesWritten, Places, parentFor, none-written, places, few-nodes, node-written}
+use Rattle.rerooting.specs.lemmas.Writing.{NodesWritten, Places, none-written, places, few-nodes, node-written}
 use borrow.Author.Needs.{needs}
 use Rattle.rerooting.proofs.tables.write_nodes.Statement.{statement}
 use Rattle.rerooting.proofs.tables.write_nodes.Tie as tie

@@ -1,12 +1,10 @@
 -- The table made of its parts: the first two words, then the words of the nodes.
 -- Assumes nothing.
-use mathlib.Core.Path.{_≡_, refl, sym, _∙_, ap}
-use Prim.Native.Nat.{ℕ, _+_, _-_, _≤_, _<_}
+use Prim.Native.Nat.{_-_}
 use native.Mathlib.Omega.{arith}
-use lib.ListN.{length, set, length-set}
+use lib.ListN.{length-set}
 use Rattle.tree_check.specs.Table.{word}
 use Rattle.rerooting.specs.lemmas.Writing.{Numbered, lent-rerootable, lent-numbered, two-set, table-written}
-use borrow.Author.Needs.{needs}
 use borrow.Author.Needs.{needs}
 use Rattle.rerooting.proofs.tables.write_table.Statement.{statement}
 use Rattle.rerooting.proofs.tables.write_table.Tie as tie
