@@ -1,4 +1,4 @@
-// The place of each kept label in one tree's walk, in the order of the other's; and how many of them lie in a span.
+// The place of each kept label in one tree's walk, in the order of the other's; how many lie in a span, and what they weigh.
 use marks::is_kept;
 use table_words::Cell;
 use table_words::NODES;

@@ -1,4 +1,4 @@
-// What pairs of edges add, row by row: the sums of an edge and of its parent's are enough for a row.
+// What pairs of edges add, row by row: the totals of an edge of the first tree are enough for its row.
 use super::places::fill_span;
 use super::places::weigh;
 use super::terms::alike_term;

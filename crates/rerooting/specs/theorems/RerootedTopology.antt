@@ -2,7 +2,7 @@
 -- Assumes nothing.
 use mathlib.Core.Path.{_≡_, refl, sym, _∙_, ap, ap₂}
 use mathlib.Core.Logic.{_⊎_, inl, inr}
-use Prim.Native.Nat.{ℕ, suc, _-_, _≤_, _<_}
+use Prim.Native.Nat.{ℕ, _+_, suc, _-_, _≤_, _<_}
 use native.Mathlib.Omega.{arith}
 use Rattle.sums.specs.Bits.{bit}
 use Rattle.sums.specs.theorems.BitLaws.{bit-cases}
@@ -94,6 +94,15 @@ module _ (t : Table) (g : IsTree t) (x : ℕ) (lx : x < tips t) where
       ap (λ (v : ℕ). bit (anc (parent t') j v)) (rerooted-node t g x lx y l)
       ∙ same-anc j (ν (nodeOf t y)) (number-lt t g x lx _ (node-at t g y l .0))
 
+  -- .. which is that of edge i, or the other
+  same : (i j : ℕ) → ((w : ℕ) → w < m → bit (anc tu j (ν w)) ≡ bit (anc up i w)) → (y : ℕ) → y < tips t
+      → bit (anc (parent t') j (nodeOf t' (swapped 0 x y))) ≡ bit (anc up i (nodeOf t y))
+  same i j h y l = side j y l ∙ h (nodeOf t y) (node-at t g y l .0)
+
+  other : (i j : ℕ) → ((w : ℕ) → w < m → bit (anc tu j (ν w)) + bit (anc up i w) ≡ 1) → (y : ℕ) → y < tips t
+      → bit (anc (parent t') j (nodeOf t' (swapped 0 x y))) + bit (anc up i (nodeOf t y)) ≡ 1
+  other i j h y l = ap (λ (k : ℕ). k + bit (anc up i (nodeOf t y))) (side j y l) ∙ h (nodeOf t y) (node-at t g y l .0)
+
   module _ (a b c d : ℕ) (la : a < tips t) (lb : b < tips t) (lc : c < tips t) (ld : d < tips t) where
     abbrev σ : ℕ → ℕ
     σ = swapped 0 x
@@ -104,53 +113,14 @@ module _ (t : Table) (g : IsTree t) (x : ℕ) (lx : x < tips t) where
     abbrev new : ℕ → Type 0
     new j = Apart (parent t') j (nodeOf t' (σ a)) (nodeOf t' (σ b)) (nodeOf t' (σ c)) (nodeOf t' (σ d))
 
+    -- the four tips keep their sides of an edge, or all of them change
     there : (i j : ℕ) → SameEdge up m z (rooted t g) lz i j → old i → new j
-    there i j (kept h) p = omega (
-      arith,
-      side j a la,
-      side j b lb,
-      side j c lc,
-      side j d ld,
-      h (nodeOf t a) (node-at t g a la .0),
-      h (nodeOf t b) (node-at t g b lb .0),
-      h (nodeOf t c) (node-at t g c lc .0),
-      h (nodeOf t d) (node-at t g d ld .0),
-    )
-    there i j (reversed h) p = omega (
-      arith,
-      side j a la,
-      side j b lb,
-      side j c lc,
-      side j d ld,
-      h (nodeOf t a) (node-at t g a la .0),
-      h (nodeOf t b) (node-at t g b lb .0),
-      h (nodeOf t c) (node-at t g c lc .0),
-      h (nodeOf t d) (node-at t g d ld .0),
-    )
+    there i j (kept h) p = omega (arith, same i j h a la, same i j h b lb, same i j h c lc, same i j h d ld)
+    there i j (reversed h) p = omega (arith, other i j h a la, other i j h b lb, other i j h c lc, other i j h d ld)
 
     back : (i j : ℕ) → SameEdge up m z (rooted t g) lz i j → new j → old i
-    back i j (kept h) p = omega (
-      arith,
-      side j a la,
-      side j b lb,
-      side j c lc,
-      side j d ld,
-      h (nodeOf t a) (node-at t g a la .0),
-      h (nodeOf t b) (node-at t g b lb .0),
-      h (nodeOf t c) (node-at t g c lc .0),
-      h (nodeOf t d) (node-at t g d ld .0),
-    )
-    back i j (reversed h) p = omega (
-      arith,
-      side j a la,
-      side j b lb,
-      side j c lc,
-      side j d ld,
-      h (nodeOf t a) (node-at t g a la .0),
-      h (nodeOf t b) (node-at t g b lb .0),
-      h (nodeOf t c) (node-at t g c lc .0),
-      h (nodeOf t d) (node-at t g d ld .0),
-    )
+    back i j (kept h) p = omega (arith, same i j h a la, same i j h b lb, same i j h c lc, same i j h d ld)
+    back i j (reversed h) p = omega (arith, other i j h a la, other i j h b lb, other i j h c lc, other i j h d ld)
 
     -- some edge has a, b on one side and c, d on the other in t exactly if one has the exchanged labels so in the
     -- re-rooted table
