@@ -20,6 +20,7 @@ pub mod RobinsonFoulds
 pub mod SameFours
 pub mod SameSplits
 pub mod Shape
+pub mod Siblings
 pub mod SplitLaws
 pub mod SplitsExt
 pub mod Topologies

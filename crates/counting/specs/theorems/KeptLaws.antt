@@ -70,6 +70,25 @@ module _ (q : ℕ → Bool) where
   ]
 
   -- a sum over ranks is one over the kept labels
+  -- one label has a rank
+  pub ranked-one : (n i x y : ℕ) → Ranked n i x → Ranked n i y → x ≡ y
+  ranked-one n i x y a b = elim (decLt x y) [
+    | yes l ↦ absurd (omega (arith, a .rank, b .rank, a .is-kept, one-more x, grows y (suc x) l))
+    | no f ↦ elim (decLt y x) [
+      | yes l ↦ absurd (omega (arith, a .rank, b .rank, b .is-kept, one-more y, grows x (suc y) l))
+      | no d ↦ omega arith
+    ]
+  ]
+
+  -- the rank of a kept label, and the label of that rank
+  pub rank-of : (n x : ℕ) → x < n → bit (q x) ≡ 1 → (count x q < count n q) × (keptAt q n (count x q) ≡ x)
+  rank-of n x l k =
+      let less : count x q < count n q = omega (arith, one-more x, k, grows n (suc x) l) in (
+        less,
+        ranked-one n (count x q) (keptAt q n (count x q)) x (ranked n (count x q) less)
+            (record { label = l; is-kept = k; rank = refl }),
+      )
+
   pub sum-kept : (n : ℕ) (f : ℕ → ℕ) → sum (count n q) (λ i. f (keptAt q n i)) ≡ sum n (λ x. bit (q x) * f x)
   sum-kept zero f = unfold sum in refl
   sum-kept (suc n) f = elim (known (q n)) [

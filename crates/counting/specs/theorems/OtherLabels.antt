@@ -4,22 +4,22 @@ use mathlib.Core.Path.{_≡_, refl, sym, _∙_, ap}
 use mathlib.Core.Bool.{Bool, true, false, not, _&&_}
 use mathlib.Core.Logic.{inl, inr, _≢_}
 use mathlib.Core.List.{List}
-use Prim.Native.Nat.{ℕ, zero, suc, _+_, _*_, _≤_, _<_}
+use Prim.Native.Nat.{ℕ, zero, suc, _+_, _*_, _-_, _≤_, _<_}
 use native.Mathlib.Decide.{decLt, ℕ-discrete}
 use native.Mathlib.Omega.{arith}
 use borrow.Author.Tests.{eq-eqb, ne-eqb}
 use lib.Dec.{eqb}
 use Rattle.sums.specs.Sum.{sum}
-use Rattle.sums.specs.theorems.SumLaws.{sum-ext, sum-mul-left, sum-part}
+use Rattle.sums.specs.theorems.SumLaws.{sum-add, sum-ext, sum-mul-left, sum-part}
 use Rattle.sums.specs.Bits.{bit, is}
-use Rattle.sums.specs.theorems.BitLaws.{is-self, is-other, alike, bit-le, bit-not}
+use Rattle.sums.specs.theorems.BitLaws.{is-self, is-other, alike, bit-le, bit-not, sum-is}
 use Rattle.sums.specs.Counts.{count}
 use Rattle.sums.specs.SetsOfFour.{sets2, sets3}
-use Rattle.marks.specs.Marks.{isKept}
+use Rattle.marks.specs.Marks.{isKept, keptOf}
 use Rattle.counting.specs.Labels.{Labels}
 use Rattle.counting.specs.theorems.LabelLaws.{Rising}
-use Rattle.counting.specs.Kept.{keptAt}
-use Rattle.counting.specs.theorems.KeptLaws.{Ranked, ranked, sum-kept, sum-before}
+use Rattle.counting.specs.Kept.{keptAt, kept}
+use Rattle.counting.specs.theorems.KeptLaws.{Ranked, ranked, ranked-one, kept-rising, sum-kept, sum-before}
 use Rattle.counting.specs.Kept.{isOther, others}
 
 -- a sum over sets of three ranks is one over sets of three labels that pass
@@ -54,6 +54,47 @@ other-bit marks x y = elim (alike x y) [
 
 pub not-itself : (marks : List ℕ) (x : ℕ) → bit (isOther marks x x) ≡ 0
 not-itself marks x = omega (arith, other-bit marks x x, ap (λ (z : ℕ). bit (isKept marks x) * z) (is-self x))
+
+-- ---- by rank, after the first kept label
+
+-- some labels without the first of them
+abbrev pub afterFirst : Labels → Labels
+afterFirst l = record { number = l .number - 1; at = λ i. l .at (suc i) }
+
+module _ (marks : List ℕ) (n : ℕ) (some : 1 ≤ keptOf marks n) where
+  abbrev x₀ : ℕ
+  x₀ = keptAt (isKept marks) n 0
+
+  first : Ranked (isKept marks) n 0 x₀
+  first = ranked (isKept marks) n 0 some
+
+  -- how many kept labels but the first are below y, if it is
+  counted : (y : ℕ) → x₀ < y → suc (count y (isOther marks x₀)) ≡ count y (isKept marks)
+  counted y l = omega (
+    arith,
+    sum-add y (λ z. bit (isOther marks x₀ z)) (λ z. is x₀ z * bit (isKept marks z)),
+    sum-ext y (λ z. bit (isOther marks x₀ z) + is x₀ z * bit (isKept marks z)) (λ z. bit (isKept marks z))
+        (λ z m. omega (arith, other-bit marks x₀ z)),
+    sum-is y x₀ (λ z. bit (isKept marks z)) l,
+    first .is-kept,
+  )
+
+  -- the kept labels but the first are those after it
+  pub others-number : others marks (kept marks n .at 0) n .number ≡ afterFirst (kept marks n) .number
+  others-number = omega (arith, counted n (first .label))
+
+  pub others-at : (i : ℕ) → i < others marks (kept marks n .at 0) n .number
+      → others marks (kept marks n .at 0) n .at i ≡ afterFirst (kept marks n) .at i
+  others-at i l =
+      let more : suc i < count n (isKept marks) = omega (arith, l, counted n (first .label)) in
+      let b = ranked (isKept marks) n (suc i) more in
+      let y = keptAt (isKept marks) n (suc i) in
+      let after : x₀ < y = kept-rising marks n .rises 0 (suc i) (omega arith) more in
+      ranked-one (isOther marks x₀) n i (keptAt (isOther marks x₀) n i) y (ranked (isOther marks x₀) n i l) (record {
+        label = b .label;
+        is-kept = omega (arith, other-bit marks x₀ y, b .is-kept, ap (λ (z : ℕ). bit (isKept marks y) * z) (is-other x₀ y (omega arith)));
+        rank = omega (arith, counted y after, b .rank);
+      })
 
 -- ---- by rank, after tip 0
 

@@ -1,23 +1,22 @@
 -- The number of marks, as code finds it.
 -- Assumes nothing.
 use mathlib.Core.Path.{_≡_, refl, sym, _∙_, ap}
-use mathlib.Core.Bool.{Bool, not}
+use mathlib.Core.Bool.{not}
 use mathlib.Core.Logic.{_≢_}
-use mathlib.Core.List.{List, []}
+use mathlib.Core.List.{List}
 use Prim.Native.Nat.{ℕ, _≤_, _<_}
 use native.Mathlib.Omega.{arith}
 use borrow.Author.Tests.{eq-eqb, ne-eqb}
-use lib.Dec.{eqb, ltb}
+use lib.Dec.{ltb}
 use lib.ListN.{length}
 use Rattle.sums.specs.Counts.{count}
-use Rattle.sums.specs.Tests.{some}
 use Rattle.sums.specs.theorems.CountLaws.{count-none}
 use Rattle.sums.specs.theorems.CountSteps.{count-found}
 use Rattle.sums.specs.theorems.TestLaws.{lt-iff}
 use Rattle.tree_check.specs.Table.{word}
 use Rattle.tree_check.specs.Refusals.{refusal}
 use Rattle.tree_check.specs.theorems.RefusalLaws.{refusal-here, refusal-next, if-accepted, if-refused}
-use Rattle.marks.specs.Marks.{isKept, keptOf, marksOrder, AreMarks, checkedMarks}
+use Rattle.marks.specs.Marks.{keptOf, marksOrder, AreMarks, checkedMarks}
 use Rattle.marks.specs.declared.marked.CheckedMarks.{CheckedMarks}
 use Rattle.marks.specs.theorems.MarksCheck.{marks-check}
 
@@ -49,3 +48,17 @@ module _ (marks : List ℕ) (n : ℕ) where
     where
       low : (x : ℕ) → (1 < word marks x → ⊥) → word marks x ≤ 1
       low x f = elim (native.Mathlib.Decide.decLe (word marks x) 1) [ yes l ↦ l | no d ↦ absurd (f (omega (arith, d))) ]
+
+-- what the check of the marks says
+pub marks-say : (marks : List ℕ) (n x : ℕ) → x ≡ n → (r : CheckedMarks) → r ≡ checkedMarks marks x
+    → (r .refusal ≡ refusal (marksOrder marks n)) × (r .refusal ≡ 0 → AreMarks marks n × (r .kept ≡ keptOf marks n))
+unfolding checkedMarks
+marks-say marks n x e r q =
+    let d : r ≡ checkedMarks marks n = rw e at q in
+    let a : r .refusal ≡ refusal (marksOrder marks n) = ap (λ (m : CheckedMarks). m .refusal) d in (
+      a,
+      λ z. (
+        marks-check marks n .0 (sym a ∙ z),
+        ap (λ (m : CheckedMarks). m .kept) d ∙ if-accepted (refusal (marksOrder marks n)) (keptOf marks n) 0 (sym a ∙ z),
+      ),
+    )

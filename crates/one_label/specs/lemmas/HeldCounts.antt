@@ -2,33 +2,32 @@
 -- Assumes nothing.
 use mathlib.Core.Path.{_≡_, sym, _∙_, ap}
 use mathlib.Core.List.{List}
-use Prim.Native.Nat.{ℕ, _+_, _*_, _-_, _≤_, _<_}
+use Prim.Native.Nat.{ℕ, _+_, _-_, _≤_, _<_}
 use native.Mathlib.Decide.{ℕ-discrete}
 use native.Mathlib.Omega.{arith}
-use lib.ListN.{length, set, take, drop, replicate, length-set, length-replicate}
-use lib.Seq.{getD-set-same, getD-set-other, getD-take, take-at, length-take-le}
+use lib.ListN.{length, set, take, replicate, length-set, length-replicate}
+use lib.Seq.{getD-set-same, getD-set-other, getD-take, length-take-le}
 use Rattle.sums.specs.Counts.{count}
 use Rattle.sums.specs.Swaps.{swapped}
 use Rattle.sums.specs.theorems.SwapLaws.{swapped-first, swapped-second, swapped-other, swapped-lt}
 use Rattle.sums.specs.theorems.ThreesLaws.{threes-mono, threes-of-255}
 use Rattle.table_words.specs.Sizes.{tipsMost}
-use Rattle.tree_check.specs.Table.{Table, word, tips, nodes}
+use Rattle.tree_check.specs.Table.{Table, word, tips}
 use Rattle.marks.specs.Marks.{AreMarks}
 use Rattle.marks.specs.theorems.MarksCheck.{marks-check}
 use Rattle.pair_check.specs.PairOrder.{IsPair}
 use Rattle.counting.specs.declared.Case.{Case}
 use Rattle.counting.specs.declared.Case.the-variants.{A, B, C, D, E}
-use Rattle.rerooting.specs.Rerooted.{rerooted, written, afterReroot}
-use Rattle.rerooting.specs.theorems.RerootedParts.{same-tips, rerooted-length}
+use Rattle.rerooting.specs.Rerooted.{rerooted}
+use Rattle.rerooting.specs.theorems.RerootedParts.{same-tips}
 use Rattle.rerooting.specs.theorems.RerootedTree.{rerooted-tree}
-use Rattle.rerooting.specs.lemmas.Writing.{reroot-accepted}
 use Rattle.triplets.specs.declared.tables.TripletTable.{TripletTable}
 use Rattle.counting.specs.Kept.{isOther, others}
 use Rattle.counting.specs.Triplets.{tripletsOver}
 use Rattle.counting.specs.theorems.KeptTripletSums.{total}
 use Rattle.kept_triplets.specs.lemmas.AllRows.{others-few}
 use Rattle.kept_triplets.specs.KeptAnswer.{keptCounts, keptAnswer}
-use Rattle.tree_check.specs.lemmas.Sized.{Sized, sized-fit}
+use Rattle.tree_check.specs.lemmas.Sized.{Sized}
 use Rattle.kept_triplets.specs.lemmas.Formed.{counted}
 use Rattle.one_label.specs.declared.answers.FiveCounts.{FiveCounts}
 use Rattle.counting.specs.Holding.{holdingKept}
@@ -81,15 +80,6 @@ pub record HeldAre (t u : Table) (marks : List ℕ) (x : ℕ) (r : FiveCounts) :
 -- the five counts of a table
 abbrev pub fiveCounts : TripletTable → FiveCounts
 fiveCounts r = record { a = r .a; b = r .b; c = r .c; d = r .d; e = r .e }
-
--- the front of the lent words is the re-rooted table
-pub front-is : (t : Table) (n m x : ℕ) (cells out : List ℕ) → Sized t n m → x < n → 2 + 2 * m ≤ length cells → out ≡ afterReroot t x cells
-    → take (2 + 2 * m) out ≡ rerooted t x
-unfolding written
-front-is t n m x cells out h lx room e =
-    let a = reroot-accepted t x cells (h .tree) (omega (arith, h .tips-are)) (omega (arith, h .nodes-are)) in
-    ap (take (2 + 2 * m)) (e ∙ sym (a .1))
-    ∙ take-at (rerooted t x) (drop (2 + 2 * nodes t) cells) (2 + 2 * m) (rerooted-length t x ∙ ap (λ (k : ℕ). 2 + 2 * k) (sym (h .nodes-are)))
 
 module _ (t u : Table) (n m k x : ℕ) (marks out : List ℕ) (h : Sized t n m) (h' : Sized u n k) (am : AreMarks marks n) (lx : x < n)
     (ex : MarksExchanged marks x out) where
@@ -147,13 +137,3 @@ module _ (t u : Table) (n m k x : ℕ) (marks out : List ℕ) (h : Sized t n m) 
       by-case q C = ap (λ (z : TripletTable). z .c) q ∙ held C
       by-case q D = ap (λ (z : TripletTable). z .d) q ∙ held D
       by-case q E = ap (λ (z : TripletTable). z .e) q ∙ held E
-
-pub front-length : (t : Table) (n m x : ℕ) (cells out : List ℕ) → Sized t n m → x < n → 2 + 2 * m ≤ length cells → out ≡ afterReroot t x cells
-    → 2 + 2 * m ≡ length (take (2 + 2 * m) out)
-front-length t n m x cells out h lx room e =
-    sym (ap length (front-is t n m x cells out h lx room e) ∙ rerooted-length t x ∙ ap (λ (k : ℕ). 2 + 2 * k) (sym (h .nodes-are)))
-
-pub words-fit : (t : Table) (n m : ℕ) → Sized t n m → (2 + 2 * m ≤ length (replicate {A = ℕ} 2050 0)) × (n ≤ 256)
-words-fit t n m h =
-    let f = sized-fit t n m h in
-    (omega (arith, length-replicate {A = ℕ} 2050 0, f .3), f .1)

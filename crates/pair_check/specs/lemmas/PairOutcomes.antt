@@ -13,13 +13,11 @@ use borrow.Author.Tests.{lt-ltb, le-ltb, ne-eqb}
 use Rattle.table_words.specs.Sizes.{nodesMost}
 use Rattle.tree_check.specs.Table.{Table, tips, nodes}
 use Rattle.tree_check.specs.Refusals.{refusal, ifAccepted}
-use Rattle.tree_check.specs.theorems.RefusalLaws.{refusal-here, refusal-first, refusal-kept, if-accepted}
+use Rattle.tree_check.specs.theorems.RefusalLaws.{refusal-here, refusal-first, refusal-kept}
 use Rattle.tree_check.specs.IsTree.{IsTree}
 use Rattle.tree_check.specs.TreeOrder.{treeOrder}
 use Rattle.tree_check.specs.theorems.TreeCheck.{tree-kept}
-use Rattle.marks.specs.declared.marked.CheckedMarks.{CheckedMarks}
-use Rattle.marks.specs.Marks.{keptOf, marksOrder, AreMarks, checkedMarks}
-use Rattle.marks.specs.theorems.MarksCheck.{marks-check}
+use Rattle.marks.specs.Marks.{keptOf, marksOrder, AreMarks}
 use Rattle.pair_check.specs.declared.pairs.CheckedPair.{CheckedPair}
 use Rattle.pair_check.specs.declared.pairs.CheckedPair.the-variants.{Pair, Refused}
 use Rattle.pair_check.specs.PairOrder.{plus, tipsOrder, tablesOrder, cellsNeeded, workOrder, cellsOrder, pairOrder}
@@ -263,17 +261,3 @@ unfolding checkedWork
 work-says t u marks cells n c rows columns e =
     let s = pair-says t u (keptOf marks (tips t)) _ n c rows columns e in
     (pair-check t u marks cells .0 (s .0), s .1, s .2, s .3, s .4)
-
--- what the check of the marks says of a pair's marks
-pub marks-say : (marks : List ℕ) (n x : ℕ) → x ≡ n → (r : CheckedMarks) → r ≡ checkedMarks marks x
-    → (r .refusal ≡ refusal (marksOrder marks n)) × (r .refusal ≡ 0 → AreMarks marks n × (r .kept ≡ keptOf marks n))
-unfolding checkedMarks
-marks-say marks n x e r q =
-    let d : r ≡ checkedMarks marks n = rw e at q in
-    let a : r .refusal ≡ refusal (marksOrder marks n) = ap (λ (m : CheckedMarks). m .refusal) d in (
-      a,
-      λ z. (
-        marks-check marks n .0 (sym a ∙ z),
-        ap (λ (m : CheckedMarks). m .kept) d ∙ if-accepted (refusal (marksOrder marks n)) (keptOf marks n) 0 (sym a ∙ z),
-      ),
-    )

@@ -95,13 +95,13 @@ module _ (t : Table) (g : IsTree t) (x : ℕ) (lx : x < tips t) where
       ∙ same-anc j (ν (nodeOf t y)) (number-lt t g x lx _ (node-at t g y l .0))
 
   -- .. which is that of edge i, or the other
-  same : (i j : ℕ) → ((w : ℕ) → w < m → bit (anc tu j (ν w)) ≡ bit (anc up i w)) → (y : ℕ) → y < tips t
+  pub side-kept : (i j : ℕ) → ((w : ℕ) → w < m → bit (anc tu j (ν w)) ≡ bit (anc up i w)) → (y : ℕ) → y < tips t
       → bit (anc (parent t') j (nodeOf t' (swapped 0 x y))) ≡ bit (anc up i (nodeOf t y))
-  same i j h y l = side j y l ∙ h (nodeOf t y) (node-at t g y l .0)
+  side-kept i j h y l = side j y l ∙ h (nodeOf t y) (node-at t g y l .0)
 
-  other : (i j : ℕ) → ((w : ℕ) → w < m → bit (anc tu j (ν w)) + bit (anc up i w) ≡ 1) → (y : ℕ) → y < tips t
+  pub side-reversed : (i j : ℕ) → ((w : ℕ) → w < m → bit (anc tu j (ν w)) + bit (anc up i w) ≡ 1) → (y : ℕ) → y < tips t
       → bit (anc (parent t') j (nodeOf t' (swapped 0 x y))) + bit (anc up i (nodeOf t y)) ≡ 1
-  other i j h y l = ap (λ (k : ℕ). k + bit (anc up i (nodeOf t y))) (side j y l) ∙ h (nodeOf t y) (node-at t g y l .0)
+  side-reversed i j h y l = ap (λ (k : ℕ). k + bit (anc up i (nodeOf t y))) (side j y l) ∙ h (nodeOf t y) (node-at t g y l .0)
 
   module _ (a b c d : ℕ) (la : a < tips t) (lb : b < tips t) (lc : c < tips t) (ld : d < tips t) where
     abbrev σ : ℕ → ℕ
@@ -115,12 +115,12 @@ module _ (t : Table) (g : IsTree t) (x : ℕ) (lx : x < tips t) where
 
     -- the four tips keep their sides of an edge, or all of them change
     there : (i j : ℕ) → SameEdge up m z (rooted t g) lz i j → old i → new j
-    there i j (kept h) p = omega (arith, same i j h a la, same i j h b lb, same i j h c lc, same i j h d ld)
-    there i j (reversed h) p = omega (arith, other i j h a la, other i j h b lb, other i j h c lc, other i j h d ld)
+    there i j (kept h) p = omega (arith, side-kept i j h a la, side-kept i j h b lb, side-kept i j h c lc, side-kept i j h d ld)
+    there i j (reversed h) p = omega (arith, side-reversed i j h a la, side-reversed i j h b lb, side-reversed i j h c lc, side-reversed i j h d ld)
 
     back : (i j : ℕ) → SameEdge up m z (rooted t g) lz i j → new j → old i
-    back i j (kept h) p = omega (arith, same i j h a la, same i j h b lb, same i j h c lc, same i j h d ld)
-    back i j (reversed h) p = omega (arith, other i j h a la, other i j h b lb, other i j h c lc, other i j h d ld)
+    back i j (kept h) p = omega (arith, side-kept i j h a la, side-kept i j h b lb, side-kept i j h c lc, side-kept i j h d ld)
+    back i j (reversed h) p = omega (arith, side-reversed i j h a la, side-reversed i j h b lb, side-reversed i j h c lc, side-reversed i j h d ld)
 
     -- some edge has a, b on one side and c, d on the other in t exactly if one has the exchanged labels so in the
     -- re-rooted table

@@ -114,6 +114,11 @@ module _ (up : ℕ → ℕ) (r : Rooted up) where
     | inr d ↦ omega (arith, anc-or i w, ap (λ (x : ℕ). x * bit (anc up i (up (suc w)))) (d .1))
   ]
 
+  -- one step up
+  pub anc-step : (i v : ℕ) → 1 ≤ v → bit (anc up i v) ≡ is i v + bit (anc up i (up v))
+  anc-step i zero l = absurd (omega arith)
+  anc-step i (suc w) l = anc-up i w
+
   pub anc-self : (v : ℕ) → bit (anc up v v) ≡ 1
   anc-self zero = anc-at-zero 0 ∙ is-self 0
   anc-self (suc w) = omega (

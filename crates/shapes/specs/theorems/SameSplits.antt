@@ -20,6 +20,12 @@ same-splits-refl n k b = record { there = here; back = here }
 pub same-splits-sym : {n k l : ℕ} {b c : Sides} → SameSplits n k b l c → SameSplits n l c k b
 same-splits-sym h = record { there = h .back; back = h .there }
 
+pub same-splits-trans : {n k l m : ℕ} {b c d : Sides} → SameSplits n k b l c → SameSplits n l c m d → SameSplits n k b m d
+same-splits-trans {n} {k} {l} {m} {b} {c} {d} s t = record {
+  there = λ i q. let x = s .there i q in let y = t .there (x .0) (x .1) in (y .0, y .1, sides-trans (x .2) (y .2));
+  back = λ i q. let x = t .back i q in let y = s .back (x .0) (x .1) in (y .0, y .1, sides-trans (x .2) (y .2));
+}
+
 -- two tip sets that occur in a tree occur in every tree that has all its splits
 occurs-trans : {n l m i : ℕ} {b c d : Sides} → Occurs n b l c i → AllOccur n l c m d → Occurs n b m d i
 occurs-trans o h = let r = h (o .0) (o .1) in (r .0, r .1, sides-trans (o .2) (r .2))

@@ -128,6 +128,36 @@ sum-pos (suc n) f h = elim (eq-zero-or-pos (f n)) [
   | inr l ↦ (n, omega arith, l)
 ]
 
+-- terms of which at most one is not 0, and that one is 1
+pub sum-at-most-one : (n : ℕ) (f : ℕ → ℕ) → ((i : ℕ) → i < n → f i ≤ 1)
+    → ((i j : ℕ) → i < n → j < n → 1 ≤ f i → 1 ≤ f j → i ≡ j) → sum n f ≤ 1
+unfolding sum
+sum-at-most-one zero f a b = omega arith
+sum-at-most-one (suc n) f a b = elim (eq-zero-or-pos (f n)) [
+  | inl z ↦ omega (arith, sum-at-most-one n f (λ i l. a i (omega arith)) (λ i j li lj. b i j (omega arith) (omega arith)))
+  | inr p ↦ omega (
+    arith,
+    a n (omega arith),
+    sum-none n f (λ i l. elim (eq-zero-or-pos (f i)) [
+      | inl z ↦ z
+      | inr q ↦ absurd (omega (arith, b i n (omega arith) (omega arith) q p))
+    ]),
+  )
+]
+
+-- n terms of at most 1 that come to n or more are each 1
+pub sum-all-ones : (n : ℕ) (f : ℕ → ℕ) → ((i : ℕ) → i < n → f i ≤ 1) → n ≤ sum n f → (i : ℕ) → i < n → 1 ≤ f i
+unfolding sum
+sum-all-ones zero f a b i l = absurd (omega arith)
+sum-all-ones (suc n) f a b i l =
+    let t = sum-mono n f (λ j. 1) (λ j q. a j (omega arith)) in
+    let c = sum-const n 1 in
+    let fn = a n (omega arith) in
+    elim (eq-or-lt-of-le (le-of-suc-le-suc l)) [
+      | inl e ↦ rw e (omega arith)
+      | inr q ↦ sum-all-ones n f (λ j m. a j (omega arith)) (omega arith) i q
+    ]
+
 -- ---- partial sums
 
 pub sum-part : (j n : ℕ) (f : ℕ → ℕ) → j ≤ n → sum j f ≤ sum n f

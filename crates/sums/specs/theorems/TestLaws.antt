@@ -4,6 +4,7 @@ use mathlib.Core.Path.{_≡_, refl, sym, ap, subst}
 use mathlib.Core.Bool.{Bool, true, false, not, _&&_, _||_, Bool·beq}
 use mathlib.Core.Logic.{_⊎_, inl, inr, _≢_, _↔_}
 use Prim.Native.Nat.{ℕ, zero, suc, _≤_, _<_}
+use native.Mathlib.Decide.{decLe}
 use native.Mathlib.Nat.{eq-or-lt-of-le, le-of-suc-le-suc}
 use native.Mathlib.Omega.{arith}
 use lib.Dec.{T, eqb, ltb, leb, eqb→eq, eqb-refl, leb→le, le→leb, nleb→lt, not-T, T-not}
@@ -169,6 +170,17 @@ first-hit (suc n) q l = go (q 0) refl (λ m. first-hit n (λ i. q (suc i)) m) l
         → T (q (elim b as (λ z. ℕ) [ true ↦ 0 | false ↦ suc (first n (λ i. q (suc i))) ]))
     go true e r m = rw e tt
     go false e r m = r (omega arith)
+
+-- no index that passes is before the first
+pub first-least : (n : ℕ) (q : ℕ → Bool) (i : ℕ) → i < n → T (q i) → first n q ≤ i
+first-least n q i l t = elim (decLe (first n q) i) [
+  | yes m ↦ m
+  | no f ↦ absurd (first-passes n q (some-iff n q .1 (i, l, t)) .2 i (omega arith) t)
+]
+
+-- the one index that passes
+pub first-only : (n : ℕ) (q : ℕ → Bool) (i : ℕ) → i < n → T (q i) → ((j : ℕ) → j < n → T (q j) → j ≡ i) → first n q ≡ i
+first-only n q i l t h = let r = first-passes n q (some-iff n q .1 (i, l, t)) in h (first n q) (r .0) (r .1)
 
 -- ---- as a loop finds them
 

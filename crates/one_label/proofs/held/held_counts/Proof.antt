@@ -7,7 +7,8 @@ use lib.ListN.{take, replicate}
 use lib.Seq.{length-take-le}
 use Rattle.tree_check.specs.Table.{Table}
 use Rattle.kept_triplets.specs.KeptAnswer.{keptAnswer}
-use Rattle.one_label.specs.lemmas.HeldCounts.{MarksExchanged, front-is, front-length, words-fit, held-are}
+use Rattle.rerooting.specs.lemmas.Front.{front-is, front-length, words-fit}
+use Rattle.one_label.specs.lemmas.HeldCounts.{MarksExchanged, held-are}
 use borrow.Author.Needs.{needs}
 use Rattle.one_label.proofs.held.held_counts.Statement.{statement}
 use Rattle.one_label.proofs.held.held_counts.Tie as tie

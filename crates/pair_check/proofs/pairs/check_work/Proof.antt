@@ -7,7 +7,8 @@ use Rattle.tree_check.specs.Table.{tips, nodes}
 use Rattle.tree_check.specs.Refusals.{refusal}
 use Rattle.marks.specs.Marks.{keptOf, marksOrder, AreMarks}
 use Rattle.pair_check.specs.PairOrder.{IsPair}
-use Rattle.pair_check.specs.lemmas.PairOutcomes.{pair-passed, check-says, tables-refused-first, marks-say, marks-refused}
+use Rattle.marks.specs.lemmas.MarkOutcomes.{marks-say}
+use Rattle.pair_check.specs.lemmas.PairOutcomes.{pair-passed, check-says, tables-refused-first, marks-refused}
 use Rattle.pair_check.specs.lemmas.PairOutcomes.{work-turned-away, work-measured, product-fits}
 use borrow.Author.Needs.{needs}
 use Rattle.pair_check.proofs.pairs.check_work.Statement.{statement}

@@ -1,0 +1,6 @@
+pub mod Original
+pub mod Canonical
+pub mod IsCopy
+pub mod Copying
+pub mod CanonicalCopy
+pub mod theorems

@@ -1,0 +1,3 @@
+pub mod CopyAnswer
+pub mod theorems
+pub mod lemmas

@@ -1,0 +1,12 @@
+pub mod Parents
+pub mod Ranks
+pub mod LeastBelow
+pub mod Staying
+pub mod Chains
+pub mod Rounds
+pub mod Numbering
+pub mod ParentNumbers
+pub mod Writing
+pub mod RootedCopy
+pub mod KeptCopy
+pub mod Outcomes
