@@ -1,5 +1,6 @@
 pub mod PlainAnswers
 pub mod PlainLabels
+pub mod PlainTables
 pub mod Version
 pub mod theorems
 pub mod lemmas

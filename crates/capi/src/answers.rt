@@ -95,3 +95,10 @@ pub struct FiveCountsAnswer {
     pub d: u64,
     pub e: u64,
 }
+
+// The number; and how many words the copy has.
+#[repr(C)]
+pub struct CopyAnswer {
+    pub refusal: u16,
+    pub words: u16,
+}
