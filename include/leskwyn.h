@@ -10,7 +10,8 @@
  * has to live only as long as the call.
  *
  * Overlap. Tables are only read, so the two of a pair may be one slice, or share words; and so are marks, but for those
- * of leskwyn_change_mark. The lent cells (`walk`, `out`, `work`, and those marks) must not overlap a table or marks.
+ * of leskwyn_change_mark. The lent cells (`walk`, `out`, `copy`, `work`, and those marks) must not overlap a table or
+ * marks.
  *
  * Threads. No globals, no allocation, no input or output. Calls from several threads at once need no lock, as long as
  * no two of them lend the same cells and nobody writes to a table or to marks that are being read. leskwyn_claim_sums,
@@ -34,7 +35,8 @@
  * kept labels only, in its cells too: its figures are those of the two trees cut down to the kept labels. Any labels
  * may be struck, tip 0 and even all of them; fewer than four kept labels give zero counts. With all marks 1 all labels
  * count. leskwyn_holding counts one label besides, kept or struck. leskwyn_triplet_table and leskwyn_evidence take no
- * marks and know all labels.
+ * marks and know all labels. leskwyn_canonical_copy counts nothing: it writes one tree cut down to its kept labels, of
+ * which there are to be two or more.
  *
  * Refusals. 0 stands for accepted. A refused call gives its number, 0 in every other field of its answer (but case E
  * where a case is told), and no change to a lent cell. Where several conditions hold, the first in this order decides.
@@ -59,6 +61,8 @@
  *   of a change 33   the label already is as wished
  *               34   the given counts do not add up to the number of sets of four kept labels, or a strike would take
  *                    more from a case than it holds
+ *   of a copy   35   fewer than two labels are kept
+ *               36   `copy` has fewer cells than the copy has words
  */
 #ifndef LESKWYN_H
 #define LESKWYN_H
@@ -94,6 +98,9 @@ typedef struct { uint16_t refusal, node; } leskwyn_centre_answer;
 
 /* The refusal, or 0; 1 for a butterfly and 0 for a star; the partner of the smallest label, 0 for a star. */
 typedef struct { uint16_t refusal, butterfly, partner; } leskwyn_topology_answer;
+
+/* The refusal, or 0; how many words the copy has. */
+typedef struct { uint16_t refusal, words; } leskwyn_copy_answer;
 
 /* The refusal, or 0; the claim sums S, S', S2 and S3 of the kept tips. */
 typedef struct { uint16_t refusal; uint64_t first, second, same, different; } leskwyn_claim_sums_answer;
@@ -184,6 +191,23 @@ leskwyn_topology_answer leskwyn_topology(const uint16_t *table, size_t words,
  * refusal, then 10, then 12.
  */
 uint16_t leskwyn_reroot(const uint16_t *table, size_t table_words, uint16_t label, uint16_t *out, size_t out_words);
+
+/*
+ * The canonical copy of the tree cut down to its kept labels, into the first 2 + 2m cells of `copy`, with the copy's m;
+ * later cells stay.
+ *   - Labels are ranks: the smallest kept label becomes 0, the next one 1, and so on. The tip of rank 0 is node 0, so
+ *     that the copy hangs from the smallest kept label, whether that is 0 or not.
+ *   - Branches without a kept label and pass-through nodes are gone: an inner node has two children or more, and m is
+ *     n to 2n - 2, with the copy's n.
+ *   - Nodes are numbered depth first, a node before all that hangs from it, and the children of a node come in the
+ *     order of the smallest label at or below each.
+ * Two trees have copies of the same words under the same marks exactly if they have the same splits there, and what is
+ * counted of two copies with all labels kept is what is counted of the two trees under the marks. As many cells as the
+ * table has words are always enough. Refuses as the check does, then 32, 35 and 36.
+ */
+leskwyn_copy_answer leskwyn_canonical_copy(const uint16_t *table, size_t table_words,
+                                           const uint8_t *marks, size_t marks_count,
+                                           uint16_t *copy, size_t copy_words);
 
 /*
  * The crossings of two trees: afterwards cell (i - 1)(m' - 1) + (j - 1) of the work holds how many kept labels lie

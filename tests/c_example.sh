@@ -1,5 +1,5 @@
 #!/usr/bin/env bash
-# The C example of docs/LIBRARY.md: its compile line, as it stands on the page, and what the program prints.
+# The C examples of docs/LIBRARY.md: the compile line of each, as it stands on the page, and what the program prints.
 # The header also compiles as C++, where there is a C++ compiler.
 set -euo pipefail
 cd "$(dirname "$0")/.."
@@ -8,12 +8,20 @@ if [ ! -f "$library" ]; then
     echo "c_example: $library is missing; run 'rt staticlib capi'" >&2
     exit 1
 fi
-line=$(grep -m 1 '^    cc ' docs/LIBRARY.md)
-printed=$(bash -euc "$line && target/distance")
-if [ "$printed" != 'distance 2' ]; then
-    echo "c_example: printed '$printed' in place of 'distance 2'" >&2
-    exit 1
-fi
+
+# Compiles a program by its line of the page, and compares what it prints.
+prints() { # PROGRAM TEXT
+    local line printed
+    line=$(grep "^    cc .* -o target/$1\$" docs/LIBRARY.md)
+    printed=$(bash -euc "$line && target/$1")
+    if [ "$printed" != "$2" ]; then
+        echo "c_example: $1 printed '$printed' in place of '$2'" >&2
+        exit 1
+    fi
+}
+
+prints distance 'distance 2'
+prints canonical_copy '3 4 0 0 1 1 0 65535 1 2'
 if command -v c++ >/dev/null; then
     c++ -Wall -Wextra -Werror -Iinclude -x c++ -fsyntax-only include/leskwyn.h
 fi

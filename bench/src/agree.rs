@@ -1,6 +1,7 @@
 //! The exported functions against figures that were counted some other way: every number, every figure, every lent
 //! cell before and after, and the cells on either side of those that are lent.
 
+mod copies;
 mod one_label;
 
 use std::fmt::Debug;
@@ -20,6 +21,7 @@ use crate::reference::X;
 use crate::weights::{self, Weighing};
 use crate::{common_ancestors, cubic, pruned};
 
+pub use copies::copy_agrees;
 pub use one_label::{change_agrees, holding_agrees, reroot_agrees};
 
 /// Pairs of claims that are summed one by one; for more, S2 and S3 are read from the cases.
@@ -118,6 +120,19 @@ fn lend<C: Clone + Debug + PartialEq, T>(before: Vec<C>, call: impl Fn(&mut [C])
     assert_eq!(before[..lent.start], after[..lent.start], "cells before the lent ones");
     assert_eq!(before[lent.end..], after[lent.end..], "cells after the lent ones");
     (answer, before[lent.clone()].to_vec(), after[lent].to_vec())
+}
+
+/// Lends the middle of some cells: afterwards its first cells are the written ones, and later ones are as they were.
+fn lend_written<C: Clone + Debug + PartialEq, T>(
+    before: Vec<C>,
+    written: &[C],
+    told: &impl Debug,
+    call: impl Fn(&mut [C]) -> T,
+) -> T {
+    let (answer, before, after) = lend(before, call);
+    assert_eq!(after[..written.len()], *written, "cells that are written of {told:?}");
+    assert_eq!(after[written.len()..], before[written.len()..], "later cells of {told:?}");
+    answer
 }
 
 /// Tables and marks are only read.
@@ -323,10 +338,7 @@ impl Asked<'_> {
 
     /// A call with that work: afterwards its first cells are the crossings, and later ones are as they were.
     fn lent<T>(&self, crossings: &[u8], random: &mut Random, call: impl Fn(&mut [u8]) -> T) -> T {
-        let (answer, before, after) = lend(random.bytes(self.cells + 2 * MARGIN), call);
-        assert_eq!(after[..crossings.len()], *crossings, "crossings of {self:?}");
-        assert_eq!(after[crossings.len()..], before[crossings.len()..], "later cells of {self:?}");
-        answer
+        lend_written(random.bytes(self.cells + 2 * MARGIN), crossings, self, call)
     }
 
     /// What one function answers.
@@ -538,7 +550,7 @@ impl Told {
 }
 
 /// The triplet table of two accepted tables.
-fn told_triplets(first: &[u16], second: &[u16]) -> TripletTable {
+pub fn told_triplets(first: &[u16], second: &[u16]) -> TripletTable {
     let mut work = vec![0; leskwyn::work_cells(first, second).expect("accepted")];
     leskwyn::triplet_table(first, second, &mut work).expect("accepted")
 }

@@ -89,10 +89,15 @@ pub fn marked_refusal(first: &[u16], second: &[u16], marks: &[u8], cells: usize)
     if of_tables != 0 {
         return of_tables;
     }
-    if marks.len() != usize::from(first[0]) || marks.iter().any(|&mark| mark > 1) {
+    if !are_marks(first, marks) {
         return 32;
     }
     cells_refusal(first, second, cells)
+}
+
+/// Whether there is a mark of 0 or 1 for each label of an accepted table.
+pub fn are_marks(table: &[u16], marks: &[u8]) -> bool {
+    marks.len() == usize::from(table[0]) && marks.iter().all(|&mark| mark <= 1)
 }
 
 /// The number of a question about labels, 0 for accepted.

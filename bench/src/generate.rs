@@ -283,6 +283,23 @@ impl Graph {
         self.join(tip, place);
     }
 
+    /// A tree with a label for each mark, which without its struck labels is this one: each struck one gets a tip at an
+    /// inner node or in the midst of an edge.
+    #[must_use]
+    pub fn with_struck_tips(&self, marks: &[u8], random: &mut Random) -> Graph {
+        let mut graph = self.clone();
+        for _ in self.tips.len()..marks.len() {
+            let percent = if graph.inner_nodes().is_empty() { 0 } else { 40 };
+            let node = graph.place(percent, random);
+            graph.tip_at(node);
+        }
+        let (kept, struck) = graph.tips.split_at(self.tips.len());
+        let (mut kept, mut struck) = (kept.iter(), struck.iter());
+        let tip = |&mark: &u8| if mark == 1 { kept.next() } else { struck.next() };
+        graph.tips = marks.iter().filter_map(tip).copied().collect();
+        graph
+    }
+
     /// How many nodes the table has.
     #[must_use]
     pub fn nodes(&self) -> usize {
@@ -421,6 +438,11 @@ pub fn marks(kept: Kept, n: usize, random: &mut Random) -> Vec<u8> {
 pub fn any_marks(n: usize, random: &mut Random) -> Vec<u8> {
     let kept = *random.pick(&Kept::ALL);
     marks(kept, n, random)
+}
+
+/// All marks of n labels.
+pub fn every_marks(n: usize) -> impl Iterator<Item = Vec<u8>> {
+    (0..1_u32 << n).map(move |bits| (0..n).map(|label| (bits >> label & 1) as u8).collect())
 }
 
 /// Bytes that are no marks of n labels: too few, too many, or one above 1.

@@ -1,8 +1,9 @@
 //! `cargo run --release` times this library beside three other methods, prints the tables, and writes
 //! docs/BENCHMARKS.md and docs/scaling.svg. `cargo run --release -- one-label` prints the table of a label struck or
-//! restored, and writes nothing.
+//! restored, `cargo run --release -- canonical-copy` that of the canonical copy, and neither writes anything.
 
 mod chart;
+mod copy_times;
 mod label_times;
 mod report;
 mod timing;
@@ -13,6 +14,7 @@ use std::io;
 use std::path::Path;
 use std::process::ExitCode;
 
+use copy_times::CopyTimes;
 use label_times::LabelTimes;
 use timing::{Measured, PAIRINGS};
 
@@ -30,8 +32,12 @@ fn main() -> ExitCode {
             print!("{}", report::one_label(&one_label()));
             ExitCode::SUCCESS
         }
+        ["canonical-copy"] => {
+            print!("{}", report::copies(&copies()));
+            ExitCode::SUCCESS
+        }
         _ => {
-            eprintln!("usage: bench [one-label]");
+            eprintln!("usage: bench [one-label | canonical-copy]");
             ExitCode::FAILURE
         }
     }
@@ -40,6 +46,11 @@ fn main() -> ExitCode {
 fn one_label() -> Vec<LabelTimes> {
     eprintln!("timing one label");
     label_times::measure()
+}
+
+fn copies() -> Vec<CopyTimes> {
+    eprintln!("timing the canonical copy");
+    copy_times::measure()
 }
 
 /// Times everything, prints the tables, and writes the page and the chart.
@@ -52,17 +63,19 @@ fn write_page() -> io::Result<()> {
     eprintln!("timing pass-through nodes");
     let passed_through = timing::measure_pass_through();
     let labels = one_label();
+    let copied = copies();
     let tables = [
         report::table(&measured),
         report::ratios(&measured),
         report::triplets(&measured),
         report::pass_through(&passed_through),
         report::one_label(&labels),
+        report::copies(&copied),
     ];
     print!("{}", tables.join("\n"));
     let docs = Path::new(env!("CARGO_MANIFEST_DIR")).join("../docs");
     let before = fs::read_to_string(docs.join("BENCHMARKS.md")).unwrap_or_default();
-    let page = report::page(&measured, &passed_through, &labels) + report::commands(&before);
+    let page = report::page(&measured, &passed_through, &labels, &copied) + report::commands(&before);
     fs::create_dir_all(&docs)?;
     fs::write(docs.join("BENCHMARKS.md"), page)?;
     fs::write(docs.join("scaling.svg"), chart::drawn(&measured))

@@ -5,6 +5,7 @@ use std::fs;
 use std::num::NonZero;
 use std::thread;
 
+use crate::copy_times::CopyTimes;
 use crate::label_times::LabelTimes;
 use crate::timing::{Measured, PAIRINGS};
 
@@ -110,6 +111,18 @@ pub fn one_label(measured: &[LabelTimes]) -> String {
     text
 }
 
+/// The time of a canonical copy beside the quartet table's, as a table in Markdown.
+pub fn copies(measured: &[CopyTimes]) -> String {
+    let mut text = String::from(
+        "| trees | n | canonical copy (µs) | quartet table (µs) | copy ÷ quartets |\n|---|---:|---:|---:|---:|\n",
+    );
+    for CopyTimes { name, tips, copy, quartets } in measured {
+        let columns = [micros(*copy), micros(*quartets), ratio(*copy, *quartets)].join(" | ");
+        writeln!(text, "| {name} | {tips} | {columns} |").expect("a string takes all");
+    }
+    text
+}
+
 /// The processor as the system names it.
 fn processor() -> String {
     let told = fs::read_to_string("/proc/cpuinfo").unwrap_or_default();
@@ -125,9 +138,9 @@ pub fn commands(page: &str) -> &str {
 }
 
 /// docs/BENCHMARKS.md but for its last section.
-pub fn page(measured: &[Measured], passed_through: &[Measured], labels: &[LabelTimes]) -> String {
+pub fn page(measured: &[Measured], passed_through: &[Measured], labels: &[LabelTimes], copied: &[CopyTimes]) -> String {
     let (processor, table, ratios, triplets) = (processor(), table(measured), ratios(measured), triplets(measured));
-    let (pass_through, one_label) = (pass_through(passed_through), one_label(labels));
+    let (pass_through, one_label, copies) = (pass_through(passed_through), one_label(labels), copies(copied));
     format!(
         "# Benchmarks
 
@@ -179,7 +192,17 @@ Of each label's turns the fastest counts, and of all labels the mean. The five c
 
     cd bench && cargo run --release --offline -- one-label
 
-{one_label}"
+{one_label}
+## The canonical copy
+
+`leskwyn_canonical_copy` of the first tree, with the check of the table and of the marks, beside `leskwyn_quartet_table` of
+both, timed in the same turns. Label 0 alone is struck, so that the copy hangs from another tip than the tree does. It agrees
+with a copy made from sets of labels (`bench/src/copied.rs`) before it is timed. The last tree is the first one above with
+m = 1024. This table alone is printed by
+
+    cd bench && cargo run --release --offline -- canonical-copy
+
+{copies}"
     )
 }
 

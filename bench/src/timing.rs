@@ -21,6 +21,13 @@ pub struct Pairing {
     second: Shape,
 }
 
+impl Pairing {
+    /// Whether both trees are of one shape.
+    pub fn is_of_one_shape(&self) -> bool {
+        self.first == self.second
+    }
+}
+
 const fn pairing(name: &'static str, first: Shape, second: Shape) -> Pairing {
     Pairing { name, first, second }
 }
@@ -61,7 +68,7 @@ const BATCH: Duration = Duration::from_millis(2);
 
 /// Batches of each method, of which the fastest is taken: what else the machine does only adds to a time. Fewer where a
 /// single call is slow.
-const ROUNDS: usize = 25;
+pub const ROUNDS: usize = 25;
 const SLOW_ROUNDS: usize = 11;
 const SLOW: Duration = Duration::from_millis(20);
 
@@ -84,7 +91,7 @@ fn methods<'a>(first: &'a [u16], second: &'a [u16]) -> [Method<'a>; TIMED] {
 }
 
 /// How long so many calls take, one on the average.
-fn batch(method: &mut Method, calls: u32) -> Duration {
+pub fn batch<T>(mut method: impl FnMut() -> T, calls: u32) -> Duration {
     let start = Instant::now();
     for _ in 0..calls {
         black_box(method());
@@ -92,7 +99,13 @@ fn batch(method: &mut Method, calls: u32) -> Duration {
     start.elapsed() / calls
 }
 
-fn fastest(times: Vec<Duration>) -> f64 {
+/// How many calls make a batch, where a single one takes so long.
+pub fn calls_of(single: Duration) -> u32 {
+    (BATCH.as_nanos() / single.as_nanos().max(1)) as u32 + 1
+}
+
+/// The fastest batch, in microseconds.
+pub fn fastest(times: Vec<Duration>) -> f64 {
     times.into_iter().min().expect("a batch").as_secs_f64() * 1e6
 }
 
@@ -112,8 +125,7 @@ impl<'a> Course<'a> {
         assert!(quartets.iter().all(|answer| *answer == quartets[0]), "{name}: {quartets:?}");
         assert_eq!(triplets, common_ancestors::triplet_cases(first, second), "{name}");
         let single = methods.each_mut().map(|method| batch(method, 1));
-        let calls = single.map(|time| (BATCH.as_nanos() / time.as_nanos().max(1)) as u32 + 1);
-        Course { methods, single, calls, times: Default::default() }
+        Course { methods, single, calls: single.map(calls_of), times: Default::default() }
     }
 
     fn round(&mut self, round: usize) {

@@ -4,7 +4,7 @@
 use bench::agree::{pair_agrees, passing_through_agrees, refused_agrees, weighted_agrees, Asked, Expected, Told};
 use bench::damage::{damaged, Met, NUMBERS};
 use bench::evidence::every_four;
-use bench::generate::{any_chained, any_marks, any_pair, chained, marks, pair, table, wrong_marks};
+use bench::generate::{any_chained, any_marks, any_pair, chained, every_marks, marks, pair, table, wrong_marks};
 use bench::generate::{Chains, Graph, Kept, Numbering, Partner, Shape};
 use bench::pass_through::taken_out;
 use bench::pruned::pruned;
@@ -74,8 +74,7 @@ fn all_marks_of_every_pair() {
             tables.collect::<Vec<_>>()
         });
         for (first, second) in ours.iter().flat_map(|first| theirs.iter().map(move |second| (first, second))) {
-            for bits in 0..1 << n {
-                let marks: Vec<u8> = (0..n).map(|label| (bits >> label & 1) as u8).collect();
+            for marks in every_marks(n) {
                 let expected = Expected::marked(first, second, &marks);
                 laws_hold(&expected);
                 pair_agrees(first, second, &expected, &mut random);

@@ -11,6 +11,7 @@
 //! counted, as if the tips of the others were not there; [`all_kept`] are the marks that strike none. Any labels may be
 //! struck, label 0 and all of them too. [`triplet_table`] and [`evidence`] take no marks and know all labels.
 //! [`change_mark`] strikes or restores one label and keeps the five counts of the quartet table up to date.
+//! [`canonical_copy`] writes one tree cut down to its kept labels.
 //!
 //! A call that counts two trees is lent *work*: cells of one byte each, one for each edge of the first tree with each edge
 //! of the second. They hold how many labels lie beyond both edges, 255 at most, since tip 0 lies beyond no edge.
@@ -382,6 +383,48 @@ pub fn reroot(table: &[u16], label: u16, cells: &mut [u16]) -> Result<(), Refusa
     // SAFETY: each pointer and length are those of one live slice, and `cells` is borrowed alone.
     let number = unsafe { raw::leskwyn_reroot(table.as_ptr(), table.len(), label, cells.as_mut_ptr(), cells.len()) };
     Refusal::or(number, ())
+}
+
+/// Writes the canonical copy of the tree cut down to its kept labels into the first cells, which are handed back;
+/// later cells stay.
+///
+/// Its labels are ranks: the smallest kept label becomes 0 and its tip node 0, the next label becomes 1, and so on.
+/// Branches without a kept label and pass-through nodes are gone, so that an inner node has two children or more.
+/// Nodes are numbered depth first, the children of a node in the order of the smallest label at or below each. So two
+/// trees have copies of the same words under the same marks exactly if they have the same splits there, and what is
+/// counted of two copies with all labels kept is what is counted of the two trees under the marks. As many cells as
+/// the table has words are always enough.
+///
+/// ```
+/// use leskwyn::{canonical_copy, INNER as X};
+/// // Below tip 0: (1,(2,(3,4))). With 1, 3 and 4 alone it is (3,4) below tip 1.
+/// let p = [5, 8, 0, 0, 1, 1, 3, 3, 5, 5, 0, X, 1, X, 2, X, 3, 4];
+/// let mut cells = [9; 12];
+/// assert_eq!(canonical_copy(&p, &[0, 1, 0, 1, 1], &mut cells)?, [3, 4, 0, 0, 1, 1, 0, X, 1, 2]);
+/// assert_eq!(cells[10..], [9, 9]);
+/// assert_eq!(canonical_copy(&p, &[0, 1, 0, 0, 1], &mut cells)?, [2, 2, 0, 0, 0, 1]);
+/// assert_eq!(canonical_copy(&p, &[0, 1, 0, 0, 0], &mut cells).unwrap_err().number(), 35);
+/// assert_eq!(canonical_copy(&p, &[1; 5], &mut cells).unwrap_err().number(), 36);
+/// # Ok::<(), leskwyn::Refusal>(())
+/// ```
+///
+/// # Errors
+///
+/// 1 to 6, 31 and 7, then 32, 35 and 36.
+pub fn canonical_copy<'a>(table: &[u16], marks: &[u8], cells: &'a mut [u16]) -> Result<&'a [u16], Refusal> {
+    // SAFETY: each pointer and length are those of one live slice, and `cells` is borrowed alone.
+    let answer = unsafe {
+        raw::leskwyn_canonical_copy(
+            table.as_ptr(),
+            table.len(),
+            marks.as_ptr(),
+            marks.len(),
+            cells.as_mut_ptr(),
+            cells.len(),
+        )
+    };
+    // A refused answer has no words.
+    Refusal::or(answer.refusal, &cells[..usize::from(answer.words)])
 }
 
 /// Marks that keep all n labels of a table. A copy of them can have labels struck.

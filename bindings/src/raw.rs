@@ -27,6 +27,14 @@ pub struct TopologyAnswer {
     pub partner: u16,
 }
 
+/// The refusal, or 0; how many words the copy has.
+#[repr(C)]
+#[derive(Clone, Copy, Debug, PartialEq, Eq)]
+pub struct CopyAnswer {
+    pub refusal: u16,
+    pub words: u16,
+}
+
 /// The refusal, or 0; S, S', S2 and S3.
 #[repr(C)]
 #[derive(Clone, Copy, Debug, PartialEq, Eq)]
@@ -139,6 +147,15 @@ extern "C" {
     pub fn leskwyn_topology(table: *const u16, words: usize, a: u16, b: u16, c: u16, d: u16) -> TopologyAnswer;
 
     pub fn leskwyn_reroot(table: *const u16, table_words: usize, label: u16, out: *mut u16, out_words: usize) -> u16;
+
+    pub fn leskwyn_canonical_copy(
+        table: *const u16,
+        table_words: usize,
+        marks: *const u8,
+        marks_count: usize,
+        copy: *mut u16,
+        copy_words: usize,
+    ) -> CopyAnswer;
 
     pub fn leskwyn_crossings(
         first: *const u16,

@@ -32,8 +32,8 @@ impl Refusal {
     }
 
     /// The number: 1 to 7 or 31 of a table or of the first of two; 101 to 107 or 131 of the second; 8 to 13; 15 of a file;
-    /// 30 of a weight; 32 of marks; 33 or 34 of a changed mark. Where several rules are broken, 31 stands between 6 and
-    /// 7, 131 between 106 and 107, and 32 between 8 and 9.
+    /// 30 of a weight; 32 of marks; 33 or 34 of a changed mark; 35 or 36 of a copy. Where several rules are broken, 31
+    /// stands between 6 and 7, 131 between 106 and 107, and 32 between 8 and 9.
     #[must_use]
     pub fn number(self) -> u16 {
         self.0.get()
@@ -62,6 +62,8 @@ impl Refusal {
             32 => "there are not n marks, or a mark is above 1",
             33 => "the label already is as wished",
             34 => "the counts do not add up to the sets of four kept labels, or a strike would overdraw a case",
+            35 => "fewer than two labels are kept",
+            36 => "the cells are fewer than the canonical copy has words",
             _ => "a rule is broken",
         }
     }

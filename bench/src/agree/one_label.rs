@@ -3,7 +3,7 @@
 use leskwyn::raw::{self, FiveAnswer};
 use leskwyn::{FiveCounts, Refusal, Wish};
 
-use super::{lend, number, unchanged, MARGIN};
+use super::{lend, lend_written, number, unchanged, MARGIN};
 use crate::one_label::{Change, OneLabel};
 use crate::random::Random;
 use crate::rerooted::{self, rerooted};
@@ -97,11 +97,10 @@ pub fn reroot_agrees(table: &[u16], label: u16, cells: usize, random: &mut Rando
     let refusal = rerooted::refusal(table, label, cells);
     let expected = if refusal == 0 { rerooted(table, label) } else { Vec::new() };
     let mut agrees = |call: &dyn Fn(&mut [u16]) -> u16| {
-        let (answer, before, after) = unchanged(table, |_| lend(random.words(cells + 2 * MARGIN), call));
-        let told = format!("{table:?} re-rooted at {label} in {cells} cells");
-        assert_eq!(answer, refusal, "{told}");
-        assert_eq!(after[..expected.len()], expected, "{told}");
-        assert_eq!(after[expected.len()..], before[expected.len()..], "later cells of {told}");
+        let told = (table, "re-rooted at", label, "in cells", cells);
+        let before = random.words(cells + 2 * MARGIN);
+        let answer = unchanged(table, |_| lend_written(before, &expected, &told, call));
+        assert_eq!(answer, refusal, "{told:?}");
     };
     agrees(&|out| {
         // SAFETY: each pointer and length are those of one slice, and `out` overlaps nothing.
