@@ -1,6 +1,6 @@
 #!/usr/bin/env python3
-"""Tests of the commands compare, why, influence, matrix and against, of docs/COMMANDS.md, and of what the commands say where things
-fail.
+"""Tests of the commands compare, why, influence, copy, same, matrix and against, of docs/COMMANDS.md, and of what the commands say
+where things fail.
 
     python3 tests/command_tests.py
 
@@ -31,6 +31,7 @@ import unittest.mock
 sys.dont_write_bytecode = True
 from command_runs import ENVIRONMENT, LESKWYN, ROOT, CommandTest, Done, inside
 from cases import skips
+from cases.copies import copy_table, copy_text, kept_splits
 from cases.evidence import evidence
 from cases.influence import CASES, influence
 from cases.newick import random_names, random_tree, sides_of, star_text, with_pass_through, written_tree
@@ -76,6 +77,17 @@ class TreesTest(CommandTest):
 
     def here(self, command: str, *arguments: str, stdin: bytes | str = b"") -> Done:
         return self.run_here(*arguments, command=command, stdin=stdin)
+
+    def assert_refused_as_compared(self, command: str, status: int) -> None:
+        """Two trees in one file that compare refuses: the status, and the words of compare."""
+        for content, number in ((packed(P), 101), (packed(P, THREE), 8), (packed(P, Q) + b"\0", 15),
+                                (packed(P[:16] + [5] + P[17:], Q), 6), (packed(Q, P[:16] + [4] + P[17:]), 131)):
+            done, compared = (self.here(one, "-", "--tables", stdin=content) for one in (command, "compare"))
+            self.assertEqual((done.returncode, done.stdout, done.stderr), (status, b"", compared.stderr))
+            self.assertTrue(done.stderr.decode().startswith(f"leskwyn: refused {number}: standard input: "))
+        for text in (FEATHERS, "(A,B,A);" * 2, "(A,B);(A,C);", "(A,B);(A,B"):
+            done, compared = (self.here(one, "-", stdin=text) for one in (command, "compare"))
+            self.assertEqual((done.returncode, done.stdout, done.stderr), (status, b"", compared.stderr))
 
     def figures(self, *arguments: str, stdin: bytes | str = b"") -> dict[str, object]:
         done = self.here("compare", *arguments, "--format", "json", stdin=stdin)
@@ -536,7 +548,7 @@ class Strike(TreesTest):
         """A file that is not there is told, before the library is built."""
         self.file("struck.txt", "Zeist\n")
         for arguments, status in ((["--strike-file", "absent"], 2), (["--strike-file", "struck.txt", "--strike", "Yell"], 3)):
-            for command in ("compare", "matrix", "against", "influence"):
+            for command in ("compare", "matrix", "against", "influence", "same"):
                 with inside(self.folder), contextlib.redirect_stderr(io.StringIO()) as said:
                     done = commands.main([command, "feathers.nwk", "wings.nwk", *arguments], has_library=False)
                 self.assertEqual((done, "cannot read absent: " in said.getvalue()), (status, status == 2))
@@ -934,14 +946,7 @@ class Influence(TreesTest):
 
     def test_trees_that_are_refused(self) -> None:
         """As compare refuses them."""
-        for content, number in ((packed(P), 101), (packed(P, THREE), 8), (packed(P, Q) + b"\0", 15),
-                                (packed(P[:16] + [5] + P[17:], Q), 6), (packed(Q, P[:16] + [4] + P[17:]), 131)):
-            done, compared = (self.here(command, "-", "--tables", stdin=content) for command in ("influence", "compare"))
-            self.assertEqual((done.returncode, done.stdout, done.stderr), (1, b"", compared.stderr))
-            self.assertTrue(done.stderr.decode().startswith(f"leskwyn: refused {number}: standard input: "))
-        for text in (FEATHERS, "(A,B,A);" * 2, "(A,B);(A,C);", "(A,B);(A,B"):
-            done, compared = (self.here(command, "-", stdin=text) for command in ("influence", "compare"))
-            self.assertEqual((done.returncode, done.stdout, done.stderr), (1, b"", compared.stderr))
+        self.assert_refused_as_compared("influence", 1)
         self.assert_message(self.here("influence", "feathers.nwk", "-", stdin=packed(P, Q)), 1, "is a comparison file", "alone")
 
     def test_common(self) -> None:
@@ -985,6 +990,202 @@ class Influence(TreesTest):
                          [self.HOLDING, *([str(value) for value in row.values()] for row in rows)])
         keys = re.findall(r"`(\w+)`", " ".join(re.findall(r"(?m)^\| (`.*?) \|", page)))
         self.assertEqual(keys, list(places | influence(*self.SIDES, NAMES, [], 1)))
+
+
+class Copy(TreesTest):
+    """The canonical copy of one tree, by nested sets of names and by hand."""
+
+    def line(self, *arguments: str, stdin: bytes | str = b"", said: str = "") -> str:
+        done = self.here("copy", *arguments, stdin=stdin)
+        self.assertEqual((done.returncode, done.stderr.decode(), done.stdout[-1:]), (0, said, b"\n"), done)
+        return done.stdout.decode().removesuffix("\n")
+
+    def test_by_hand(self) -> None:
+        """Whatever the order in which the names stand, where the tree has its root, and what else is written."""
+        self.file("again.nwk", "[&R] ((Texel:1,Lundy)0.9:2,(Foula,Azores,((Coll,Bute)x)));")
+        for name in ("feathers.nwk", "again.nwk"):
+            for struck, line in (([], FEATHERS), (["Azores"], "(Bute,Coll,(Foula,(Lundy,Texel)));"),
+                                 (["Foula"], "(Azores,(Bute,Coll),(Lundy,Texel));"),
+                                 (["Coll", "Texel"], "(Azores,Bute,Foula,Lundy);"),
+                                 (["Azores", "Coll", "Foula"], "(Bute,Lundy,Texel);"),
+                                 (["Azores", "Bute", "Coll", "Foula"], "(Lundy,Texel);")):
+                said = f"leskwyn: kept {6 - len(struck)} of 6 populations; struck: {', '.join(struck)}\n" if struck else ""
+                told = self.line(name, *(f"--strike={one}" for one in struck), said=said)
+                self.assertEqual(told, line.rstrip(), (name, struck))
+        for text, line in (("(b,a);", "(a,b);"), ("((b),((a)));", "(a,b);"), ("(c,(b,a));", "(a,b,c);"), ("(b,c,a);", "(a,b,c);"),
+                           ("((d,a),(b,c));", "(a,(b,c),d);"), ("((((d,(e)),c),b),a);", "(a,b,(c,(d,e)));")):
+            self.assertEqual((self.line("-", stdin=text), self.line("-", stdin=line)), (line, line))
+
+    def test_random_trees(self) -> None:
+        """Of any names, with nodes of many branches and with pass-through nodes, some names struck or none; a copy's copy is
+        itself, and every file with the tree gives the same bytes."""
+        rng, seen = random.Random(66), set()
+        for case in range(60):
+            names = sorted(random_names(rng, 2 + case % 9))
+            plain = random_tree(rng, names, rng.choice([0, 0.3, 0.8]))
+            struck = rng.sample(names, rng.randint(0, len(names) - 2)) if case % 3 else []
+            kept, sides = [name for name in names if name not in struck], sides_of(plain)
+            options, expected = [f"--strike={name}" for name in struck], copy_text(sides, kept) + "\n"
+            for tree in (plain, with_pass_through(rng, plain, rng.randint(1, 12))):
+                text = written_tree(rng, tree)
+                with self.subTest(case=case, text=text, options=options):
+                    self.assertEqual(self.here("copy", "-", *options, stdin=text).stdout.decode(), expected)
+                    self.assertEqual(self.here("copy", "-", stdin=expected).stdout.decode(), expected)
+                    rows = self.here("copy", "-", "--table", *options, stdin=text).stdout.decode().removesuffix("\n").split("\n")
+                    self.assertEqual(rows, self.rows(copy_table(sides, kept), kept))
+            seen.add(len(kept))
+        self.assertEqual(seen, set(range(2, 11)))
+
+    def rows(self, table: list[int], names: list[str]) -> list[str]:
+        """The table as show prints it."""
+        m = table[1]
+        labels = ["  inner" if label == X else f"{label:7} " + names[label].replace("\t", "\\t") for label in table[2 + m:]]
+        return [f"n {table[0]}, m {m}; node, parent, label, name:",
+                *(f"{node:5} {table[2 + node]:6} {label}" for node, label in enumerate(labels))]
+
+    def test_table(self) -> None:
+        """As show prints it of a comparison file with the same tables and names."""
+        done = self.here("copy", "wings.nwk", "--strike", "Azores", "--table")
+        self.assertEqual(done.stdout.decode().splitlines(), self.rows(
+            [5, 8, 0, 0, 1, 2, 2, 1, 5, 5, 0, X, X, 1, 2, X, 3, 4], ["Bute", "Coll", "Foula", "Lundy", "Texel"]))
+        self.file("copies.nwk", 2 * self.line("wings.nwk", "--strike", "Azores", said=done.stderr.decode()))
+        self.assertEqual(self.here("table", "copies.nwk", "-o", "pair.bin", "--list", "labels.txt").returncode, 0)
+        shown = self.here("show", "pair.bin", "--names", "labels.txt").stdout.decode()
+        self.assertEqual(shown.split("(Bute")[0].removeprefix("first tree: "), done.stdout.decode())
+
+    def test_names_as_they_are_written(self) -> None:
+        """In quotes unless letters, digits, points and hyphens make the name, and in the order of code points."""
+        text = "(('b_c',\"it's\"),(Parus_major,'(x)'),'e\nf',7,-.,a-b.c,\u00e4);"
+        line = "('(x)',('-.',7,a-b.c,('b_c','it''s'),'e\nf','\u00e4'),'Parus major');"
+        self.assertEqual((self.line("-", stdin=text), self.line("-", stdin=line)), (line, line))
+
+    def test_struck_names(self) -> None:
+        """By --strike and by --strike-file; a name that stands twice is struck once, and an empty list strikes none."""
+        self.file("struck.txt", "# a comment\n\nFoula\nAzores\n")
+        said = "leskwyn: kept 4 of 6 populations; struck: Azores, Foula\n"
+        for options in (["--strike-file", "struck.txt"], ["--strike=Foula", "--strike=Azores", "--strike", "Foula"],
+                        ["--strike", "'Foula'", "--strike-file", "struck.txt"]):
+            self.assertEqual(self.line("wings.nwk", *options, said=said), "(Bute,Coll,(Lundy,Texel));")
+        said = "leskwyn: kept 6 of 6 populations\n"
+        self.assertEqual(self.line("wings.nwk", "--strike-file", self.file("none.txt", ""), said=said), WINGS.rstrip())
+
+    def test_trees_that_are_refused(self) -> None:
+        for arguments, stdin, words in (
+                (["feathers.nwk", "--strike", "Zeist"], "", "leskwyn: cannot strike 'Zeist': not a tip of the tree\n"),
+                (["-", "--strike=b", "--strike=a"], "(a,(c,b));", "refused 35: standard input: 1 tip kept; a tree needs 2 or"),
+                (["-", "--strike=b", "--strike=a"], "(a,b);", "refused 35: standard input: 0 tips kept; a tree needs 2 or more\n"),
+                (["both.nwk"], "", "both.nwk: 2 trees in the file; one tree is needed here"),
+                (["-"], "(a,(b,c);", "standard input, line 1: a ( without its )"), (["-"], "a;", "1 tip; a tree needs 2 to 256"),
+                (["-"], "(a,b,a);", "repeated tip names: 'a'"), (["-"], packed(P, Q), "standard input is a comparison file")):
+            self.assert_message(self.here("copy", *arguments, stdin=stdin), 1, words)
+
+    def test_wrong_usage(self) -> None:
+        for arguments, words in (([], "0 files; one is needed"), (["a", "b"], "2 files; one is needed"),
+                                 ([""], "an empty file name"),
+                                 (["-", "--strike-file", "-"], "standard input can be read only once"),
+                                 (["both.nwk", "--common"], "unrecognized arguments: --common"),
+                                 (["both.nwk", "--strike"], "--strike: expected one argument")):
+            self.assert_message(self.here("copy", *arguments), 2, words, "leskwyn copy --help tells the usage")
+        self.assert_message(self.here("copy", "absent"), 2, "cannot read absent: No such file")
+
+
+class Same(TreesTest):
+    """Whether two trees are the same: the exit status and the sentence, by their splits."""
+
+    SAME, DIFFERENT = "the trees are the same", "the trees differ"
+
+    def told(self, *arguments: str, stdin: bytes | str = b"") -> tuple[int, str]:
+        """The status and the sentence; with --quiet there is the status alone."""
+        done, quiet = (self.here("same", *arguments, *more, stdin=stdin) for more in ([], ["--quiet"]))
+        self.assertEqual((done.stderr, done.stdout[-1:]), (b"", b"\n"), done)
+        self.assertEqual((quiet.returncode, quiet.stdout, quiet.stderr), (done.returncode, b"", b""))
+        return done.returncode, done.stdout.decode().removesuffix("\n")
+
+    def test_by_hand(self) -> None:
+        """Feathers pair Bute with Coll, wings Coll with Foula, and both Lundy with Texel."""
+        for options, status, words in (
+                ([], 1, self.DIFFERENT), (["--strike=Coll"], 0, self.SAME + " on the 5 kept populations; struck: Coll"),
+                (["--strike=Foula"], 1, self.DIFFERENT + " on the 5 kept populations; struck: Foula"),
+                (["--strike=Foula", "--strike=Bute"], 0, self.SAME + " on the 4 kept populations; struck: Bute, Foula"),
+                (["--strike-file", self.file("none.txt", "#\n")], 1, self.DIFFERENT + " on the 6 kept populations"),
+                ([f"--strike={name}" for name in NAMES[2:]], 0,
+                 self.SAME + " on the 2 kept populations; struck: Coll, Foula, Lundy, Texel")):
+            self.assertEqual(self.told("feathers.nwk", "wings.nwk", *options), (status, words))
+        self.assertEqual(self.told("feathers.nwk", "feathers.nwk"), (0, self.SAME))
+        for text, status in (("(a,b);(b,a);", 0), ("(a,(b,c));((c,a),b);", 0), ("((a,b),(c,d));(b,a,((d),c));", 0),
+                             ("((a,b),(c,d));(a,b,c,d);", 1), ("((a,b),(c,d));((a,c),(b,d));", 1)):
+            self.assertEqual(self.told("-", stdin=text), (status, [self.SAME, self.DIFFERENT][status]))
+
+    def test_as_a_process(self) -> None:
+        for words, status in ((["feathers.nwk", "wings.nwk"], 1), (["feathers.nwk", "feathers.nwk"], 0),
+                              (["feathers.nwk", "absent"], 2), (["feathers.nwk", "wings.nwk", "--strike", "Zeist"], 2)):
+            done = run_leskwyn("same", *words, cwd=self.folder)
+            self.assertEqual((done.returncode, len(done.stdout) > 0, len(done.stderr) > 0), (status, status < 2, status == 2))
+
+    def test_random_trees(self) -> None:
+        """The status is 0 exactly if the splits of the kept names are the same, and the lines of copy are; a struck name may be in
+        one tree alone."""
+        rng, outcomes = random.Random(67), []
+        for case in range(60):
+            names, more = sorted(random_names(rng, 4 + case % 4)), ["only here"] * (case % 4 == 0)
+            trees = {"first": random_tree(rng, names, 0.6), "second": random_tree(rng, names + more, 0.6)}
+            struck = rng.sample(names, rng.randint(0, len(names) - 2)) if case % 3 else []
+            for name, tree in trees.items():
+                self.file(name, written_tree(rng, with_pass_through(rng, tree, case % 5)))
+            kept = set(names) - set(struck)
+            one, other = (kept_splits(sides_of(tree), kept) for tree in trees.values())
+            options = [f"--strike={name}" for name in struck]
+            with self.subTest(case=case, names=names, struck=struck):
+                done = self.here("same", "first", "second", "--quiet", *options, *(f"--strike={name}" for name in more))
+                self.assertEqual((done.returncode, done.stderr), (int(one != other), b""))
+                if not more:
+                    lines = [self.here("copy", name, *options).stdout for name in trees]
+                    self.assertEqual(int(lines[0] != lines[1]), done.returncode)
+            outcomes.append(done.returncode)
+        self.assertTrue(15 < sum(outcomes) < 45, sum(outcomes))
+
+    def test_every_way_of_giving_two_trees(self) -> None:
+        self.assertEqual(self.here("table", "both.nwk", "-o", "pair.bin", "--quiet").returncode, 0)
+        for trees, stdin in ((["feathers.nwk", "wings.nwk"], ""), (["both.nwk"], ""), (["-"], FEATHERS + WINGS),
+                             (["-", "wings.nwk"], FEATHERS), (["feathers.nwk", "-"], WINGS), (["--common", "both.nwk"], ""),
+                             (["pair.bin"], ""), (["--tables", "pair.bin"], ""), (["-"], (self.folder / "pair.bin").read_bytes())):
+            self.assertEqual(self.told(*trees, stdin=stdin), (1, self.DIFFERENT))
+        self.assertEqual(self.told("pair.bin", "--strike", "2"), (0, self.SAME + " on the 5 kept populations; struck: 2"))
+
+    def test_different_populations(self) -> None:
+        """Refused as by compare, with status 2, unless those that one tree alone has are struck or left out."""
+        self.file("more.nwk", "((Azores,Zeist),Bute,(Coll,Foula),(Lundy,Texel));")
+        words = "the trees have different tips: only more.nwk has 'Zeist'; --common"
+        self.assert_message(self.here("same", "wings.nwk", "more.nwk"), 2, words)
+        self.assert_message(self.here("same", "wings.nwk", "more.nwk", "--strike", "Coll"), 2, words)
+        for trees, status in ((["wings.nwk", "more.nwk"], 0), (["more.nwk", "wings.nwk"], 0), (["feathers.nwk", "more.nwk"], 1)):
+            told = [self.SAME, self.DIFFERENT][status]
+            self.assertEqual(self.told(*trees, "--strike", "Zeist"), (status, told + " on the 6 kept populations; struck: Zeist"))
+            done = self.here("same", *trees, "--common")
+            self.assertEqual((done.returncode, done.stdout.decode(), done.stderr),
+                             (status, told + "\n", b"leskwyn: left out of more.nwk: 'Zeist'\n"))
+
+    def test_trees_that_are_refused(self) -> None:
+        """With status 2 and the words of compare; two populations or more must be kept."""
+        self.assert_refused_as_compared("same", 2)
+        for arguments, stdin, words in (
+                (["-", "--strike=2", "--strike=6"], packed(P, Q), "refused 32: standard input: there is no label 6 to strike"),
+                (["-", *(f"--strike={one}" for one in range(4))], packed(P, Q), "refused 35: standard input: 1 tip kept; a tree"),
+                (["both.nwk", *(f"--strike={one}" for one in NAMES)], "", "refused 35: 0 tips kept; a tree needs 2 or more\n"),
+                (["both.nwk", "--strike=Zeist"], "", "leskwyn: cannot strike 'Zeist': not a tip of either tree\n"),
+                (["-", "--common"], "(A,B);(C,D);", "the trees share 0 names; 2 or more are needed"),
+                (["both.nwk", "--strike-file", self.file("latin", b"\xf6\n")], "", "latin: not UTF-8 text")):
+            for quiet in ([], ["--quiet"]):
+                self.assert_message(self.here("same", *arguments, *quiet, stdin=stdin), 2, words)
+
+    def test_wrong_usage(self) -> None:
+        for arguments, words in (([], "0 files; one or two are needed"), (["a", "b", "c"], "3 files; one or two are needed"),
+                                 (["feathers.nwk", "wings.nwk", "--tables"], "2 files; one comparison file is needed"),
+                                 (["-", "-"], "standard input can be read only once"), (["", "wings.nwk"], "an empty file name"),
+                                 (["both.nwk", "--outgroup", "Azores"], "unrecognized arguments: --outgroup")):
+            self.assert_message(self.here("same", *arguments), 2, words, "leskwyn same --help tells the usage")
+        self.assert_message(self.here("same", "-", "--common", stdin=packed(P, Q)), 2, "--common goes by names")
+        self.assert_message(self.here("same", "feathers.nwk", "absent"), 2, "cannot read absent: No such file")
 
 
 class Many(TreesTest):
@@ -1112,7 +1313,7 @@ class Usage(TreesTest):
         self.assert_message(self.here("compare", "both.nwk", "--weight", "1/2", "--listing"), 2, "--listing and --weight exclude")
         self.assert_message(self.here("matrix", "both.nwk", "--weight", "1/2"), 2, "only 'weighted' takes a weight")
         self.assert_message(self.here("matrix", "both.nwk", "--measure", "weighted"), 2, "the weighted distance needs a weight")
-        commands = "compare, matrix, against, why, influence, table, show"
+        commands = "compare, matrix, against, why, influence, copy, same, table, show"
         self.assert_message(self.here("comprae"), 2, f"no command 'comprae'; the commands are {commands} (")
 
     def test_wrong_weights(self) -> None:
@@ -1156,7 +1357,7 @@ class Usage(TreesTest):
     def test_help_and_version(self) -> None:
         version = f"leskwyn (Leskwyn) {leskwyn.__version__}\n".encode()
         self.assertEqual(run_leskwyn("--version").stdout, version)
-        for command in ("compare", "matrix", "against", "why", "influence", "table", "show"):
+        for command in ("compare", "matrix", "against", "why", "influence", "copy", "same", "table", "show"):
             for arguments, word in ((["--version"], version), (["--help"], b"usage: leskwyn " + command.encode())):
                 done = run_leskwyn(command, *arguments)
                 self.assertEqual((done.returncode, done.stderr), (0, b""))
@@ -1170,8 +1371,9 @@ class Surroundings(TreesTest):
 
     WRITERS = [["compare", "both.nwk"], ["compare", "--listing", "both.nwk"], ["compare", "--listing", "--tables", "both.nwk"],
                ["matrix", "both.nwk"], ["against", "feathers.nwk", "wings.nwk"],
-               ["why", "both.nwk", "Azores", "Bute", "Coll", "Foula"], ["influence", "both.nwk"], ["--help"],
-               ["compare", "--help"], ["--version"], ["show", "--version"], ["table", "both.nwk"]]
+               ["why", "both.nwk", "Azores", "Bute", "Coll", "Foula"], ["influence", "both.nwk"], ["copy", "wings.nwk"],
+               ["same", "both.nwk"], ["same", "wings.nwk", "wings.nwk"], ["--help"], ["compare", "--help"], ["--version"],
+               ["show", "--version"], ["table", "both.nwk"]]
 
     def assert_one_sentence(self, done: Done, status: int, *words: bytes) -> None:
         self.assertEqual((done.returncode, done.stderr.count(b"\n"), done.stderr[:9]), (status, 1, b"leskwyn: "), done.stderr)
@@ -1323,6 +1525,25 @@ class Pages(unittest.TestCase):
         message = run_leskwyn("matrix", "examples/feathers.nwk", "examples/wings.nwk", "--strike", "Foula").stderr.decode()
         self.assertIn(f"`{message.rstrip()}`", page)
 
+    def test_same_on_the_commands_page(self) -> None:
+        """The exit statuses: feathers and wings differ, and without Coll they are the same."""
+        told = [run_leskwyn(*shlex.split(command)[1:]).returncode for command, _ in self.examples("docs/COMMANDS.md")
+                if command.startswith("leskwyn same ")]
+        self.assertEqual(told, [1, 0])
+
+    def test_copies_on_the_commands_page(self) -> None:
+        """Feathers and wings without Azores, by the names that they keep together; the words are those of P."""
+        text, words, again = [block for command, block in self.examples("docs/COMMANDS.md") if command.startswith("leskwyn copy ")]
+        feathers, wings = ([frozenset(pair.split()) for pair in pairs] for pairs in (["Bute Coll", "Lundy Texel"],
+                                                                                     ["Coll Foula", "Lundy Texel"]))
+        self.assertEqual((text, again), tuple(copy_text(sides, NAMES[1:]) + "\n" for sides in (feathers, wings)))
+        rows = [line.split() for line in words.splitlines()[1:]]
+        self.assertEqual([5, len(rows), *(int(row[1]) for row in rows), *(X if row[2] == "inner" else int(row[2]) for row in rows)], P)
+        page = (ROOT / "docs/COMMANDS.md").read_text(encoding="utf-8")
+        for struck in (NAMES[:1], NAMES[1:]):
+            message = run_leskwyn("copy", "examples/wings.nwk", *(f"--strike={name}" for name in struck)).stderr.decode()
+            self.assertIn(f"`{message.rstrip()}`", page)
+
     def test_pass_through_notes_on_the_commands_page(self) -> None:
         """What table says of a tree with one pass-through node, and of one with too many."""
         page = " ".join((ROOT / "docs/COMMANDS.md").read_text(encoding="utf-8").split())
@@ -1340,7 +1561,8 @@ class Pages(unittest.TestCase):
         text = (ROOT / "docs" / "COMMANDS.md").read_text(encoding="utf-8")
         blocks = "\n".join(re.findall(r"^```python\n(.*?)^```$", text, re.M | re.S))
         modules = [("docs/COMMANDS.md", blocks), ("leskwyn", leskwyn.__doc__),
-                   *((name, getattr(leskwyn, name).__doc__) for name in ("compare", "matrix", "why", "influence"))]
+                   *((name, getattr(leskwyn, name).__doc__)
+                     for name in ("compare", "matrix", "why", "influence", "canonical_copy", "same"))]
         runner = doctest.DocTestRunner(verbose=False)
         with inside(ROOT), contextlib.redirect_stdout(io.StringIO()) as said:
             for name, content in modules:

@@ -446,7 +446,7 @@ class LeskwynBuilding(LeskwynDoor, Building):
     def test_help_and_version_build_nothing(self) -> None:
         self.with_nothing_to_build_with()
         super().test_help_and_version_build_nothing()
-        for command in ("compare", "against", "matrix", "why", "influence", "table", "show"):
+        for command in ("compare", "against", "matrix", "why", "influence", "copy", "same", "table", "show"):
             for words in (["-h"], ["--help"], ["a", "--help"]):
                 done = self.run_door(command, *words)
                 self.assertEqual((done.returncode, done.stderr), (0, b""))
@@ -466,6 +466,9 @@ class LeskwynBuilding(LeskwynDoor, Building):
                             (["why", "a.nwk", "-", "b", "c", "d", "e"], "cannot read a.nwk: No such file"),
                             (["influence"], "0 files; one or two are needed"),
                             (["influence", "a", "--drop", "0"], "not a number of populations from 1 to 256"),
+                            (["copy", "a", "b"], "2 files; one is needed"), (["copy", "a.nwk"], "cannot read a.nwk: No such file"),
+                            (["same"], "0 files; one or two are needed"),
+                            (["same", "-", "a.nwk"], "cannot read a.nwk: No such file"),
                             (["table"], "0 tree files;"), (["show", "a", "--nmaes", "b"], "--nmaes"),
                             (["compare", "a.nwk", "-"], "cannot read a.nwk: No such file"),
                             (["matrix", "-", "the house"], "cannot read the house: Is a directory"),

@@ -7,8 +7,8 @@
 Needs target/libleskwyn.so, or what LESKWYN_LIBRARY names, and the proved program. Figures are held to the program's listing,
 to a brute force over sets of four that looks at the edges of named trees, and to one over sets of three that climbs to their
 lowest common ancestors; where names are struck, over sets of four of trees that are cut down here; the evidence for four tips to a
-search over all edges and all nodes; the influence of each tip to a look at every set of four that holds it; Robinson-Foulds
-distances to DendroPy and to ETE where they are installed.
+search over all edges and all nodes; the influence of each tip to a look at every set of four that holds it; canonical copies to
+nested sets of names; Robinson-Foulds distances to DendroPy and to ETE where they are installed.
 """
 import ctypes
 import dataclasses
@@ -37,17 +37,20 @@ ROOT = pathlib.Path(__file__).resolve().parent.parent
 sys.path.insert(0, str(ROOT / "python"))
 from command_runs import CommandTest
 from cases import skips
+from cases.copies import copy_table, copy_text, kept_splits
 from cases.evidence import Witness, evidence, parted
 from cases.influence import influence
 from cases.newick import Tree, parting, random_names, random_tree, sides_of, star_text, with_pass_through, written_tree
 from cases.pairs import climb, needed, split_counts
 from cases.quartets import OUTSIDE_PAIRS, REFERENCE_PAIRS, cases_by_pairs
-from cases.shapes import balanced, caterpillar, chained, randomly_chained, related_pair, star, unrelated_pair
-from cases.tables import LABEL_TROUBLE, NUMBERS, OUTSIDE, PASS_THROUGH, P, Q, REFERENCE, THREE, TWO, W, X, Table, damaged
+from cases.shapes import (balanced, caterpillar, chained, random_pair, random_table, randomly_chained, related_pair, renumbered,
+                          shuffled, star, unrelated_pair)
+from cases.tables import (LABEL_TROUBLE, NUMBERS, OUTSIDE, PASS_THROUGH, P, Q, R, REFERENCE, THREE, TWO, W, X, Table, damaged,
+                          table, tree_refusal)
 from cases.triplets import triplet_table
 
 import leskwyn
-from leskwyn import _library, api, counting, sources, trees, weights
+from leskwyn import _library, api, copies, counting, sources, trees, weights
 
 PROGRAM = pathlib.Path(os.environ.get("LESKWYN_COMPARE") or ROOT / "target" / "bin" / "compare").absolute()
 MOST_BYTES = 1016
@@ -1600,6 +1603,259 @@ class Influence(unittest.TestCase):
             leskwyn.influence(pathlib.Path("absent.nwk"), WINGS)
 
 
+def sides_of_table(t: Table) -> list[frozenset[int]]:
+    """The labels beyond each edge."""
+    climbs = [set(climb(t, label)) for label in range(t[0])]
+    return [frozenset(label for label, edges in enumerate(climbs) if edge in edges) for edge in range(1, t[1])]
+
+
+def some_kept(rng: random.Random, n: int) -> list[int]:
+    """Marks that keep two labels or more: all, all but label 0 where that may be, or any."""
+    kept = rng.choice([range(n), range(n > 2, n), rng.sample(range(n), rng.randint(2, n))])
+    return [int(label in kept) for label in range(n)]
+
+
+class LibraryCopies(unittest.TestCase):
+    """The canonical copy that the library writes, by nested sets of labels."""
+
+    def asked(self, t: Table, marks: typing.Sequence[int], cells: int) -> tuple[int, int, list[int]]:
+        """The answer, and the lent words, which hold 256 times `pattern` before."""
+        lent = _library.words([256 * byte for byte in pattern(cells)])
+        answer = _library.canonical_copy(_library.words(t), marked(*marks), lent)
+        return answer.refusal, answer.words, lent.cells[:lent.count]
+
+    def copied(self, t: Table, marks: typing.Sequence[int]) -> Table:
+        """The copy, as it is held to the sets; later cells stay, and its own copy is itself."""
+        expected = copy_table(sides_of_table(t), [label for label, mark in enumerate(marks) if mark])
+        size = len(expected)
+        for cells in (size, size + 5):
+            after = expected + [256 * byte for byte in pattern(cells)[size:]]
+            self.assertEqual(self.asked(t, marks, cells), (0, size, after), (t, marks))
+        self.assertEqual(self.asked(expected, [1] * sum(marks), size), (0, size, expected))
+        return expected
+
+    def assert_strict(self, t: Table) -> None:
+        """A table with two children or more at each inner node."""
+        n, m = t[:2]
+        self.assertEqual((tree_refusal(t), m <= max(2, 2 * n - 2)), (0, True), t)
+        parents = t[2:2 + m]
+        self.assertTrue(all(parents.count(node) >= 2 for node in range(1, m) if t[2 + m + node] == X), t)
+
+    def test_by_hand(self) -> None:
+        """P is (0,1,(2,(3,4))), Q (0,1,(2,3,4)) and R (0,2,(1,(3,4)))."""
+        cherry = table(4, 6, [0, 0, 1, 1, 3, 3], [0, X, 1, X, 2, 3])
+        fan = table(4, 5, [0, 0, 1, 1, 1], [0, X, 1, 2, 3])
+        for t, marks, expected in ((P, [1] * 5, P), (Q, [1] * 5, Q), (P, [0, 1, 1, 1, 1], cherry), (P, [1, 0, 1, 1, 1], cherry),
+                                   (P, [1, 1, 1, 0, 1], cherry), (Q, [1, 1, 0, 1, 1], cherry), (Q, [1, 0, 1, 1, 1], fan),
+                                   (W, [1, 1, 1, 1, 0], fan), (P, [0, 0, 1, 1, 1], THREE), (W, [0, 1, 0, 0, 1], TWO),
+                                   (R, [1] * 5, table(5, 8, [0, 0, 1, 2, 2, 4, 4, 1], [0, X, X, 1, X, 3, 4, 2])),
+                                   *((chains, [1] * plain[0], plain) for chains, plain in PASS_THROUGH)):
+            self.assertEqual(self.copied(t, marks), expected, (t, marks))
+
+    def test_every_marks(self) -> None:
+        for t in [*REFERENCE, *OUTSIDE[:2], *(chains for chains, _ in PASS_THROUGH)]:
+            for marks in itertools.product((0, 1), repeat=t[0]):
+                if sum(marks) >= 2:
+                    self.assert_strict(self.copied(t, marks))
+
+    def test_random_trees(self) -> None:
+        """With pass-through nodes or without: the words of two copies are the same exactly if the kept splits are."""
+        rng, outcomes = random.Random(60), []
+        for case in range(450):
+            n = 2 + case % 12
+            t, u = rng.choice([random_pair, related_pair])(rng, n) if n > 3 else (random_table(rng, n), random_table(rng, n))
+            t, u = (randomly_chained(rng, one) if rng.random() < 0.5 else one for one in (t, u))
+            marks = some_kept(rng, n)
+            kept = {label for label, mark in enumerate(marks) if mark}
+            splits = [kept_splits(sides_of_table(one), kept) for one in (t, u)]
+            copy, other = self.copied(t, marks), self.copied(u, marks)
+            self.assert_strict(copy)
+            self.assertEqual(copy == other, splits[0] == splits[1], (t, u, marks))
+            self.assertEqual(self.asked(renumbered(t), marks, len(copy)), (0, len(copy), copy))
+            outcomes.append((copy == other, sum(marks) > 3))
+        self.assertGreater(min(outcomes.count((same, True)) for same in (False, True)), 45)
+
+    def test_256_tips(self) -> None:
+        """Up to 1024 nodes, with all labels kept, every second one, and two; no copy takes more than is lent by the package."""
+        rng, sizes = random.Random(61), []
+        worm, fan = shuffled(rng, caterpillar(256)), star(256)
+        for t in (worm, fan, shuffled(rng, balanced(256)), chained(rng, worm, 1024), chained(rng, fan, 1024)):
+            for marks in ([1] * 256, [0, 1] * 128, [0] * 254 + [1, 1]):
+                sizes.append(len(self.copied(t, marks)))
+        self.assertEqual((max(sizes), min(sizes)), (_library.COPY_WORDS, 6))
+
+    def test_refusals(self) -> None:
+        """Those of the table, then 32, then 35, then 36: a refused call answers no words, and every cell stays."""
+        numbers, wrong = set(), [[], [1] * 4, [1] * 6, [2, 1, 1, 1, 1], [0, 0, 0, 0, 255], [1] * 256]
+        few, good = [[0] * 5, [1, 0, 0, 0, 0], [0, 0, 0, 0, 1]], {(1,) * 5: 18, (0, 1, 1, 1, 1): 14, (0, 0, 1, 0, 1): 6}
+        tables = [*damaged(P), *(t for t, _ in LABEL_TROUBLE), P, P[:2] + [0]]
+        for t, marks, cells in itertools.product(tables, [*wrong, *few, *good], (0, 1, 5, 6, 13, 14, 17, 18, 19)):
+            needed_words = good.get(tuple(marks), 0)
+            expected = tree_refusal(t) or (32 if list(marks) in wrong else 35 if list(marks) in few else 36)
+            refusal, written, left = self.asked(t, marks, cells)
+            if expected == 36 and cells >= needed_words:
+                expected = 0
+            self.assertEqual((refusal, written), (expected, 0 if expected else needed_words), (t, marks, cells))
+            if expected:
+                self.assertEqual(left, [256 * byte for byte in pattern(cells)])
+            numbers.add(expected)
+        self.assertEqual(numbers, {0, *NUMBERS, 32, 35, 36})
+
+    def test_reasons(self) -> None:
+        """The package lends words enough; that there are too few is worded all the same."""
+        for t, struck, words in ((P, range(5), "refused 35: 0 tips kept; a tree needs 2 or more"),
+                                 (P, range(4), "refused 35: 1 tip kept; a tree needs 2 or more"),
+                                 (P, [6], "refused 32: there is no label 6 to strike: the labels are 0 to 4"),
+                                 (P[:-1], [], "refused 4: too short: words missing: 1; the table has 17 words, 2 + 2m is 18; "
+                                              "words are missing or left over: make the file again"),
+                                 ([], [], "refused 1: too short: 0 of the 2 words that tell n and m; the file is empty or ends too "
+                                          "early: make it again")):
+            with self.assertRaises(leskwyn.Refusal) as raised:
+                copies.of_table("a table", _library.words(t), list("abcde"), struck)
+            self.assertEqual(str(raised.exception), words)
+        with unittest.mock.patch.object(_library, "COPY_WORDS", 17), self.assertRaises(leskwyn.Refusal) as raised:
+            copies.of_table("a table", _library.words(P), list("abcde"))
+        self.assertEqual(str(raised.exception), "refused 36: the words lent for the copy are too few; it takes 2 + 2m for its own "
+                                                "m")
+
+
+class Copies(unittest.TestCase):
+    """The canonical copy of a named tree, and whether two trees are the same, by nested sets of names."""
+
+    def test_random_trees(self) -> None:
+        """In texts and in objects, with pass-through nodes or without, names struck or none: all trees with one's splits give its
+        copy, and so does the text of the copy."""
+        rng, kept_sizes = random.Random(62), set()
+        for case in range(70):
+            plain = random_named_trees(rng, 2 + case % 10, 1)[0]
+            names = sorted(plain.name.values())
+            struck = None if case % 4 == 0 else rng.sample(names, rng.randint(0, len(names) - 2))
+            kept = [name for name in names if name not in (struck or ())]
+            sides = sides_of(plain)
+            told = {"tips": len(names), "names": tuple(kept), "table": tuple(copy_table(sides, kept)),
+                    "struck": None if struck is None else tuple(sorted(struck))}
+            chains = with_pass_through(rng, plain, rng.randint(1, 5 * len(names)))
+            for tree in (plain, chains):
+                for given in (written_tree(rng, tree), in_nodes(tree)) if len(names) > 2 else (written_tree(rng, tree),):
+                    with self.subTest(case=case, given=given, struck=struck):
+                        found = leskwyn.canonical_copy(given, struck=struck)
+                        self.assertEqual(dataclasses.asdict(found), {"tree": "the tree", **told})
+                        self.assertEqual((found.newick, found.kept), (copy_text(sides, kept), len(kept)))
+                        again = leskwyn.canonical_copy(found.newick)
+                        self.assertEqual((again.newick, again.table, again.names), (found.newick, found.table, found.names))
+            kept_sizes.add(len(kept))
+        self.assertEqual(kept_sizes, set(range(2, 12)))
+
+    def test_same(self) -> None:
+        """Exactly if the splits of the kept names are, and the texts of the copies: of trees that differ in a tip or more, of which
+        one may have names that are struck."""
+        rng, outcomes = random.Random(63), []
+        for case in range(120):
+            names = random_names(rng, 4 + case % 5)
+            pair = [random_tree(rng, names + extra, rng.choice([0.3, 0.7])) for extra in ([], ["only here"] * (case % 3 == 0))]
+            struck = rng.sample(names, rng.randint(0, len(names) - 2)) + ["only here"] * (case % 3 == 0)
+            kept = set(names) - set(struck)
+            splits = [kept_splits(sides_of(tree), kept) for tree in pair]
+            texts = [written_tree(rng, with_pass_through(rng, tree, case % 4)) for tree in pair]
+            own = [[name for name in struck if name in tree.name.values()] for tree in pair]
+            with self.subTest(case=case, texts=texts, struck=struck):
+                found = leskwyn.same(*texts, struck=struck)
+                self.assertEqual(found, splits[0] == splits[1])
+                self.assertEqual((leskwyn.same(*texts[::-1], struck=iter(struck)), leskwyn.same("".join(texts), struck=struck)),
+                                 (found, found))
+                newicks = {leskwyn.canonical_copy(text, struck=gone).newick for text, gone in zip(texts, own)}
+                self.assertEqual(len(newicks) == 1, found)
+            outcomes.append(found)
+        self.assertTrue(30 < sum(outcomes) < 90, sum(outcomes))
+
+    def test_no_distance_means_the_same(self) -> None:
+        rng, outcomes = random.Random(64), set()
+        for case in range(40):
+            texts = [written_tree(rng, tree) for tree in random_named_trees(rng, 4 + case % 4)]
+            struck = rng.sample(leskwyn.compare(*texts).names, case % 3)
+            found = leskwyn.compare(*texts, struck=struck)
+            self.assertEqual(leskwyn.same(*texts, struck=struck), found.distance == 0)
+            outcomes.add(found.distance == 0)
+        self.assertEqual(outcomes, {False, True})
+
+    def test_the_example_trees(self) -> None:
+        """Without Azores, feathers hang at Bute; without Coll, feathers and wings are the same."""
+        found = leskwyn.canonical_copy(FEATHERS, struck=["Azores"])
+        self.assertEqual((found.newick, found.tree, found.tips, found.kept, found.struck),
+                         ("(Bute,Coll,(Foula,(Lundy,Texel)));", str(FEATHERS), 6, 5, ("Azores",)))
+        self.assertEqual([leskwyn.same(FEATHERS, str(WINGS), struck=struck) for struck in (None, ["Azores"], ["Coll"])],
+                         [False, False, True])
+
+    def test_256_tips(self) -> None:
+        """A caterpillar, from either end, and with one tip moved from one end to the other."""
+        names = [f"t{i:03}" for i in range(256)]
+        worm, back, moved = ("".join(f"({name}," for name in order[:-1]) + order[-1] + ")" * 255 + ";"
+                             for order in (names, names[::-1], names[1:] + names[:1]))
+        self.assertEqual((leskwyn.same(worm, back), leskwyn.same(worm, moved), leskwyn.same(worm, moved, struck=["t000"])),
+                         (True, False, True))
+        self.assertEqual(leskwyn.canonical_copy(back).newick, "(t000,t001," + "".join(f"({name}," for name in names[2:-1])
+                         + "t255" + ")" * 254 + ";")
+
+    def test_common(self) -> None:
+        pair = ["((a,b),(c,d,x));", "((a,c),(b,d),(y,z));"]
+        with self.assertRaisesRegex(leskwyn.Refusal, "^the trees have different tips: only the first tree has 'x'; only the second "
+                                                     "tree has 'y', 'z'; --common"):
+            leskwyn.same(*pair)
+        with self.assertRaisesRegex(leskwyn.Refusal, "^the trees have different tips: only the second tree has 'z'; --common"):
+            leskwyn.same(*pair, struck=["x", "y"])
+        self.assertEqual([leskwyn.same(*pair, common=True), leskwyn.same(*pair, common=True, struck=["d"]),
+                          leskwyn.same(*pair, struck=["x", "y", "z"]), leskwyn.same(*pair, struck=list("xyzd"))],
+                         [False, True, False, True])
+
+    def test_comparison_files(self) -> None:
+        """With labels for names; refused as a pair is, and then by 35."""
+        rng, outcomes = random.Random(65), set()
+        for case in range(60):
+            t, u = related_pair(rng, 4 + case % 4)
+            struck = [label for label, mark in enumerate(some_kept(rng, t[0])) if not mark]
+            kept = set(range(t[0])) - set(struck)
+            splits = [kept_splits(sides_of_table(one), kept) for one in (t, u)]
+            found = api.same_file("file", packed(t, u), list(map(str, struck)))
+            self.assertEqual(found, (splits[0] == splits[1], len(kept), tuple(map(str, struck))))
+            outcomes.add(found.is_same)
+        self.assertEqual(outcomes, {False, True})
+        with tempfile.NamedTemporaryFile() as file:
+            file.write(packed(P, Q))
+            file.flush()
+            self.assertEqual([leskwyn.same(file.name), leskwyn.same(file.name, struck=[0]), leskwyn.same(file.name, struck=["2"])],
+                             [False, False, True])
+            with self.assertRaisesRegex(leskwyn.Refusal, f"^{re.escape(file.name)} is a comparison file, without names: "):
+                leskwyn.canonical_copy(file.name)
+        for content, struck, number in ((packed(P[:-1]), "9", 4), (packed(P), "9", 101), (b"", "9", 1), (packed(P, THREE), "9", 8),
+                                        (packed(THREE, P), "01", 8), (packed(P, Q), "9", 32), (packed(P, Q), "01234", 35),
+                                        (packed(P, Q), "0124", 35), (packed(P, Q) + b"\0", "9", 15),
+                                        *((packed(t, Q), "9", number) for t, number in LABEL_TROUBLE),
+                                        *((packed(Q, t), "01234", 100 + number) for t, number in LABEL_TROUBLE)):
+            with self.assertRaises(leskwyn.Refusal) as raised:
+                api.same_file("file", content, list(struck))
+            self.assertEqual((raised.exception.number, raised.exception.reason[:6]), (number, "file: "))
+
+    def test_refusals(self) -> None:
+        for call, given, struck, told in (
+                (leskwyn.canonical_copy, ["(a,(b,c));"], ["a", "b"], "refused 35: the tree: 1 tip kept; a tree needs 2 or more"),
+                (leskwyn.canonical_copy, [WINGS], ["Zeist"], "cannot strike 'Zeist': not a tip of the tree"),
+                (leskwyn.canonical_copy, ["(a,b);(a,b);"], None, "the tree: 2 trees in the file; one tree is needed here"),
+                (leskwyn.canonical_copy, ["(a,b,a);"], None, "the tree: repeated tip names: 'a'; each population stands once in a "
+                                                            "tree"),
+                (leskwyn.same, ["(a,(b,c));", "(a,b,c);"], list("abc"), "refused 35: 0 tips kept; a tree needs 2 or more"),
+                (leskwyn.same, [FEATHERS, WINGS], ["Zeist", "Yell"], "cannot strike 'Zeist', 'Yell': not tips of either tree"),
+                (leskwyn.same, ["(a,(b,c));", "(a,b,b);"], None, "the second tree: repeated tip names: 'b'; each population stands "
+                                                               "once in a tree")):
+            with self.assertRaises(leskwyn.Refusal) as raised:
+                call(*given, struck=struck)
+            self.assertEqual(str(raised.exception), told)
+        for call in (leskwyn.canonical_copy, leskwyn.same):
+            with self.assertRaisesRegex(TypeError, "^struck is a str; names are needed, as a list$"):
+                call(pathlib.Path("absent.nwk"), struck="Coll")
+            with self.assertRaisesRegex(leskwyn.Trouble, "cannot read absent.nwk"):
+                call(pathlib.Path("absent.nwk"))
+
+
 class Weights(unittest.TestCase):
     """The spellings of a weight, and the sentence that turns another one away."""
 
@@ -1669,6 +1925,10 @@ class Answers(unittest.TestCase):
                 part.same = 0
         self.assertEqual(json.loads(json.dumps(driven.as_dict())), driven.as_dict())
         self.assertEqual(len({driven, leskwyn.influence(FEATHERS, WINGS, struck=["Foula"], drop=1)}), 1)
+        copy = leskwyn.canonical_copy(FEATHERS, struck=["Foula"])
+        with self.assertRaises(dataclasses.FrozenInstanceError):
+            copy.table = ()
+        self.assertEqual(len({copy, leskwyn.canonical_copy(FEATHERS, struck=["Foula"])}), 1)
 
     def test_errors(self) -> None:
         with tempfile.NamedTemporaryFile() as file:
@@ -1701,7 +1961,8 @@ class Answers(unittest.TestCase):
     def test_help(self) -> None:
         for name in leskwyn.__all__:
             self.assertTrue(getattr(leskwyn, name).__doc__, name)
-        for answer in (leskwyn.Comparison, leskwyn.Evidence, leskwyn.Witness, leskwyn.Influence, leskwyn.Holding, leskwyn.Dropped):
+        for answer in (leskwyn.Comparison, leskwyn.Evidence, leskwyn.Witness, leskwyn.Influence, leskwyn.Holding, leskwyn.Dropped,
+                       leskwyn.CanonicalCopy):
             for field in dataclasses.fields(answer):
                 self.assertRegex(answer.__doc__, rf"(?m)^ *(\w+, )*{field.name}\b")
 

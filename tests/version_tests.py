@@ -73,7 +73,7 @@ class Versions(unittest.TestCase):
         telling = [path.name for path in (ROOT / "python").rglob("*.*")
                    if path.suffix in (".py", ".toml") and newest() in path.read_text(encoding="utf-8")]
         self.assertEqual(telling, ["__init__.py"])
-        for command in ([], ["compare"], ["against"], ["matrix"], ["why"], ["influence"], ["table"], ["show"]):
+        for command in ([], ["compare"], ["against"], ["matrix"], ["why"], ["influence"], ["copy"], ["same"], ["table"], ["show"]):
             told = printed("env", "PYTHONPATH=python", sys.executable, "-B", "-m", "leskwyn", *command, "--version")
             self.assertEqual(told, f"leskwyn (Leskwyn) {newest()}\n")
 

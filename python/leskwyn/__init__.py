@@ -10,6 +10,8 @@ against(a, trees)    one tree against many, a list of them
 matrix(trees)        the distances of all pairs, a square of numbers
 why(a, b, names)     why two trees part four populations alike or differently, an Evidence
 influence(a, b)      which populations drive the distance of two trees, an Influence
+canonical_copy(a)    a tree in the form that all trees with its splits have, a CanonicalCopy
+same(a, b)           whether two trees are the same
 
 A tree is Newick text, the path of a file, or a tree object of DendroPy or ETE. What is turned away is a Refusal, and what
 cannot be read a Trouble; both are a LeskwynError, with the fields number and reason. docs/COMMANDS.md has the commands
@@ -21,12 +23,13 @@ __version__ = "0.10.0"
 
 # This file and __main__.py are written so that old Pythons can read them, and say a sentence.
 if sys.version_info >= (3, 10):
-    from leskwyn.api import against, compare, influence, matrix, why
+    from leskwyn.api import against, canonical_copy, compare, influence, matrix, same, why
+    from leskwyn.copies import CanonicalCopy
     from leskwyn.errors import LeskwynError, Refusal, Trouble
     from leskwyn.evidence import Evidence, Witness
     from leskwyn.figures import Comparison
     from leskwyn.holding import Dropped, Holding, Influence
-    __all__ = ["Comparison", "Dropped", "Evidence", "Holding", "Influence", "LeskwynError", "Refusal", "Trouble", "Witness",
-               "against", "compare", "influence", "matrix", "why"]
+    __all__ = ["CanonicalCopy", "Comparison", "Dropped", "Evidence", "Holding", "Influence", "LeskwynError", "Refusal", "Trouble",
+               "Witness", "against", "canonical_copy", "compare", "influence", "matrix", "same", "why"]
 elif sys.argv[:1] not in (["-m"], ["-c"]):
     raise ImportError("leskwyn needs Python 3.10 or newer; this is Python %d.%d" % sys.version_info[:2])

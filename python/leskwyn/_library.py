@@ -14,6 +14,8 @@ from leskwyn.errors import Trouble
 TOP = os.path.dirname(os.path.dirname(os.path.dirname(os.path.abspath(__file__))))
 # LESKWYN_WORK_CELLS of the header: enough for every pair, (1024 - 1)(1024 - 1).
 WORK_CELLS = 1046529
+# Enough for every canonical copy: 2 + 2m words, where m is 2n - 2 at most and n 256.
+COPY_WORDS = 1022
 MOST_WORD = 65535
 # The work, a byte for each cell.
 Cells = ctypes.Array[ctypes.c_uint8]
@@ -46,6 +48,10 @@ class Evidence(ctypes.Structure):
 
 class FiveCounts(ctypes.Structure):
     _fields_ = [("refusal", ctypes.c_uint16), *((name, ctypes.c_uint64) for name in "abcde")]
+
+
+class CopyAnswer(ctypes.Structure):
+    _fields_ = [(name, ctypes.c_uint16) for name in ("refusal", "words")]
 
 
 class PairCall(typing.NamedTuple):
@@ -126,6 +132,8 @@ def library() -> ctypes.CDLL:
             call = getattr(found, name)
             call.argtypes = slice_of_words * 2 + slice_of_bytes * (is_marked + has_work) + besides
             call.restype = answer
+        found.leskwyn_canonical_copy.argtypes = slice_of_words + slice_of_bytes + slice_of_words
+        found.leskwyn_canonical_copy.restype = CopyAnswer
         found.leskwyn_version.argtypes, found.leskwyn_version.restype = [], ctypes.c_uint32
     except (OSError, AttributeError) as error:
         raise Trouble(f"cannot load the library {path}: {error}") from None
@@ -183,3 +191,9 @@ def change_mark(first: Words, second: Words, marked: Marks, counts: Sequence[int
     """The five counts after the label gets the mark 1, kept, or 0, struck, or a refusal. `counts` are those before, and the mark
     changes in `marked`."""
     return ask("leskwyn_change_mark", FiveCounts, first, second, marked, None, *counts, label, mark)
+
+
+def canonical_copy(table: Words, marked: Marks, lent: Words) -> CopyAnswer:
+    """The canonical copy of the kept part of one tree, written into the lent words, and how many words it has; or a refusal."""
+    answer: CopyAnswer = library().leskwyn_canonical_copy(*table, *marked, *lent)
+    return answer

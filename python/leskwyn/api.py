@@ -1,17 +1,18 @@
-"""What Python callers use: compare, against, matrix, why and influence."""
+"""What Python callers use: compare, against, matrix, why, influence, canonical_copy and same."""
 import contextlib
 from collections.abc import Iterable, Iterator, Sequence
 
-from leskwyn import _library, counting, evidence, files, holding
+from leskwyn import _library, copies, counting, evidence, files, holding
+from leskwyn.copies import CanonicalCopy, Sameness
 from leskwyn.counting import Number
 from leskwyn.errors import Refusal
 from leskwyn.evidence import Evidence
 from leskwyn.figures import Comparison
 from leskwyn.holding import Influence
-from leskwyn.labels import labels_given, labels_of_tips, labels_struck, outgroup_first
+from leskwyn.labels import labels_given, labels_of_tips, labels_struck, outgroup_first, tips_struck
 from leskwyn.sources import ComparisonFile, Given, is_comparison_file, named_file, trees_given, trees_of_bytes
 from leskwyn.tables import tables_of_file
-from leskwyn.trees import Placed, checked, labels_of_names, pruned, table_of
+from leskwyn.trees import Placed, check_same_names, checked, labels_of_names, pruned, table_of
 from leskwyn.weights import GivenWeight, Weight, weight_of
 
 
@@ -136,6 +137,41 @@ def influence(a: Given, b: Given = None, *, common: bool = False, struck: Iterab
     return influence_trees(*pair, common=common, struck=words, drop=drop)
 
 
+def canonical_copy(tree: Given, *, struck: Iterable[str | int] | None = None) -> CanonicalCopy:
+    """The kept part of one tree in its canonical form, as a CanonicalCopy: two trees on the same kept tips have the same `newick`
+    and the same `table` exactly if they have the same splits of these.
+
+    The tree is given as to compare. The names in `struck` are left out of the copy; two names or more must be kept. Labels go by
+    the sorted names, so that the order in which a file has them plays no part.
+
+    Raises Refusal and Trouble as compare does.
+
+        >>> leskwyn.canonical_copy("((d,c),x,(b,a));", struck=["x"]).newick
+        '(a,b,(c,d));'
+    """
+    words = struck_words(struck)
+    return copy_tree(*trees_given(tree, "the tree", 1), words)
+
+
+def same(a: Given, b: Given = None, *, common: bool = False, struck: Iterable[str | int] | None = None) -> bool:
+    """Whether two trees are the same on the kept tips: whether their canonical copies have the same words.
+
+    The trees are given as to compare, and `common` and `struck` are as there, but for this: a struck name may be a tip of one tree
+    alone. Two names or more must be kept.
+
+    Raises Refusal and Trouble as compare does.
+
+        >>> leskwyn.same("((a,b),(c,d));", "(d,c,(b,a));"), leskwyn.same("((a,b),(c,d));", "((a,c),(b,d));")
+        (True, False)
+        >>> leskwyn.same("((a,b),(c,d));", "((a,c),(b,(d,x)));", struck=["d", "x"])
+        True
+    """
+    words, pair = struck_words(struck), pair_given(a, b, None)
+    if isinstance(pair, ComparisonFile):
+        return same_file(*pair, words).is_same
+    return same_trees(*pair, common=common, struck=words).is_same
+
+
 # ---- what these share with the commands
 
 def pair_given(a: Given, b: Given, outgroup: str | None) -> list[Placed] | ComparisonFile:
@@ -180,7 +216,7 @@ def places_in(place: str) -> tuple[str, str]:
 
 @contextlib.contextmanager
 def refusals_of(place: str) -> Iterator[None]:
-    """A refusal inside tells the comparison file."""
+    """A refusal inside tells the file."""
     try:
         yield
     except Refusal as refusal:
@@ -240,6 +276,38 @@ def influence_file(place: str, content: bytes, struck: Sequence[str] | None = No
     first, second = map(_library.words, tables_of_file(place, content))
     with refusals_of(place):
         return holding.of_tables(places_in(place), first, second, (), optional_labels(struck), drop)
+
+
+def copy_without(placed: Placed, names: list[str], struck: Sequence[int] | None) -> CanonicalCopy:
+    """The copy of a tree, of its names in the order of their labels, without the labels that are struck."""
+    return copies.of_table(placed.place, _library.words(table_of(placed.tree, labels_of_names(names))), names, struck)
+
+
+def copy_tree(placed: Placed, struck: Sequence[str] | None = None) -> CanonicalCopy:
+    names = checked([placed])
+    labels = None if struck is None else labels_struck(struck, names, "the tree")
+    with refusals_of(placed.place):
+        return copy_without(placed, names, labels)
+
+
+def same_trees(first: Placed, second: Placed, *, common: bool = False, struck: Sequence[str] | None = None) -> Sameness:
+    """Whether two trees are the same. Each has labels of its own, by its sorted names; in the copies kept names have the same
+    labels, since the struck ones, which one tree alone may have, are gone."""
+    trees = pruned([first, second]).trees if common else [first, second]
+    names = [checked([placed]) for placed in trees]
+    every = sorted(set(names[0] + names[1]))
+    gone = tips_struck(struck or (), every, "either tree")
+    check_same_names(*trees, gone)
+    one, other = (copy_without(placed, own, [label for label, name in enumerate(own) if name in gone])
+                  for placed, own in zip(trees, names))
+    return Sameness(one.table == other.table, one.kept, None if struck is None else tuple(sorted(gone)))
+
+
+def same_file(place: str, content: bytes, struck: Sequence[str] | None = None) -> Sameness:
+    """Whether the trees of a comparison file are the same without the labels that are struck."""
+    first, second = map(_library.words, tables_of_file(place, content))
+    with refusals_of(place):
+        return copies.sameness(first, second, optional_labels(struck))
 
 
 def all_trees(trees: Iterable[Given]) -> list[Placed]:

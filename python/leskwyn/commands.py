@@ -1,8 +1,9 @@
-"""The commands compare, why, influence, matrix and against, and the way from the command line to each command.
+"""The commands compare, why, influence, copy, same, matrix and against, and the way from the command line to each command.
 
     leskwyn COMMAND [OPTION...] [FILE...]
 
-Exit status: 0 done; 1 the trees are refused; 2 wrong usage, a file that cannot be read or written, or no library.
+Exit status: 0 done; 1 the trees are refused; 2 wrong usage, a file that cannot be read or written, or no library. Of same: 0 the
+trees are the same; 1 they differ; 2 all else.
 """
 import argparse
 import os
@@ -12,7 +13,9 @@ from collections.abc import Callable
 
 from leskwyn import __version__, counting, files, text
 from leskwyn._library import TOP
-from leskwyn.api import compare_file, compare_trees, influence_file, influence_trees, optional_struck, why_file, why_trees
+from leskwyn.api import (compare_file, compare_trees, copy_tree, influence_file, influence_trees, optional_struck, same_file,
+                         same_trees, why_file, why_trees)
+from leskwyn.copies import Sameness
 from leskwyn.errors import LeskwynError, Refusal, Trouble, counted, quoted
 from leskwyn.figures import Comparison
 from leskwyn.labels import outgroup_first
@@ -31,6 +34,8 @@ Counts population trees against each other, four populations at a time, by a lib
   leskwyn why A B NAME NAME NAME NAME
                                    four populations: how each tree parts them, and by which edge
   leskwyn influence A B            each population: how far it drives the distance
+  leskwyn same A B                 two trees: whether they are the same
+  leskwyn copy FILE                one tree, in the form that all trees with its splits have
   leskwyn against REF FILE...      one tree against many, a row for each
   leskwyn matrix FILE...           all pairs of trees, a square of distances
   leskwyn table A B -o PAIR        two trees as one comparison file
@@ -39,7 +44,8 @@ Counts population trees against each other, four populations at a time, by a lib
 
 Each command has its own --help. Trees are Newick text, with 2 to 256 tips; - stands for standard input.
 
-exit status: 0 done; 1 the trees are refused; 2 wrong usage, a file that cannot be read or written, or no library
+exit status: 0 done; 1 the trees are refused; 2 wrong usage, a file that cannot be read or written, or no library;
+             of same: 0 the same; 1 different; 2 all else
 """
 EXAMPLES = ("examples/feathers.nwk", "examples/wings.nwk")
 INTERRUPTED = 130
@@ -74,6 +80,13 @@ def check_pair(parser: Parser, options: argparse.Namespace, fewest: int, hint: s
     if not fewest <= len(options.trees) <= 2 or options.tables and len(options.trees) != 1:
         parser.error(f"{len(options.trees)} files; " + ("one comparison file is needed" if options.tables else
                                                         f"one or two are needed{hint}"))
+
+
+def pair_options(parser: Parser, arguments: list[str]) -> argparse.Namespace:
+    """The options of a command that takes the trees of two files, or of one, and strikes."""
+    options = parser.parsed(arguments, "trees", "strike_file")
+    check_pair(parser, options, 1)
+    return options
 
 
 # ---- compare
@@ -214,10 +227,7 @@ def influence_parser() -> Parser:
 
 
 def influence_options(arguments: list[str]) -> argparse.Namespace:
-    parser = influence_parser()
-    options = parser.parsed(arguments, "trees", "strike_file")
-    check_pair(parser, options, 1)
-    return options
+    return pair_options(influence_parser(), arguments)
 
 
 def influence_command(options: argparse.Namespace) -> int:
@@ -230,6 +240,69 @@ def influence_command(options: argparse.Namespace) -> int:
     if options.format != "text" and text.told_end(found):
         files.say_line(f"note: {text.told_end(found)}")
     return 0
+
+
+# ---- copy and same
+
+def copy_parser() -> Parser:
+    parser = Parser("copy", usage="leskwyn copy FILE [--table] [--strike NAME]... [--strike-file FILE]...",
+                    description="Prints the canonical copy of a tree: the one Newick text of all trees with the same splits of the "
+                                "kept\npopulations.",
+                    epilog="The copy hangs at the first of the sorted names that are kept, and branches stand in the order of their "
+                           "first\nnames. Two populations or more must be kept.\n" + STATUS)
+    parser.add_argument("trees", nargs="*", metavar="FILE", help="a Newick file of one tree; - is standard input")
+    parser.add_argument("--table", action="store_true", help="print the table of the copy in place of the line, as show does")
+    add_strike(parser)
+    return parser
+
+
+def copy_options(arguments: list[str]) -> argparse.Namespace:
+    parser = copy_parser()
+    options = parser.parsed(arguments, "trees", "strike_file")
+    parser.check_one(options.trees)
+    return options
+
+
+def copy_command(options: argparse.Namespace) -> int:
+    found = copy_tree(*trees_of_path(options.trees[0], 1), struck_names(options))
+    if found.struck is not None:
+        files.say_line(text.told_struck(found.struck, found.tips))
+    files.print_text("".join(f"{line}\n" for line in (found.lines() if options.table else [found.newick])))
+    return 0
+
+
+def same_parser() -> Parser:
+    parser = Parser("same", usage="leskwyn same A [B] [--quiet] [--strike NAME]... [--strike-file FILE]... [--common] [--tables]",
+                    description="Tells whether two trees are the same on the kept populations: whether their canonical copies are.",
+                    epilog="The trees are given as to compare; a struck population may be in one of them alone.\n\n"
+                           "exit status: 0 the same; 1 different; 2 refused, wrong usage, a file that cannot be read or written, "
+                           "or no library")
+    parser.add_argument("trees", nargs="*", metavar="FILE", help="Newick or comparison files; - is standard input")
+    parser.add_argument("--quiet", action="store_true", help="print nothing: the exit status tells")
+    add_strike(parser)
+    add_common(parser)
+    add_tables(parser)
+    return parser
+
+
+def same_options(arguments: list[str]) -> argparse.Namespace:
+    return pair_options(same_parser(), arguments)
+
+
+def sameness(options: argparse.Namespace) -> Sameness:
+    """Trees that are refused are trouble here: the status of a refusal says that they differ."""
+    try:
+        pair, struck = pair_read(same_parser(), options), struck_names(options)
+        return same_file(*pair, struck) if isinstance(pair, ComparisonFile) else same_trees(*pair, struck=struck)
+    except Refusal as refusal:
+        raise Trouble(refusal.reason, refusal.number) from None
+
+
+def same_command(options: argparse.Namespace) -> int:
+    found = sameness(options)
+    if not options.quiet:
+        files.print_text(f"{text.told_sameness(found)}\n")
+    return 0 if found.is_same else 1
 
 
 # ---- many trees
@@ -355,7 +428,8 @@ class Counting(typing.NamedTuple):
 
 COUNTING = {"compare": Counting(compare_options, compare_command), "matrix": Counting(matrix_options, matrix_command),
             "against": Counting(against_options, against_command), "why": Counting(why_options, why_command),
-            "influence": Counting(influence_options, influence_command)}
+            "influence": Counting(influence_options, influence_command), "copy": Counting(copy_options, copy_command),
+            "same": Counting(same_options, same_command)}
 OTHERS = {"table": table_command, "show": show_command}
 
 

@@ -45,15 +45,20 @@ def labels_of_tips(words: Sequence[str], names: list[str]) -> list[int]:
     return [names.index(name) for name in tips]
 
 
-def labels_struck(words: Sequence[str], names: list[str]) -> list[int]:
-    """The labels of the tips that are struck, in their order, of the names in the order of their labels. A tip may stand more than
+def tips_struck(words: Sequence[str], names: list[str], whose: str) -> set[str]:
+    """The tips that are struck, of these names; `whose` tells in a message of which trees they are tips. A tip may stand more than
     once."""
     found = {word: tip_named(word, names) for word in words}
     strange = [word for word, name in found.items() if name is None]
     if strange:
-        raise Refusal(f"cannot strike {some_of(strange)}: not {'a tip' if len(strange) == 1 else 'tips'} of every tree"
+        raise Refusal(f"cannot strike {some_of(strange)}: not {'a tip' if len(strange) == 1 else 'tips'} of {whose}"
                       + form_hint(strange, names))
-    tips = set(found.values())
+    return {name for name in found.values() if name is not None}
+
+
+def labels_struck(words: Sequence[str], names: list[str], whose: str = "every tree") -> list[int]:
+    """The labels of the tips that are struck, in their order, of the names in the order of their labels."""
+    tips = tips_struck(words, names, whose)
     return [label for label, name in enumerate(names) if name in tips]
 
 

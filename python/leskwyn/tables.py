@@ -7,7 +7,7 @@ import struct
 import typing
 from collections.abc import Sequence
 
-from leskwyn.errors import NAMED_AT_MOST, Refusal, counted
+from leskwyn.errors import NAMED_AT_MOST, Refusal, counted, one_line
 from leskwyn.trees import FEWEST_TIPS, INNER, MOST_TIPS, NODES_FOR_A_TIP, Table
 
 COMPARE_BYTES = 1016
@@ -153,12 +153,33 @@ def wrong_marks(marks: Sequence[int], tips: int) -> str:
     return f"the mark of label {label} is {marks[label]}, neither 1, kept, nor 0, struck"
 
 
+def marks_refusal(number: int, table: Table, marks: Sequence[int]) -> Refusal | None:
+    """The refusal of the marks of a table's labels, or of how many they keep, by the library's number; None for another number."""
+    if number == 32:
+        return Refusal(wrong_marks(marks, table[0]), number)
+    if number == 35:
+        return Refusal(f"{counted(sum(marks), 'tip')} kept; a tree needs {FEWEST_TIPS} or more", number)
+    return None
+
+
+def copy_refusal(number: int, table: Table, marks: Sequence[int]) -> Refusal:
+    """A refusal of a tree's copy by the library's number, with its reason."""
+    if number == 36:
+        return Refusal("the words lent for the copy are too few; it takes 2 + 2m for its own m", number)
+    found = broken_rule(table) if number in RULES else None
+    if found is not None and found.number == number:
+        return Refusal(f"{found.fault}; {found.advice}", number)
+    return (marks_refusal(number, table, marks)
+            or Refusal("the library refuses the tree, and README.md, 'Refusals', has the number", number))
+
+
 def pair_refusal(number: int, first: Table, second: Table, marks: Sequence[int] = ()) -> Refusal:
     """A refusal of two tables by the library's number, with the reason that the rules give."""
     if number == 8:
         return Refusal(f"the first tree has {first[0]} tips, the second {second[0]}; {DIFFERENT_TIPS}", number)
-    if number == 32:
-        return Refusal(wrong_marks(marks, first[0]), number)
+    of_marks = marks_refusal(number, first, marks)
+    if of_marks is not None:
+        return of_marks
     if number == 30:
         return Refusal("the weight is not k/256 with a k from 0 to 256", number)
     which = number // 100
@@ -175,7 +196,18 @@ def tables_of_file(place: str, content: bytes) -> tuple[Table, Table]:
     return cut(file_words(content))
 
 
-# ---- a table's tree as text
+# ---- a table, and its tree, as text
+
+def shown_lines(table: Table, names: Sequence[str] = ()) -> list[str]:
+    """What n and m are, and one line for each node of which any word is there; a name stands behind its label."""
+    lines = [f"n {table[0]}, m {table[1]}; node, parent, label{', name' if names else ''}:"]
+    for node in range(min(table[1], len(table) - 2)):
+        at = 2 + table[1] + node
+        label = "missing" if at >= len(table) else "inner" if table[at] == INNER else str(table[at])
+        name = f" {one_line(names[table[at]])}" if label.isdigit() and table[at] < len(names) else ""
+        lines.append(f"{node:5} {table[2 + node]:6} {label:>7}{name}")
+    return lines
+
 
 def written_name(name: str) -> str:
     """The name as Newick has it: in quotes, unless it can only be read as itself."""

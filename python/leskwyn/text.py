@@ -1,6 +1,8 @@
-"""Figures as text: for people, as TSV, as JSON, and squares of distances; the evidence for four tips; the influence of each."""
+"""Figures as text: for people, as TSV, as JSON, and squares of distances; the evidence for four tips; the influence of each;
+whether two trees are the same."""
 from collections.abc import Iterable, Sequence
 
+from leskwyn.copies import Sameness
 from leskwyn.counting import Number
 from leskwyn.errors import one_line
 from leskwyn.evidence import Evidence, Witness
@@ -248,3 +250,12 @@ def influence_tsv(i: Influence) -> str:
 
 
 INFLUENCE_FORMATS = {"text": influence_for_people, "tsv": influence_tsv, "json": line_json}
+
+
+# ---- whether two trees are the same
+
+def told_sameness(s: Sameness) -> str:
+    told = f"the trees {'are the same' if s.is_same else 'differ'}"
+    if s.struck is None:
+        return told
+    return f"{told} on the {s.kept} kept populations" + (f"; struck: {told_names(s.struck, len(s.struck))}" if s.struck else "")

@@ -68,9 +68,9 @@ def form_hint(only_first: Collection[str], only_second: Collection[str]) -> str:
             "(NFC)")
 
 
-def check_same_names(first: Placed, second: Placed) -> None:
-    """Tells all names that only one of the trees has."""
-    names = [set(placed.tree.tips()) for placed in (first, second)]
+def check_same_names(first: Placed, second: Placed, struck: Collection[str] = ()) -> None:
+    """Tells all names that only one of the trees has, but for struck ones."""
+    names = [set(placed.tree.tips()).difference(struck) for placed in (first, second)]
     only = [sorted(names[0] - names[1]), sorted(names[1] - names[0])]
     if not only[0] and not only[1]:
         return

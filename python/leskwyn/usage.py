@@ -7,7 +7,7 @@ from collections.abc import Callable, Sequence
 
 from leskwyn import __version__, files
 from leskwyn.counting import Progress
-from leskwyn.errors import quoted
+from leskwyn.errors import counted, quoted
 from leskwyn.labels import names_struck
 from leskwyn.trees import Placed, pruned
 from leskwyn.weights import SPELLINGS, Weight, weight_of
@@ -48,6 +48,10 @@ class Parser(argparse.ArgumentParser):
         if paths.count("-") > 1:
             self.error("standard input can be read only once")
 
+    def check_one(self, paths: list[str]) -> None:
+        if len(paths) != 1:
+            self.error(f"{counted(len(paths), 'file')}; one is needed")
+
     def parsed(self, arguments: list[str], names: str, *others: str) -> argparse.Namespace:
         """The options; `names` is the argument that takes files, and `others` are options that take files too."""
         options = self.parsed_words(arguments, names)
@@ -78,7 +82,7 @@ def add_weight(parser: Parser) -> None:
 
 def add_strike(parser: Parser) -> None:
     parser.add_argument("--strike", action="append", default=[], metavar="NAME",
-                        help="strike a population from the count, of a comparison file a label; may stand several times")
+                        help="strike a population, of a comparison file a label; may stand several times")
     parser.add_argument("--strike-file", action="append", default=[], metavar="FILE",
                         help="strike the populations of a file, one name a line; blank lines and those that begin with # are "
                              "passed over, and - is standard input")
