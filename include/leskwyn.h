@@ -75,7 +75,7 @@ extern "C" {
 #endif
 
 /* The version of this header as one number: major * 1000000 + minor * 1000 + patch. */
-#define LESKWYN_VERSION 10000
+#define LESKWYN_VERSION 11000
 
 /* The label word of an inner node. */
 #define LESKWYN_INNER 65535
