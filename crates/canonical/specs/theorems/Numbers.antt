@@ -152,14 +152,6 @@ module _ (up : ℕ → ℕ) (m : ℕ) (node : ℕ → ℕ) (k : ℕ) (h : TipRoo
 
   -- ---- earlier branches
 
-  pub earlier-all : (v c : ℕ) → c < m → Branch up m node k v c
-      → earlier up m node k v c + size up m node k c ≤ sum m (λ d. bit (branch up m node k v d) * size up m node k d)
-  unfolding earlier
-  earlier-all v c l a = grows m c (λ d. branch up m node k v d && ltb (low up m node k d) (low up m node k c)) (branch up m node k v) (size up m node k) l
-      (λ e t. and-iff (branch up m node k v e) _ .0 t .0)
-      (λ t. let q : low up m node k c < low up m node k c = lt-iff _ _ .0 (and-iff (branch up m node k v c) _ .0 t .1) in omega arith)
-      (branch-iff-of up m node k h v c a)
-
   pub earlier-next : (v c d : ℕ) → c < m → Branch up m node k v c → low up m node k c < low up m node k d
       → earlier up m node k v c + size up m node k c ≤ earlier up m node k v d
   unfolding earlier
@@ -172,6 +164,14 @@ module _ (up : ℕ → ℕ) (m : ℕ) (node : ℕ → ℕ) (k : ℕ) (h : TipRoo
     where
       less : (e : ℕ) → low up m node k e < low up m node k c → low up m node k e < low up m node k d
       less e p = omega arith
+
+  pub earlier-all : (v c : ℕ) → c < m → Branch up m node k v c
+      → earlier up m node k v c + size up m node k c ≤ sum m (λ d. bit (branch up m node k v d) * size up m node k d)
+  unfolding earlier
+  earlier-all v c l a = grows m c (λ d. branch up m node k v d && ltb (low up m node k d) (low up m node k c)) (branch up m node k v) (size up m node k) l
+      (λ e t. and-iff (branch up m node k v e) _ .0 t .0)
+      (λ t. let q : low up m node k c < low up m node k c = lt-iff _ _ .0 (and-iff (branch up m node k v c) _ .0 t .1) in omega arith)
+      (branch-iff-of up m node k h v c a)
 
   -- ---- numbers
 

@@ -380,11 +380,11 @@ module _ (ps labels ranks : List ℕ) (k : ℕ) (y : RootedArrays ps labels rank
                     ]
 
                 pub copied-into : (old new : List ℕ) → 2 + 2 * n ≤ length old → Written at' bits numbers above (length ps) k n old new
-                    → CopiedInto (copyOf (word ps) (length ps) (y .node) k) old new (2 + 2 * n)
-                copied-into old new room w = record {
+                    → (w : ℕ) → w ≡ 2 + 2 * n → CopiedInto (copyOf (word ps) (length ps) (y .node) k) old new w
+                copied-into old new room s w e = record {
                   short = λ q. absurd (omega (arith, copy-long));
                   long = λ q. (
-                    sym copy-long,
-                    written-over (copyOf up m node k) old new (2 + 2 * n) copy-long (w .long) (words-written old new room w) (w .rest),
+                    e ∙ sym copy-long,
+                    written-over (copyOf up m node k) old new (2 + 2 * n) copy-long (s .long) (words-written old new room s) (s .rest),
                   );
                 }

@@ -1,7 +1,7 @@
 -- What `canonical_copy` accepts, and what it leaves.
 -- Assumes nothing.
 use mathlib.Core.Path.{_≡_, refl, sym, _∙_, ap}
-use mathlib.Core.Logic.{_↔_}
+use mathlib.Core.Logic.{_↔_, _≢_}
 use mathlib.Core.List.{List, [], _∷_, _++_}
 use Prim.Native.Nat.{ℕ, _+_, _-_, _≤_, _<_}
 use native.Mathlib.Decide.{decLe, ℕ-discrete}
@@ -93,13 +93,22 @@ module _ (marks : List ℕ) (t : Table) (old : List ℕ) where
   abbrev c : List ℕ
   c = canonicalCopy marks t
 
+  -- the cells after an accepted call, and after a refused one
+  accepted-cells : refusal (copyOrder marks t (length old)) ≡ 0 → afterCopy marks t old ≡ writtenOver (canonicalCopy marks t) old
+  unfolding afterCopy
+  accepted-cells z = if-accepted number (writtenOver c old) _ z
+
+  refused-cells : refusal (copyOrder marks t (length old)) ≢ 0 → afterCopy marks t old ≡ old
+  unfolding afterCopy
+  refused-cells d = if-refused number (writtenOver c old) old d
+
   own : Copied marks t old (copyAnswer marks t (length old)) (afterCopy marks t old)
-  unfolding copyAnswer afterCopy
+  unfolding copyAnswer
   own = elim (ℕ-discrete (refusal (copyOrder marks t (length old))) 0) [
     | yes z ↦ (
         let h = copy-check marks t (length old) .0 z in
         let w = if-accepted number (length c) 0 z in
-        let n = if-accepted number (writtenOver c old) old z in
+        let n = accepted-cells z in
         record {
           number-told = refl;
           copied = λ q. rw (w, n, over-front c old) (copy-is-it (kept marks (tips t)) t (h .tree) (kept-rising marks (tips t)) (h .two));
@@ -111,7 +120,7 @@ module _ (marks : List ℕ) (t : Table) (old : List ℕ) where
         })
     | no d ↦ (
         let w = if-refused number (length c) 0 d in
-        let n = if-refused number (writtenOver c old) old d in
+        let n = refused-cells d in
         record {
           number-told = refl;
           copied = λ q. absurd (d q);

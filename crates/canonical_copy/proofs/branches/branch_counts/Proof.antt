@@ -73,7 +73,7 @@ loop-again c =
       omega (arith, l .inv .0),
       omega (arith, t .loop-test .taken),
       ⊎-elim
-          (λ h. rw (h .3) (counts-take _ _ _ (s .pre) (l .c) _ (l .inv .0) (t .loop-test .taken) (l .inv .2) _ (h .2 .ensures .0) (h .0 .taken)))
+          (λ h. rw (h .3) (counts-take _ _ _ (s .pre) (l .c) _ (l .inv .0) (t .loop-test .taken) (l .inv .2) _ (h .2 .ensures .0) (omega (arith, h .0 .taken))))
           (λ h. rw (h .1) (counts-skip _ _ _ (s .pre) (l .c) _ (l .inv .0) (t .loop-test .taken) (l .inv .2) (omega (arith, h .0 .left))))
           (c .if1 .came),
     )

@@ -67,7 +67,7 @@ loop-again c =
     let l = t .before .loop in
     let s = t .before .before .before in (
       omega (arith, t .loop-test .taken, l .inv .0),
-      lows-take _ _ (s .pre .0) (l .c) _ (t .loop-test .taken) (l .inv .0) (l .inv .1) _ (a .as-index .ensures .0) (omega (arith, s .pre .1)) (c .if1 .taken),
+      lows-take _ _ (s .pre .0) (l .c) _ (t .loop-test .taken) (l .inv .0) (l .inv .1) _ (a .as-index .ensures .0) (omega (arith, s .pre .1)) (omega (arith, c .if1 .taken)),
     )
 
 loop-less-2 : tie.Need-loop-less-2 Inv-loop μ-loop

@@ -8,10 +8,10 @@ use Rattle.canonical_copy.proofs.branches.stays.Statement.{statement}
 use Rattle.canonical_copy.proofs.branches.stays.Tie as tie
 
 returns : tie.Need-returns
-returns c = let a = c .before .args in bit-rank (a .rank) (a .k) (a .branches) (c .if1 .taken)
+returns c = let a = c .before .args in bit-rank (a .rank) (a .k) (a .branches) (omega (arith, c .if1 .taken))
 
 returns-2 : tie.Need-returns-2
-returns-2 c = let a = c .before .before .args in bit-branches (a .rank) (a .k) (a .branches) (c .if2 .taken)
+returns-2 c = let a = c .before .before .args in bit-branches (a .rank) (a .k) (a .branches) (omega (arith, c .if2 .taken))
 
 returns-3 : tie.Need-returns-3
 returns-3 c =

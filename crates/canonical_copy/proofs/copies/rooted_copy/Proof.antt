@@ -74,7 +74,7 @@ returns c =
     let a = c .before in
     record {
       into = λ y. too-short _ _ _ _ y _ (ranked a .node-ranks .ensures) _ (lowered a .lower .ensures) _ _ (branched a .branch-counts .ensures)
-          (stayed a .stay-bits .ensures) _ (added a .add-sizes .ensures) _ (a .as-index .ensures .0) _ (c .if1 .taken);
+          (stayed a .stay-bits .ensures) _ (added a .add-sizes .ensures) _ (a .as-index .ensures .0) _ (omega (arith, c .if1 .taken));
     }
 
 as-word-requires : tie.Need-as-word-requires
@@ -128,7 +128,7 @@ returns-2 c =
       into = λ y. copied-into _ _ _ _ y _ (ranked a .node-ranks .ensures) _ (lowered a .lower .ensures) _ _ (branched a .branch-counts .ensures)
           (stayed a .stay-bits .ensures) _ (added a .add-sizes .ensures) _ (a .as-index .ensures .0)
           _ _ (c .before .before .before .before .before .before .before .before .before .before .before .before .before .before .before .before .before .chain .ensures) _ (c .before .before .before .before .before .before .before .before .before .before .before .before .as-index2 .ensures .0) _ _ (c .before .before .before .before .before .before .before .before .before .before .before .numbers .ensures)
-          (c .before .before .before .before .before .before .before .before .parent-numbers .ensures) _ _ (omega (arith, c .before .before .before .before .before .before .before .before .before .before .before .before .before .before .before .before .before .before .before .before .before .before .if1 .left)) (c .before .before .write-words .ensures);
+          (c .before .before .before .before .before .before .before .before .parent-numbers .ensures) _ _ (omega (arith, c .before .before .before .before .before .before .before .before .before .before .before .before .before .before .before .before .before .before .before .before .before .before .if1 .left)) (c .before .before .write-words .ensures) _ (omega arith);
     }
 
 pub rooted-copy-spec : {M : Type 1} → statement M
