@@ -16,7 +16,7 @@
  * Threads. No globals, no allocation, no input or output. Calls from several threads at once need no lock, as long as
  * no two of them lend the same cells and nobody writes to a table or to marks that are being read. leskwyn_claim_sums,
  * leskwyn_quartet_table and leskwyn_weighted_distance take up to 240 kB of stack, leskwyn_triplet_table,
- * leskwyn_holding and leskwyn_change_mark up to 64 kB, the others up to 40 kB.
+ * leskwyn_holding, leskwyn_change_mark and leskwyn_canonical_copy up to 64 kB, the others up to 40 kB.
  *
  * A tree table. 16-bit words: n, the tips (2 to 256); m, the nodes (n to 4n); then m parent words; then m label words;
  * 2 + 2m words in all.
@@ -202,8 +202,8 @@ uint16_t leskwyn_reroot(const uint16_t *table, size_t table_words, uint16_t labe
  *   - Nodes are numbered depth first, a node before all that hangs from it, and the children of a node come in the
  *     order of the smallest label at or below each.
  * Two trees have copies of the same words under the same marks exactly if they have the same splits there, and what is
- * counted of two copies with all labels kept is what is counted of the two trees under the marks. As many cells as the
- * table has words are always enough. Refuses as the check does, then 32, 35 and 36.
+ * counted of two copies with all labels kept is what is counted of the two trees under the marks; their triplets are
+ * the sets of four that hold the smallest kept label. As many cells as the table has words are always enough. Refuses as the check does, then 32, 35 and 36.
  */
 leskwyn_copy_answer leskwyn_canonical_copy(const uint16_t *table, size_t table_words,
                                            const uint8_t *marks, size_t marks_count,

@@ -20,7 +20,7 @@
 //! Any words in slices of any length may be passed. The answer is the whole answer or a [`Refusal`]; a refused call
 //! changes no lent cell. No call allocates, keeps a slice, or touches anything global, so all may be made from several
 //! threads at once. [`claim_sums`], [`quartet_table`] and [`weighted_distance`] take up to 240 kB of stack,
-//! [`triplet_table`], [`holding`] and [`change_mark`] up to 64 kB, the others up to 40 kB.
+//! [`triplet_table`], [`holding`], [`change_mark`] and [`canonical_copy`] up to 64 kB, the others up to 40 kB.
 //!
 //! ```
 //! use leskwyn::{all_kept, quartet_table, work_cells, INNER as X};

@@ -8,7 +8,9 @@ use Prim.Native.Nat.{ℕ, _-_, _≤_, _<_}
 use native.Mathlib.Nat.{eq-zero-or-pos}
 use native.Mathlib.Decide.{ℕ-discrete}
 use native.Mathlib.Omega.{arith}
+use lib.ListN.{length}
 use Rattle.table_words.specs.Sizes.{tipsMost}
+use Rattle.sums.specs.theorems.CountLaws.{count-le}
 use Rattle.sums.specs.Bits.{bit}
 use Rattle.sums.specs.Swaps.{swapped}
 use Rattle.sums.specs.theorems.SwapLaws.{swapped-lt, swapped-one, swapped-second}
@@ -36,11 +38,12 @@ use Rattle.rerooting.specs.theorems.RerootedSplits.{rerooted-splits}
 use Rattle.canonical.specs.Original.{IsOriginal}
 use Rattle.canonical.specs.Canonical.{IsCanonical}
 use Rattle.canonical.specs.IsCopy.{IsCopy}
-use Rattle.canonical.specs.Copying.{copyOf}
+use Rattle.canonical.specs.Copying.{stays, copyOf}
 use Rattle.canonical.specs.CanonicalCopy.{fromFirst, tipNode, canonicalAt, canonicalCopy}
 use Rattle.canonical.specs.theorems.OneCanonical.{one-canonical}
 use Rattle.canonical.specs.theorems.Branches.{TipRooted}
-use Rattle.canonical.specs.theorems.CopyTree.{copy-tips}
+use Rattle.canonical.specs.theorems.CopyTree.{copy-tips, copy-nodes}
+use Rattle.canonical.specs.theorems.Positions.{size-all}
 use Rattle.canonical.specs.theorems.CopyCanonical.{copy-canonical, copy-splits}
 
 -- ---- a tree table is rooted at the tip of label 0
@@ -149,6 +152,19 @@ module _ (l : Labels) (t : Table) (g : IsTree t) (r : Rising (tips t) l) (two : 
 
   pub copy-accepted : refusal (treeOrder (canonicalAt l t)) ≡ 0
   copy-accepted = tree-check (canonicalAt l t) .1 (copy-is-original .tree)
+
+  -- the copy has no more words than the table
+  pub copy-no-longer : length (canonicalAt l t) ≤ length t
+  unfolding canonicalAt
+  copy-no-longer = omega (
+    arith,
+    copy-is-original .tree .words,
+    copy-nodes (parent t') (nodes t') (tipNode l t) (l .number) tip-rooted,
+    size-all (parent t') (nodes t') (tipNode l t) (l .number) tip-rooted,
+    count-le (nodes t') (stays (parent t') (nodes t') (tipNode l t) (l .number)),
+    from-first-nodes,
+    g .words,
+  )
 
 -- ---- copies of two trees are the same words exactly if the kept splits agree
 

@@ -1,4 +1,4 @@
--- IsCanonical tables with the same splits have the same words.
+-- Canonical tables with the same splits have the same words.
 -- Assumes nothing.
 use mathlib.Core.Path.{_≡_, refl, sym, _∙_, ap, subst}
 use mathlib.Core.Logic.{inl, inr}
