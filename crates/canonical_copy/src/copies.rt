@@ -13,6 +13,7 @@ use super::words::write_words;
 use marks::check_marks;
 use rerooting::reroot;
 use table_words::NODES;
+use table_words::TABLE_WORDS;
 use table_words::TIPS;
 use table_words::as_index;
 use table_words::as_word;
@@ -25,9 +26,6 @@ ghost use Rattle.canonical.specs.CanonicalCopy.{canonicalCopy};
 ghost use Rattle.canonical_copy.specs.CopyAnswer.{copyAnswer, afterCopy, Copied};
 ghost use Rattle.canonical_copy.specs.lemmas.RootedCopy.{RootedArrays, CopiedInto, CopiedFrom};
 ghost use Rattle.canonical_copy.specs.lemmas.KeptCopy.{RootedTable, TableCopied, KeptTable};
-
-// The words of the largest table.
-const WORDS: usize = 2 + 2 * NODES;
 
 // The number, and how many words the copy has.
 pub struct CopyAnswer {
@@ -84,7 +82,7 @@ fn kept_copy(table: &[u16], marks: &[u8], m: usize, k: u16, copy: &mut [u16]) ->
     ensures { λ r. ⌜ CopiedInto (canonicalCopy (now (marks .entry)) (now (table .entry))) (now (copy .entry)) (now (copy .exit)) r ⌝ }
 {
     let x = first_kept(marks);
-    let mut words = [0u16; WORDS];
+    let mut words = [0u16; TABLE_WORDS];
     reroot(table, as_word(x), &mut words);
     let ranks = label_ranks(marks, x, k);
     table_copy(&words[..2 + 2 * m], m, &ranks, k, copy)

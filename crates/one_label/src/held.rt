@@ -2,7 +2,7 @@
 use super::answers::FiveCounts;
 use kept_triplets::kept_triplets;
 use rerooting::reroot;
-use table_words::NODES;
+use table_words::TABLE_WORDS;
 use table_words::TIPS;
 use table_words::as_index;
 ghost use mathlib.Core.Path.{_≡_};
@@ -12,9 +12,6 @@ ghost use Rattle.table_words.specs.Sizes.{tipsMost};
 ghost use Rattle.marks.specs.Marks.{AreMarks};
 ghost use Rattle.tree_check.specs.lemmas.Sized.{Sized};
 ghost use Rattle.one_label.specs.lemmas.HeldCounts.{MarksExchanged, HeldAre};
-
-// The words of the largest table.
-const WORDS: usize = 2 + 2 * NODES;
 
 // The marks with those of 0 and x exchanged.
 fn exchanged_marks(marks: &[u8], x: usize) -> [u8; TIPS]
@@ -45,9 +42,9 @@ pub(crate) fn held_counts(
     requires { ⌜ Sized (now first) n m × Sized (now second) n k × AreMarks (now marks) n × (x < n) ⌝ }
     ensures { λ r. ⌜ HeldAre (now (first .entry)) (now (second .entry)) (now (marks .entry)) x r ⌝ }
 {
-    let mut one = [0u16; WORDS];
+    let mut one = [0u16; TABLE_WORDS];
     reroot(first, x, &mut one);
-    let mut two = [0u16; WORDS];
+    let mut two = [0u16; TABLE_WORDS];
     reroot(second, x, &mut two);
     let turned = exchanged_marks(marks, as_index(x));
     let table = kept_triplets(&one[..2 + 2 * m], &two[..2 + 2 * k], &turned[..n]);

@@ -19,6 +19,9 @@ pub const INNER: usize = 65535;
 // The length of an array that has a cell for each node, or for each label.
 pub const NODES: usize = 1024;
 
+// The length of an array that holds the words of any table.
+pub const TABLE_WORDS: usize = 2 + 2 * NODES;
+
 // The length of an array that has a cell for where the directed edges into each node begin, and one for their end.
 pub const STARTS: usize = 1025;
 

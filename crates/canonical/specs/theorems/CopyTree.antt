@@ -1,4 +1,4 @@
--- The copy is a tree table: document 01's rules, one by one.
+-- The copy is a tree table under the original rules, one by one.
 -- Assumes nothing.
 use mathlib.Core.Path.{_≡_, refl, sym, _∙_, ap, subst}
 use mathlib.Core.Bool.{Bool, true, false, not}
