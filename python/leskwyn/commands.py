@@ -251,7 +251,7 @@ def copy_parser() -> Parser:
                     epilog="The copy hangs at the first of the sorted names that are kept, and branches stand in the order of their "
                            "first\nnames. Two populations or more must be kept.\n" + STATUS)
     parser.add_argument("trees", nargs="*", metavar="FILE", help="a Newick file of one tree; - is standard input")
-    parser.add_argument("--table", action="store_true", help="print the table of the copy in place of the line, as show does")
+    parser.add_argument("--table", action="store_true", help="print the words of the copy's table in place of the text")
     add_strike(parser)
     return parser
 
@@ -267,7 +267,7 @@ def copy_command(options: argparse.Namespace) -> int:
     found = copy_tree(*trees_of_path(options.trees[0], 1), struck_names(options))
     if found.struck is not None:
         files.say_line(text.told_struck(found.struck, found.tips))
-    files.print_text("".join(f"{line}\n" for line in (found.lines() if options.table else [found.newick])))
+    files.print_text(f"{' '.join(map(str, found.table)) if options.table else found.newick}\n")
     return 0
 
 

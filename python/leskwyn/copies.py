@@ -6,7 +6,7 @@ from collections.abc import Sequence
 
 from leskwyn import _library, counting
 from leskwyn._library import Marks, Words
-from leskwyn.tables import RULES, copy_refusal, newick_text, shown_lines
+from leskwyn.tables import RULES, copy_refusal, newick_text
 
 
 @dataclasses.dataclass(frozen=True, kw_only=True)
@@ -38,10 +38,6 @@ class CanonicalCopy:
     def newick(self) -> str:
         """The copy as Newick text, with its names: the same text for all trees with the same splits of the kept tips."""
         return newick_text(list(self.table), self.names)
-
-    def lines(self) -> list[str]:
-        """The words of the copy as `leskwyn show` prints a table."""
-        return shown_lines(list(self.table), self.names)
 
 
 class Sameness(typing.NamedTuple):

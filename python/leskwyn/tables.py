@@ -7,7 +7,7 @@ import struct
 import typing
 from collections.abc import Sequence
 
-from leskwyn.errors import NAMED_AT_MOST, Refusal, counted, one_line
+from leskwyn.errors import NAMED_AT_MOST, Refusal, counted
 from leskwyn.trees import FEWEST_TIPS, INNER, MOST_TIPS, NODES_FOR_A_TIP, Table
 
 COMPARE_BYTES = 1016
@@ -196,18 +196,7 @@ def tables_of_file(place: str, content: bytes) -> tuple[Table, Table]:
     return cut(file_words(content))
 
 
-# ---- a table, and its tree, as text
-
-def shown_lines(table: Table, names: Sequence[str] = ()) -> list[str]:
-    """What n and m are, and one line for each node of which any word is there; a name stands behind its label."""
-    lines = [f"n {table[0]}, m {table[1]}; node, parent, label{', name' if names else ''}:"]
-    for node in range(min(table[1], len(table) - 2)):
-        at = 2 + table[1] + node
-        label = "missing" if at >= len(table) else "inner" if table[at] == INNER else str(table[at])
-        name = f" {one_line(names[table[at]])}" if label.isdigit() and table[at] < len(names) else ""
-        lines.append(f"{node:5} {table[2 + node]:6} {label:>7}{name}")
-    return lines
-
+# ---- a table's tree as text
 
 def written_name(name: str) -> str:
     """The name as Newick has it: in quotes, unless it can only be read as itself."""

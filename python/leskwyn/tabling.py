@@ -5,12 +5,12 @@ import os
 import stat
 
 from leskwyn import files
-from leskwyn.errors import Refusal, counted, some_of
+from leskwyn.errors import Refusal, counted, one_line, some_of
 from leskwyn.labels import label_list, names_in_order, order_of_tips, outgroup_first
 from leskwyn.sources import trees_of_path
 from leskwyn.tables import (COMPARE_BYTES, ORDINALS, Broken, broken_rule, cut, file_bytes, file_words, labels_not_once,
-                            newick_text, shown_lines)
-from leskwyn.trees import Placed, Table, checked, labels_of_names, table_of, written
+                            newick_text)
+from leskwyn.trees import INNER, Placed, Table, checked, labels_of_names, table_of, written
 from leskwyn.usage import Parser, add_common, add_outgroup, with_common
 
 TABLE_EPILOG = """\
@@ -153,12 +153,23 @@ def show_parser() -> Parser:
     return parser
 
 
+def shown_rows(table: Table, names: list[str]) -> list[str]:
+    """One line for each node of which any word is there."""
+    rows = []
+    for node in range(min(table[1], len(table) - 2)):
+        at = 2 + table[1] + node
+        label = "missing" if at >= len(table) else "inner" if table[at] == INNER else str(table[at])
+        name = f" {one_line(names[table[at]])}" if label.isdigit() and table[at] < len(names) else ""
+        rows.append(f"{node:5} {table[2 + node]:6} {label:>7}{name}")
+    return rows
+
+
 def shown_table(ordinal: str, table: Table, is_tree: bool, names: list[str]) -> list[str]:
     if len(table) < 2:
         return [f"{ordinal} tree: words {' '.join(map(str, table)) or 'none'}"]
-    header, *rows = shown_lines(table, names)
+    header = f"{ordinal} tree: n {table[0]}, m {table[1]}; node, parent, label{', name' if names else ''}:"
     tree = newick_text(table, names if len(names) == table[0] else ()) if is_tree else "no tree"
-    return [f"{ordinal} tree: {header}", *rows, tree]
+    return [header] + shown_rows(table, names) + [tree]
 
 
 def names_not_once(table: Table, names: list[str], broken: Broken) -> str:
