@@ -67,7 +67,7 @@ module _ (up : ℕ → ℕ) (m : ℕ) (node : ℕ → ℕ) (k : ℕ) (h : TipRoo
 
   pub tip-stays : (v : ℕ) → T (tip up m node k v) → T (stays up m node k v)
   unfolding stays
-  tip-stays v t = or-iff (tip up m node k v) (leb 2 (count m (branch up m node k v))) .1 (inl t)
+  tip-stays v t = or-iff (tip up m node k v) _ .1 (inl t)
 
   pub root-stays : T (stays up m node k 0)
   root-stays = tip-stays 0 (subst (λ (v : ℕ). T (tip up m node k v)) (h .root) (tip-of 0 (omega (arith, h .two))))
@@ -79,16 +79,6 @@ module _ (up : ℕ → ℕ) (m : ℕ) (node : ℕ → ℕ) (k : ℕ) (h : TipRoo
       let s = towards up (h .tree) w v w (omega arith) d a in
       (suc (s .0), omega (arith, s .1), record { pos = omega arith; below = s .2; holds = full-up (suc (s .0)) w (s .3) t }, s .3)
 
-  -- two branches stay
-  pub two-stay : (v c d : ℕ) → c < m → d < m → c ≢ d → Branch up m node k v c → Branch up m node k v d → T (stays up m node k v)
-  unfolding stays
-  two-stay v c d lc ld n a b = or-iff (tip up m node k v) _ .1 (inr (le-iff 2 (count m (branch up m node k v)) .1 (omega (
-    arith,
-    sum-two m (λ i. bit (branch up m node k v i)) c d lc ld n,
-    bit-T (branch up m node k v c) (branch-iff-of v c a),
-    bit-T (branch up m node k v d) (branch-iff-of v d b),
-  ))))
-
   -- what stays has a label, or two branches
   pub stays-cases : (v : ℕ) → T (stays up m node k v)
       → T (tip up m node k v) ⊎ ((c : ℕ) × (d : ℕ) × (c < d) × (d < m) × Branch up m node k v c × Branch up m node k v d)
@@ -98,6 +88,16 @@ module _ (up : ℕ → ℕ) (m : ℕ) (node : ℕ → ℕ) (k : ℕ) (h : TipRoo
     | inr b ↦ (let r = count-twice m (branch up m node k v) .0 (le-iff 2 _ .0 b) in
         inr (r .0, r .1, r .2, r .3, branch-iff-to v (r .0) (r .4), branch-iff-to v (r .1) (r .5)))
   ]
+
+  -- two branches stay
+  pub two-stay : (v c d : ℕ) → c < m → d < m → c ≢ d → Branch up m node k v c → Branch up m node k v d → T (stays up m node k v)
+  unfolding stays
+  two-stay v c d lc ld n a b = or-iff (tip up m node k v) _ .1 (inr (le-iff 2 (count m (branch up m node k v)) .1 (omega (
+    arith,
+    sum-two m (λ i. bit (branch up m node k v i)) c d lc ld n,
+    bit-T (branch up m node k v c) (branch-iff-of v c a),
+    bit-T (branch up m node k v d) (branch-iff-of v d b),
+  ))))
 
   pub branch-above : (v c : ℕ) → Branch up m node k v c → bit (anc up v c) ≡ 1
   branch-above v c s = anc-down up (h .tree) v c (s .pos) (rw (s .below) (anc-self up (h .tree) v))
