@@ -1,27 +1,40 @@
--- Every tree table has one with its pass-through nodes taken out: its copy with all labels, from tip 0.
+-- Every tree table has one with its pass-through nodes taken out: its canonical copy with all marks 1.
 -- Assumes nothing.
 use mathlib.Core.Path.{_≡_, refl, sym, _∙_, ap, subst}
 use mathlib.Core.Bool.{not}
 use mathlib.Core.Logic.{inl, inr}
-use Prim.Native.Nat.{ℕ, _<_}
+use Prim.Native.Nat.{ℕ, _-_, _<_}
 use native.Mathlib.Decide.{ℕ-discrete}
 use native.Mathlib.Omega.{arith}
 use lib.Dec.{T, T-not}
+use Rattle.sums.specs.Bits.{bit}
 use Rattle.sums.specs.theorems.BitLaws.{bit-T}
 use Rattle.sums.specs.theorems.TestLaws.{T-dec}
 use Rattle.shapes.specs.Ancestors.{anc}
+use Rattle.shapes.specs.Splits.{SameSides, same, SameSplits}
+use Rattle.shapes.specs.theorems.SplitLaws.{split-moves}
+use Rattle.shapes.specs.theorems.SameSplits.{same-splits-trans}
 use Rattle.shapes.specs.theorems.AncestorLaws.{anc-le}
 use Rattle.tree_check.specs.Table.{Table, tips, nodes, parent, label, nodeOf, beyond}
 use Rattle.tree_check.specs.IsTree.{IsTree, Child}
 use Rattle.walks.specs.theorems.NodeLabels.{node-at, node-only}
+use Rattle.marks.specs.Marks.{isKept}
+use Rattle.marks.specs.theorems.Ones.{ones, ones-keep}
+use Rattle.counting.specs.Labels.{Labels}
+use Rattle.counting.specs.Kept.{kept}
+use Rattle.counting.specs.SplitCounts.{beyondAt}
+use Rattle.counting.specs.theorems.KeptLaws.{kept-rising, all-kept-number, all-kept-at}
 use Rattle.counting.specs.theorems.PassThrough.{PassThrough, NextAbove, TakenOut}
 use Rattle.canonical.specs.Copying.{tip, stays, size, number, over, at, labelWord, copyOf}
 use Rattle.canonical.specs.theorems.Branches.{passed, TipRooted, Branch, full-of, tip-of, tip-label, tip-stays, two-stay, stays-cases}
 use Rattle.canonical.specs.theorems.Clusters.{some-label}
 use Rattle.canonical.specs.theorems.Positions.{number-lt, at-is, at-number}
 use Rattle.canonical.specs.theorems.Over.{IsOver, is-over}
-use Rattle.canonical.specs.theorems.CopyTree.{copy-tips, copy-nodes, copy-parent, copy-is-tree, label-number, place-pos, word-tip, word-inner}
-use Rattle.canonical.specs.theorems.Copies.{table-tip-rooted}
+use Rattle.canonical.specs.theorems.CopyTree.{copy-tips, copy-nodes, copy-parent, label-number, place-pos, word-tip, word-inner}
+use Rattle.canonical.specs.theorems.Copies.{table-tip-rooted, copy-only}
+use Rattle.canonical.specs.theorems.CopyCanonical.{copy-canonical, copy-splits}
+use Rattle.canonical.specs.IsCopy.{IsCopy}
+use Rattle.canonical.specs.CanonicalCopy.{canonicalCopy}
 
 module _ (t : Table) (g : IsTree t) where
   abbrev up : ℕ → ℕ
@@ -104,37 +117,33 @@ module _ (t : Table) (g : IsTree t) where
     ]
   ]
 
-  pub taken-out-exists : (u : Table) × IsTree u × TakenOut t u
-  taken-out-exists = (
-    u,
-    copy-is-tree up m node n h (g .tips-range .1),
-    record {
-      same-tips = sym (copy-tips up m node n h);
-      node = at up m node n;
-      kept = λ i l. let p = at-is up m node n h i (omega (arith, copy-nodes up m node n h)) in
-          (p .0, stays-through (at up m node n i) (p .0) (p .1));
-      different = λ i j li lj e.
-          let p = at-is up m node n h i (omega (arith, copy-nodes up m node n h)) in
-          let q = at-is up m node n h j (omega (arith, copy-nodes up m node n h)) in
-          sym (p .2) ∙ ap (number up m node n) e ∙ q .2;
-      all = λ j l f. elim (T-dec (stays up m node n j)) [
-        | inl s ↦ (number up m node n j, omega (arith, number-lt up m node n h j l s, copy-nodes up m node n h), at-number up m node n h j l s)
-        | inr z ↦ absurd (f (gone-through j l z))
-      ];
-      labels = λ i l.
-          let p = at-is up m node n h i (omega (arith, copy-nodes up m node n h)) in
-          ap (label u) (sym (p .2)) ∙ same-label (at up m node n i) (p .0) (p .1);
-      parents = λ i pos l.
-          let k : i < size up m node n 0 = omega (arith, copy-nodes up m node n h) in
-          let p = at-is up m node n h i k in
-          let q = place-pos up m node n h i k pos in
-          let o = is-over up m node n h (at up m node n i) q in
-          let e : at up m node n (parent u i) ≡ over up m node n (at up m node n i) =
-          ap (at up m node n) (copy-parent up m node n h i k)
-          ∙ at-number up m node n h (over up m node n (at up m node n i)) (omega (arith, o .less, p .0)) (o .kept) in
-          subst (λ (w : ℕ). NextAbove t w (at up m node n i)) (sym e) (next (at up m node n i) (p .0) (over up m node n (at up m node n i)) o);
-    },
-  )
+  taken-out : TakenOut t u
+  taken-out = record {
+    same-tips = sym (copy-tips up m node n h);
+    node = at up m node n;
+    kept = λ i l. let p = at-is up m node n h i (omega (arith, copy-nodes up m node n h)) in
+        (p .0, stays-through (at up m node n i) (p .0) (p .1));
+    different = λ i j li lj e.
+        let p = at-is up m node n h i (omega (arith, copy-nodes up m node n h)) in
+        let q = at-is up m node n h j (omega (arith, copy-nodes up m node n h)) in
+        sym (p .2) ∙ ap (number up m node n) e ∙ q .2;
+    all = λ j l f. elim (T-dec (stays up m node n j)) [
+      | inl s ↦ (number up m node n j, omega (arith, number-lt up m node n h j l s, copy-nodes up m node n h), at-number up m node n h j l s)
+      | inr z ↦ absurd (f (gone-through j l z))
+    ];
+    labels = λ i l.
+        let p = at-is up m node n h i (omega (arith, copy-nodes up m node n h)) in
+        ap (label u) (sym (p .2)) ∙ same-label (at up m node n i) (p .0) (p .1);
+    parents = λ i pos l.
+        let k : i < size up m node n 0 = omega (arith, copy-nodes up m node n h) in
+        let p = at-is up m node n h i k in
+        let q = place-pos up m node n h i k pos in
+        let o = is-over up m node n h (at up m node n i) q in
+        let e : at up m node n (parent u i) ≡ over up m node n (at up m node n i) =
+        ap (at up m node n) (copy-parent up m node n h i k)
+        ∙ at-number up m node n h (over up m node n (at up m node n i)) (omega (arith, o .less, p .0)) (o .kept) in
+        subst (λ (w : ℕ). NextAbove t w (at up m node n i)) (sym e) (next (at up m node n i) (p .0) (over up m node n (at up m node n i)) o);
+  }
     where
       next : (v : ℕ) → v < m → (w : ℕ) → IsOver up m node n v w → NextAbove t w v
       next v lv w o = record {
@@ -150,3 +159,40 @@ module _ (t : Table) (g : IsTree t) where
                   absurd (d (omega arith)))
             ];
       }
+
+  -- ---- it is the canonical copy with all marks 1
+
+  abbrev l : Labels
+  l = kept (ones (tips t)) (tips t)
+
+  every : (x : ℕ) → x < tips t → bit (isKept (ones (tips t)) x) ≡ 1
+  every x q = unfold bit in ap bit (ones-keep (tips t) x q)
+
+  number-is : kept (ones (tips t)) (tips t) .number ≡ tips t
+  number-is = all-kept-number (ones (tips t)) (tips t) every
+
+  own : (i x : ℕ) → x < tips t → beyondAt l t i x ≡ anc up i (nodeOf t x)
+  unfolding beyondAt beyond
+  own i x q = ap (λ (y : ℕ). anc up i (nodeOf t y)) (all-kept-at (ones (tips t)) (tips t) every x q)
+
+  all-sides : SameSplits (tips t) (nodes t - 1) (beyondAt l t) (nodes t - 1) (λ v x. anc up v (nodeOf t x))
+  all-sides = record {
+    there = λ i s. let d : SameSides n (beyondAt l t) (λ v x. anc up v (nodeOf t x)) i i = same (λ x q. own i x q) in
+        (i, split-moves {b = beyondAt l t} {c = λ v x. anc up v (nodeOf t x)} (s .above) (s .edge) s d, d);
+    back = λ i s. let d : SameSides n (λ v x. anc up v (nodeOf t x)) (beyondAt l t) i i = same (λ x q. sym (own i x q)) in
+        (i, split-moves {b = λ v x. anc up v (nodeOf t x)} {c = beyondAt l t} (s .above) (s .edge) s d, d);
+  }
+
+  all-copied : IsCopy (kept (ones (tips t)) (tips t)) t u
+  all-copied = record {
+    canonical = copy-canonical up m node n h (g .tips-range .1);
+    labels = copy-tips up m node n h ∙ sym number-is;
+    splits = subst (λ (k : ℕ). SameSplits k (nodes t - 1) (beyondAt l t) (nodes u - 1) (beyond u)) (sym number-is)
+        (same-splits-trans {b = beyondAt l t} {c = λ v x. anc up v (nodeOf t x)} {d = beyond u} all-sides
+        (copy-splits up m node n h (g .tips-range .1)));
+  }
+
+  -- so every tree table has one with its pass-through nodes taken out
+  pub taken-out-exists : TakenOut t (canonicalCopy (ones (tips t)) t)
+  taken-out-exists = subst (TakenOut t)
+      (copy-only l t g (kept-rising (ones (tips t)) (tips t)) (omega (arith, number-is, g .tips-range)) u all-copied) taken-out
