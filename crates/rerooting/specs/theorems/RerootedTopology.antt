@@ -10,7 +10,7 @@ use Rattle.sums.specs.theorems.TestLaws.{same-test}
 use Rattle.shapes.specs.Ancestors.{anc}
 use Rattle.shapes.specs.Quartets.{Apart}
 use Rattle.shapes.specs.theorems.AncestorLaws.{Rooted, up-ind, anc-at-zero, anc-up, parent-lt}
-use Rattle.shapes.specs.theorems.FourLabels.{Four}
+use Rattle.shapes.specs.theorems.FourLabels.{Four, swapped-four}
 use Rattle.shapes.specs.theorems.PartedFours.{parted-iff}
 use Rattle.shapes.specs.theorems.Topologies.{firstPassed, caseIn}
 use Rattle.tree_check.specs.Table.{Table, tips, nodes, parent, nodeOf}
@@ -27,7 +27,6 @@ use Rattle.shapes.specs.theorems.RerootedNumbers.{rerooted-rooted}
 use Rattle.shapes.specs.theorems.RerootedSides.{SameEdge, kept, reversed, edge-there, edge-back, step-up}
 use Rattle.rerooting.specs.theorems.RerootedParts.{same-nodes, new-parent}
 use Rattle.sums.specs.Swaps.{swapped}
-use Rattle.sums.specs.theorems.SwapLaws.{swapped-one, swapped-lt}
 use Rattle.rerooting.specs.theorems.RerootedTree.{newNumber, number-lt, rerooted-tree, rerooted-node, parent-on, parent-off}
 
 module _ (t : Table) (g : IsTree t) (x : ℕ) (lx : x < tips t) where
@@ -152,28 +151,13 @@ case-of-tests t u n a b c d f = case-named _ _ _
     _ _ _ _ _ _
 
 module _ (t u : Table) (g : IsTree t) (h : IsTree u) (e : tips t ≡ tips u) (x : ℕ) (lx : x < tips t) where
-  swapped-four : (a b c d : ℕ) → Four (tips t) a b c d
-      → Four (tips t) (swapped 0 x a) (swapped 0 x b) (swapped 0 x c) (swapped 0 x d)
-  swapped-four a b c d f = record {
-    la = swapped-lt 0 x a (tips t) (omega (arith, lx)) lx (f .la);
-    lb = swapped-lt 0 x b (tips t) (omega (arith, lx)) lx (f .lb);
-    lc = swapped-lt 0 x c (tips t) (omega (arith, lx)) lx (f .lc);
-    ld = swapped-lt 0 x d (tips t) (omega (arith, lx)) lx (f .ld);
-    ab = λ q. f .ab (swapped-one 0 x a b q);
-    ac = λ q. f .ac (swapped-one 0 x a c q);
-    ad = λ q. f .ad (swapped-one 0 x a d q);
-    bc = λ q. f .bc (swapped-one 0 x b c q);
-    bd = λ q. f .bd (swapped-one 0 x b d q);
-    cd = λ q. f .cd (swapped-one 0 x c d q);
-  }
-
   -- four labels are in the same case, with 0 and x exchanged
   pub rerooted-case : (a b c d : ℕ) → Four (tips t) a b c d
       → caseNumber (caseOf (topology (rerooted t x) (swapped 0 x a) (swapped 0 x b) (swapped 0 x c) (swapped 0 x d))
       (topology (rerooted u x) (swapped 0 x a) (swapped 0 x b) (swapped 0 x c) (swapped 0 x d)))
       ≡ caseNumber (caseOf (topology t a b c d) (topology u a b c d))
   rerooted-case a b c d f =
-      case-of-tests (rerooted t x) (rerooted u x) (tips t) _ _ _ _ (swapped-four a b c d f)
+      case-of-tests (rerooted t x) (rerooted u x) (tips t) _ _ _ _ (swapped-four (tips t) 0 x a b c d (omega (arith, lx)) lx f)
       ∙ ap₂ caseIn (tests t g refl) (tests u h e)
       ∙ sym (case-of-tests t u (tips t) a b c d f)
     where

@@ -4,6 +4,8 @@ use mathlib.Core.Logic.{_⊎_, inl, inr, _≢_}
 use Prim.Native.Nat.{ℕ, _<_}
 use native.Mathlib.Decide.{decLt}
 use native.Mathlib.Omega.{arith}
+use Rattle.sums.specs.Swaps.{swapped}
+use Rattle.sums.specs.theorems.SwapLaws.{swapped-one, swapped-lt}
 
 pub record Four (n a b c d : ℕ) : Type 0 where
   pub la : a < n
@@ -16,6 +18,22 @@ pub record Four (n a b c d : ℕ) : Type 0 where
   pub bc : b ≢ c
   pub bd : b ≢ d
   pub cd : c ≢ d
+
+-- they stay so where x and y change places
+pub swapped-four : (n x y a b c d : ℕ) → x < n → y < n → Four n a b c d
+    → Four n (swapped x y a) (swapped x y b) (swapped x y c) (swapped x y d)
+swapped-four n x y a b c d lx ly f = record {
+  la = swapped-lt x y a n lx ly (f .la);
+  lb = swapped-lt x y b n lx ly (f .lb);
+  lc = swapped-lt x y c n lx ly (f .lc);
+  ld = swapped-lt x y d n lx ly (f .ld);
+  ab = λ q. f .ab (swapped-one x y a b q);
+  ac = λ q. f .ac (swapped-one x y a c q);
+  ad = λ q. f .ad (swapped-one x y a d q);
+  bc = λ q. f .bc (swapped-one x y b c q);
+  bd = λ q. f .bd (swapped-one x y b d q);
+  cd = λ q. f .cd (swapped-one x y c d q);
+}
 
 less : (a b : ℕ) → a ≢ b → (a < b) ⊎ (b < a)
 less a b h = elim (decLt a b) [ yes l ↦ inl l | no m ↦ inr (omega arith) ]

@@ -29,7 +29,7 @@ triples up k a b c d = sum (suc k) (λ v.
     threeApart (2 * k) (λ e. into up v a e * bit (behind up e b)) (into up v c) (into up v d))
 
 -- a code with a and b behind it, and neither c nor d
-code-apart : (up : ℕ → ℕ) (e a b c d : ℕ) → bit (behind up e a) ≡ 1 → bit (behind up e b) ≡ 1
+pub code-apart : (up : ℕ → ℕ) (e a b c d : ℕ) → bit (behind up e a) ≡ 1 → bit (behind up e b) ≡ 1
     → bit (behind up e c) ≡ 0 → bit (behind up e d) ≡ 0 → Apart up (suc (e / 2)) a b c d
 code-apart up e a b c d ha hb hc hd = elim (code-cases e) [
   | inl h ↦ omega (arith, even h a, even h b, even h c, even h d)

@@ -21,6 +21,16 @@ unfolding sets2 sum
 twos zero = refl
 twos (suc k) = omega (arith, twos k, sum-const k 1)
 
+-- there are k(k − 1)/2 sets of two
+pub pairs-count : (k : ℕ) → sets2 k (λ x y. 1) ≡ k * (k - 1) / 2
+pairs-count zero = unfold sets2 sum in refl
+pairs-count (suc k) =
+    let e : suc k - 1 ≡ k = omega arith in
+    rw e (half (sets2 (suc k) (λ x y. 1)) (suc k * k) (twos k))
+  where
+    half : (x y : ℕ) → 2 * x ≡ y → x ≡ y / 2
+    half x y h = omega arith
+
 pub three-sets : (k : ℕ) → 6 * sets3 (suc (suc k)) (λ x y z. 1) ≡ suc (suc k) * (suc k * k)
 unfolding sets3 sets2 sum
 three-sets zero = refl

@@ -13,11 +13,11 @@ use Rattle.sums.specs.theorems.BitLaws.{is-self, is-other, sum-is, alike
 use Rattle.sums.specs.SetsOfFour.{sets2, sets3, sets4}
 use Rattle.sums.specs.theorems.SetLaws.{sets3-ext, sets4-ext, sets4-none, sets4-add}
 
-sets2-ext : (n : ℕ) (f g : ℕ → ℕ → ℕ) → ((x y : ℕ) → x < y → y < n → f x y ≡ g x y) → sets2 n f ≡ sets2 n g
+pub sets2-ext : (n : ℕ) (f g : ℕ → ℕ → ℕ) → ((x y : ℕ) → x < y → y < n → f x y ≡ g x y) → sets2 n f ≡ sets2 n g
 unfolding sets2
 sets2-ext n f g h = sum-ext n _ _ (λ y ly. sum-ext y _ _ (λ x lx. h x y lx ly))
 
-sets2-none : (n : ℕ) (f : ℕ → ℕ → ℕ) → ((x y : ℕ) → x < y → y < n → f x y ≡ 0) → sets2 n f ≡ 0
+pub sets2-none : (n : ℕ) (f : ℕ → ℕ → ℕ) → ((x y : ℕ) → x < y → y < n → f x y ≡ 0) → sets2 n f ≡ 0
 unfolding sets2
 sets2-none n f h = sum-none n _ (λ y ly. sum-none y _ (λ x lx. h x y lx ly))
 

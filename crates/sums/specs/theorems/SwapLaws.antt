@@ -55,6 +55,15 @@ module _ (x y : ℕ) where
       go (second d e) = omega arith
       go (neither d e f) = omega arith
 
+-- which of the two is named first plays no part
+pub swapped-either : (x y a : ℕ) → swapped x y a ≡ swapped y x a
+swapped-either x y a = go (swap x y a)
+  where
+    go : Swap x y a (swapped x y a) → swapped x y a ≡ swapped y x a
+    go (first d e) = e ∙ sym (ap (swapped y x) d ∙ swapped-second y x)
+    go (second d e) = e ∙ sym (ap (swapped y x) d ∙ swapped-first y x)
+    go (neither d e f) = f ∙ sym (swapped-other y x a e d)
+
 pub swapped-none : (x a : ℕ) → swapped x x a ≡ a
 swapped-none x a = go (swap x x a)
   where
