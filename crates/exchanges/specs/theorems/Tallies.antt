@@ -1,6 +1,6 @@
 -- Eleven tallies: how far each exchange of two labels moves a tree.
 -- Assumes nothing.
-use mathlib.Core.Path.{_≡_, sym, _∙_}
+use mathlib.Core.Path.{_≡_, sym, _∙_, ap, fun-ext}
 use Prim.Native.Nat.{ℕ, _*_, _-_, _/_, _≤_, _<_}
 use native.Mathlib.Nat.{div-lt-iff-lt-mul, lt-of-not-le}
 use native.Mathlib.Decide.{decLe}
@@ -13,6 +13,7 @@ use Rattle.sums.specs.theorems.BitLaws.{ne, sum-is, T-true, T-false}
 use Rattle.sums.specs.theorems.TestLaws.{lt-iff}
 use Rattle.sums.specs.SetsOfFour.{sets2, sets4}
 use Rattle.sums.specs.Swaps.{swapped}
+use Rattle.sums.specs.theorems.SwapLaws.{swapped-either}
 use Rattle.sums.specs.Fours.{fours}
 use Rattle.sums.specs.theorems.FoursLaws.{fours-mono, pairs-count}
 use Rattle.shapes.specs.theorems.Shape.{Shape}
@@ -37,6 +38,14 @@ tallyIn {n} t i = sets2 n (λ x y. is (tallyOf n (movedBy t x y)) i)
 pub moved-distance : {n : ℕ} (t : Shape n) (x y : ℕ) (two : Two n x y) → movedBy t x y ≡ distanceIn t x y two
 unfolding movedBy distanceIn exchanged topologyIn
 moved-distance t x y two = sym (cases-differing t (exchanged t x y two))
+
+-- an exchange has no order
+pub moved-either : {n : ℕ} (t : Shape n) (x y : ℕ) → movedBy t x y ≡ movedBy t y x
+unfolding movedBy
+moved-either {n} t x y = ap by (fun-ext (swapped-either x y))
+  where
+    by : (ℕ → ℕ) → ℕ
+    by s = sets4 n (λ a b c d. ne (topologyIn t a b c d) (topologyIn t (s a) (s b) (s c) (s d)))
 
 -- from the cost of the path
 pub moved-path : {n : ℕ} (t : Shape n) (x y : ℕ) → Two n x y

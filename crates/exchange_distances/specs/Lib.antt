@@ -1,0 +1,2 @@
+pub mod ExchangeAnswers
+pub mod lemmas

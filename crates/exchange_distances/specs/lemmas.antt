@@ -1,0 +1,11 @@
+pub mod Powers
+pub mod CostRoom
+pub mod Loops
+pub mod WalkArrays
+pub mod SquareLoops
+pub mod SpanSizes
+pub mod TableArrays
+pub mod TallyLoops
+pub mod TallyRoom
+pub mod PairTallies
+pub mod FirstTally

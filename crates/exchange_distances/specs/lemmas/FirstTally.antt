@@ -1,0 +1,25 @@
+-- All pairs in tally 0: with fewer than four tips, and from 82 on.
+-- Assumes nothing.
+use mathlib.Core.Path.{_≡_, sym}
+use mathlib.Core.List.{List, _∷_}
+use Prim.Native.Nat.{ℕ, suc, _*_, _-_, _/_, _≤_, _<_}
+use lib.ListN.{replicate}
+use Rattle.sums.specs.Lists.{inOrder}
+use Rattle.tree_check.specs.Table.{Table, tips}
+use Rattle.tree_check.specs.IsTree.{IsTree}
+use Rattle.exchanges.specs.Exchanges.{tally}
+use Rattle.exchanges.specs.theorems.ExchangedTables.{few-tips-first, few-tips-later}
+use Rattle.exchanges.specs.theorems.ExchangeLaws.{large-first, large-later}
+
+abbrev pub allFirst : ℕ → List ℕ
+allFirst n = n * (n - 1) / 2 ∷ replicate 10 0
+
+in-first : (f : ℕ → ℕ) (x : ℕ) → f 0 ≡ x → ((i : ℕ) → f (suc i) ≡ 0) → inOrder 11 f ≡ x ∷ replicate 10 0
+unfolding inOrder
+in-first f x e z = rw (e, z 0, z 1, z 2, z 3, z 4, z 5, z 6, z 7, z 8, z 9)
+
+pub few-first : (t : Table) → tips t < 4 → allFirst (tips t) ≡ inOrder 11 (tally t)
+few-first t l = sym (in-first (tally t) _ (few-tips-first t l) (λ i. few-tips-later t i l))
+
+pub many-first : (t : Table) → IsTree t → 82 ≤ tips t → allFirst (tips t) ≡ inOrder 11 (tally t)
+many-first t g l = sym (in-first (tally t) _ (large-first t g l) (λ i. large-later t g i l))

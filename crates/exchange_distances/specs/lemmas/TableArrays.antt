@@ -1,0 +1,120 @@
+-- The arrays of a tree table are those of its shape.
+-- Assumes nothing.
+use mathlib.Core.Path.{_≡_, refl, sym, _∙_}
+use mathlib.Core.List.{List}
+use Prim.Native.Nat.{ℕ, zero, suc, _+_, _*_, _-_, _≤_, _<_}
+use native.Mathlib.Nat.{mul-le-mul}
+use native.Mathlib.Omega.{arith}
+use lib.ListN.{length}
+use Rattle.table_words.specs.Sizes.{nodesMost}
+use Rattle.sums.specs.Bits.{bit}
+use Rattle.sums.specs.theorems.SumLaws.{sum-ge, sum-mono, sum-const}
+use Rattle.sums.specs.theorems.BitLaws.{ne, bit-le}
+use Rattle.sums.specs.theorems.Products.{sum-ne}
+use Rattle.shapes.specs.theorems.Shape.{Shape}
+use Rattle.tree_check.specs.Table.{Table, word, tips, nodes, parents, parent, beyond}
+use Rattle.tree_check.specs.IsTree.{IsTree}
+use Rattle.tree_check.specs.lemmas.TableParts.{parents-length}
+use Rattle.walks.specs.Walk.{below}
+use Rattle.walks.specs.theorems.SpanLaws.{SpansOf, start-after}
+use Rattle.counting.specs.theorems.TreeShape.{shapeOf}
+use Rattle.counting.specs.theorems.TreeSplits.{labelled, zero-here}
+use Rattle.exchanges.specs.theorems.Steps as steps
+use Rattle.exchanges.specs.theorems.ExchangedTables.{shape}
+use Rattle.exchange_distances.specs.lemmas.SpanSizes.{SpansFit, SpanSizes}
+use Rattle.exchange_distances.specs.lemmas.WalkArrays.{SizesOf, Squared, Reads, Walked}
+use Rattle.exchange_distances.specs.lemmas.SquareLoops.{Sizing}
+
+-- what the code has read of a table
+pub record Arrays (t : Table) (nodes bs qs : List ℕ) : Type 0 where
+  pub reads : (g : IsTree t) → Reads (tips t) (parents t) nodes bs qs (shape t g)
+
+module _ (t : Table) (g : IsTree t) where
+  -- some label is at or below a node, and but for node 0 not all are
+  below-some : (v : ℕ) → v < nodes t → 1 ≤ steps.below (shape t g) v
+  unfolding shapeOf beyond
+  below-some v l =
+      let r = labelled t g (nodes t) v l (omega arith) in
+      omega (arith, r .2, sum-ge (tips t) (λ a. bit (beyond t v a)) (r .0) (r .1))
+
+  below-not-all : (v : ℕ) → 1 ≤ v → steps.below (shape t g) v + 1 ≤ tips t
+  unfolding shapeOf beyond
+  below-not-all v l =
+      let few = g .tips-range in
+      omega (
+        arith,
+        sum-ne (tips t) 0 (λ a. bit (beyond t v a)) (omega arith),
+        sum-ne (tips t) 0 (λ a. 1) (omega arith),
+        zero-here t g v l,
+        sum-mono (tips t) (λ a. ne 0 a * bit (beyond t v a)) (λ a. ne 0 a * 1)
+            (λ a la. low (ne 0 a) (bit (beyond t v a)) (bit-le (beyond t v a))),
+        sum-const (tips t) 1,
+      )
+    where
+      low : (i b : ℕ) → b ≤ 1 → i * b ≤ i * 1
+      low i b l = let r : i ≤ i = omega arith in mul-le-mul r l
+
+  few-nodes : (2 ≤ nodes t) × (nodes t ≤ nodesMost)
+  few-nodes = omega (arith, g .tips-range, g .nodes-range)
+
+  edges-are : suc (nodes t - 1) ≡ length (parents t)
+  edges-are = omega (arith, parents-length t (g .words), few-nodes)
+
+  module _ (labels begin end : List ℕ) (h : SpansOf t labels begin end) where
+    pub spans-fit : (size : List ℕ) → length size ≡ 1024 → SpansFit (nodes t) begin end size
+    spans-fit size e = record {
+      few = omega (arith, few-nodes);
+      long = e;
+      rising = λ v lv l. omega (arith, h .begins v l, h .ends v l);
+    }
+
+    -- the span of a node is as long as there are labels at or below it
+    size-is : (size : List ℕ) → SpanSizes (tips t) (nodes t) begin end size → (v : ℕ) → v < nodes t
+        → word size v ≡ steps.below (shape t g) v
+    size-is size z zero l = z .first ∙ sym (steps.below-root (shape t g))
+    size-is size z (suc v) l = omega (
+      arith,
+      z .later (suc v) (omega arith) l,
+      h .begins (suc v) l,
+      h .ends (suc v) l,
+      start-after t g (suc v) (omega arith),
+      same (suc v),
+    )
+      where
+        same : (v : ℕ) → below t v ≡ steps.below (shape t g) v
+        same v = unfold shapeOf below beyond in refl
+
+    pub table-sizes : (size : List ℕ) → SpanSizes (tips t) (nodes t) begin end size
+        → SizesOf (tips t) (parents t) size (shape t g)
+    table-sizes size z = record {
+      up = λ v. unfold shapeOf parent in refl;
+      edges = unfold shapeOf in edges-are;
+      sizes = λ v l. unfold shapeOf in size-is size z v (omega (arith, few-nodes));
+      some = λ v l. unfold shapeOf in below-some v (omega (arith, few-nodes));
+      not-all = below-not-all;
+    }
+
+    pub table-sizing : (size : List ℕ) → SpanSizes (tips t) (nodes t) begin end size → Sizing (tips t) (parents t) size
+    table-sizing size z = record {
+      shape = shape t g;
+      sized = table-sizes size z;
+      tips = g .tips-range .1;
+      nodes = omega (arith, edges-are, few-nodes);
+    }
+
+    pub table-reads : (size square : List ℕ) → SpanSizes (tips t) (nodes t) begin end size
+        → ((s : Shape (tips t)) → SizesOf (tips t) (parents t) size s → Squared (tips t) (parents t) size square s)
+        → Reads (tips t) (parents t) labels size square (shape t g)
+    table-reads size square z q = record {
+      squared = q (shape t g) (table-sizes size z);
+      node = λ x l. unfold shapeOf in h .node x l;
+    }
+
+  pub table-walked : (labels size square : List ℕ) → Arrays t labels size square
+      → Walked (tips t) (parents t) labels size square
+  table-walked labels size square a = record {
+    shape = shape t g;
+    reads = a .reads g;
+    tips = g .tips-range;
+    nodes-few = omega (arith, edges-are, few-nodes);
+  }

@@ -1,0 +1,26 @@
+-- What a row of pairs needs: no difference below 0, and no tally past the tenth.
+-- Assumes nothing.
+use mathlib.Core.Path.{_≡_}
+use mathlib.Core.List.{List}
+use Prim.Native.Nat.{ℕ, _≤_, _<_}
+use native.Mathlib.Omega.{arith}
+use lib.ListN.{length}
+use Rattle.table_words.specs.Sizes.{nodeRoom, tipsMost}
+use Rattle.tree_check.specs.Table.{word}
+use Rattle.exchanges.specs.theorems.Walk.{whole}
+use Rattle.exchange_distances.specs.lemmas.Powers.{square-le, cube-le}
+use Rattle.exchange_distances.specs.lemmas.TallyLoops.{fallsAt}
+
+pub record RowRoom (y w sets : ℕ) (nodes costs tallies : List ℕ) : Type 0 where
+  pub row : y < tipsMost
+  pub few : w ≤ 33751040
+  pub some : 1 ≤ sets
+  pub node : (x : ℕ) → x < y → word nodes x < nodeRoom
+  pub least : (x : ℕ) → x < y → word costs (word nodes x) ≤ w
+  pub falls : (x : ℕ) → x < y → fallsAt w sets nodes costs x < 11
+  pub long : length tallies ≡ 11
+  pub small : (i : ℕ) → i < 11 → word tallies i ≤ 65536
+
+pub whole-le : (n : ℕ) → n ≤ 256 → whole n ≤ 33751040
+unfolding whole
+whole-le n l = omega (arith, square-le (n - 2) (omega arith), cube-le (n - 2) (omega arith))
