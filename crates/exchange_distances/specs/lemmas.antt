@@ -9,3 +9,4 @@ pub mod TallyLoops
 pub mod TallyRoom
 pub mod PairTallies
 pub mod FirstTally
+pub mod Outcomes

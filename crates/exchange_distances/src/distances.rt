@@ -5,14 +5,12 @@ use super::paths::costs_from;
 use table_words::NODES;
 use table_words::TIPS;
 use table_words::as_index;
-use tree_check::Checked;
-use tree_check::check;
-use tree_check::refusal_of;
+use trees::Checked;
+use trees::asked_refusal;
+use trees::check;
+use trees::refusal_of;
 ghost use mathlib.Core.Path.{_≡_};
-ghost use Prim.Native.Nat.{_/_, _-_};
-ghost use Rattle.tree_check.specs.Refusals.{refusal};
 ghost use Rattle.tree_check.specs.lemmas.Sized.{Sized};
-ghost use Rattle.trees.specs.LabelOrder.{askedOrder};
 ghost use Rattle.exchanges.specs.Exchanges.{exchangeDistance};
 ghost use Rattle.exchanges.specs.theorems.Others.{Two};
 ghost use Rattle.exchange_distances.specs.ExchangeAnswers.{distanceAnswer};
@@ -21,22 +19,6 @@ ghost use Rattle.exchange_distances.specs.ExchangeAnswers.{distanceAnswe
 pub struct ExchangeDistance {
     pub refusal: u16,
     pub distance: u64,
-}
-
-// 10, 11 or 0: a label is n or more, or both are one.
-fn labels_refusal(x: u16, y: u16, n: u16) -> u16
-    ensures { λ r. ⌜ r ≡ refusal (askedOrder n (x ∷ y ∷ [])) ⌝ }
-{
-    if n <= x {
-        return 10;
-    }
-    if n <= y {
-        return 10;
-    }
-    if x == y {
-        return 11;
-    }
-    0
 }
 
 // The distance in a table that was checked, with n labels and m nodes: what the path from the one tip to the other takes, told from
@@ -74,7 +56,8 @@ pub fn exchange_distance(table: &[u16], x: u16, y: u16) -> ExchangeDistance
             distance: 0,
         };
     };
-    let number = labels_refusal(x, y, tips);
+    let asked = [x, y];
+    let number = asked_refusal(&asked, as_index(tips));
     if number != 0 {
         return ExchangeDistance {
             refusal: number,

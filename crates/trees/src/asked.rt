@@ -52,8 +52,8 @@ fn two_equal(asked: &[u16]) -> bool
     false
 }
 
-// 10, 11 or 0.
-pub(crate) fn asked_refusal(asked: &[u16], n: usize) -> u16
+// 10, 11 or 0: one of the labels is n or more, or two of them are equal.
+pub fn asked_refusal(asked: &[u16], n: usize) -> u16
     ensures { λ r. ⌜ r ≡ refusal (askedOrder n (now (asked .entry))) ⌝ }
 {
     if some_too_large(asked, n) {

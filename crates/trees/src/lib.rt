@@ -5,6 +5,7 @@ mod centres; // centres.rt: the centre of three labels
 mod quartet; // quartet.rt: the topology of four labels
 mod witness; // witness.rt: the edge that parts four labels, or the node where they meet
 
+pub use asked::asked_refusal;
 pub use asked::node_of;
 pub use centres::CentreAnswer;
 pub use centres::centre;

@@ -1,11 +1,11 @@
 -- Each pair of labels of a shape in its tally, from the walks of its arrays.
 -- Assumes nothing.
-use mathlib.Core.Path.{_≡_, sym, _∙_, ap, ap₂}
+use mathlib.Core.Path.{_≡_, refl, sym, _∙_, ap, ap₂, fun-ext}
 use mathlib.Core.List.{List}
 use mathlib.Core.Logic.{_≢_}
 use Prim.Native.Nat.{ℕ, _+_, _-_, _/_, _≤_, _<_}
 use native.Mathlib.Omega.{arith}
-use lib.ListN.{length}
+use lib.ListN.{length, take, drop}
 use lib.Seq.{ext-getD}
 use Rattle.sums.specs.Sum.{sum}
 use Rattle.sums.specs.Bits.{is}
@@ -14,14 +14,19 @@ use Rattle.sums.specs.Lists.{inOrder}
 use Rattle.sums.specs.SetsOfFour.{sets2}
 use Rattle.sums.specs.theorems.ListLaws.{in-order-length, in-order-at}
 use Rattle.shapes.specs.theorems.Shape.{Shape}
-use Rattle.tree_check.specs.Table.{word}
-use Rattle.exchanges.specs.Exchanges.{tallyOf}
+use Rattle.table_words.specs.Sizes.{nodeRoom}
+use Rattle.tree_check.specs.Table.{Table, word, tips, parents}
+use Rattle.tree_check.specs.lemmas.Sized.{Sized}
+use Rattle.tree_check.specs.lemmas.TableParts.{to-parts, of-parts}
+use Rattle.exchanges.specs.Exchanges.{exchangeDistance, tallyOf, tally}
+use Rattle.exchanges.specs.theorems.ExchangedTables.{shape, distance-moved, tally-in-shape}
 use Rattle.exchanges.specs.theorems.Others.{Two}
 use Rattle.exchanges.specs.theorems.PathSum.{pathCost}
 use Rattle.exchanges.specs.theorems.Walk.{whole, path-le}
 use Rattle.exchanges.specs.theorems.Tallies.{movedBy, moved-path, moved-either, moved-le, tallyIn, tally-lt, tally-many, fours-some}
 use Rattle.exchange_distances.specs.lemmas.Powers.{square-le}
 use Rattle.exchange_distances.specs.lemmas.WalkArrays.{Reads, Walked, CostsFrom}
+use Rattle.exchange_distances.specs.lemmas.TableArrays.{Arrays, table-walked}
 use Rattle.exchange_distances.specs.lemmas.TallyLoops.{fallsAt, Counted, Rows, rows-next, rows-le}
 use Rattle.exchange_distances.specs.lemmas.TallyRoom.{RowRoom, whole-le}
 
@@ -52,17 +57,17 @@ module _ (n : ℕ) (ps nodes bs qs : List ℕ) (h : Walked n ps nodes bs qs) whe
       cell s i = unfold tallyIn sets2 in refl
 
   module _ (s : Shape n) (a : Reads n ps nodes bs qs s) where
-    node-lt : (x : ℕ) → x < n → word nodes x < length ps
+    pub node-lt : (x : ℕ) → x < n → word nodes x < length ps
     node-lt x l = omega (arith, a .node x l, s .node-le x l, a .squared .sized .edges)
 
-    module _ (y : ℕ) (ly : y < n) (costs : List ℕ) (c : CostsFrom n ps bs qs (word nodes y) costs) where
+    module _ (y p : ℕ) (ly : y < n) (ep : p ≡ word nodes y) (costs : List ℕ) (c : CostsFrom n ps bs qs p costs) where
       cost-is : (x : ℕ) → x < n → x ≢ y → word costs (word nodes x) ≡ pathCost s (s .node y) (s .node x)
       cost-is x l d =
           c .costs s (a .squared) (word nodes x) (node-lt x l) apart
-          ∙ ap₂ (λ (u v : ℕ). pathCost s u v) (a .node y ly) (a .node x l)
+          ∙ ap₂ (λ (u v : ℕ). pathCost s u v) (ep ∙ a .node y ly) (a .node x l)
         where
-          apart : word nodes x ≢ word nodes y
-          apart e = s .node-ne x y l ly d (sym (a .node x l) ∙ e ∙ a .node y ly)
+          apart : word nodes x ≢ p
+          apart e = s .node-ne x y l ly d (sym (a .node x l) ∙ e ∙ ep ∙ a .node y ly)
 
       two : (x : ℕ) → x < n → x ≢ y → Two n y x
       two x l d = record { lx = ly; ly = l; xy = λ e. d (sym e) }
@@ -100,16 +105,56 @@ module _ (n : ℕ) (ps nodes bs qs : List ℕ) (h : Walked n ps nodes bs qs) whe
             → Rows (pairTally s) (y + 1) new
         row-next-of old new r d = rows-next (pairTally s) y old new (fallsAt w sets nodes costs) falls-is r d
 
-  module _ (y : ℕ) (ly : y < n) (costs : List ℕ) (c : CostsFrom n ps bs qs (word nodes y) costs) (four : 4 ≤ n)
+  module _ (y p : ℕ) (ly : y < n) (ep : p ≡ word nodes y) (costs : List ℕ) (c : CostsFrom n ps bs qs p costs) (four : 4 ≤ n)
       (w sets : ℕ) (ew : w ≡ whole n) (es : sets ≡ fours n) where
     -- the row of y may be counted, ..
     pub row-room : (tallies : List ℕ) → Tallying n ps nodes bs qs y tallies → RowRoom y w sets nodes costs tallies
     row-room tallies r =
-        row-room-of (h .shape) (h .reads) y ly costs c four w sets ew es tallies (r .rows (h .shape) (h .reads))
+        row-room-of (h .shape) (h .reads) y p ly ep costs c four w sets ew es tallies (r .rows (h .shape) (h .reads))
 
     -- .. and is one row more
     pub row-next : (old new : List ℕ) → Tallying n ps nodes bs qs y old
         → Counted (fallsAt w sets nodes costs) y old new → Tallying n ps nodes bs qs (y + 1) new
     row-next old new r d = record {
-      rows = λ s a. row-next-of s a y ly costs c four w sets ew es old new (r .rows s a) d;
+      rows = λ s a. row-next-of s a y p ly ep costs c four w sets ew es old new (r .rows s a) d;
     }
+
+-- ---- the same of a table
+
+module _ (t : Table) (n m : ℕ) (h : Sized t n m) (nodes bs qs : List ℕ) (a : Arrays t nodes bs qs) where
+  pub lent-walked : Walked n (take (2 + m - 2) (drop 2 t)) nodes bs qs
+  lent-walked = to-parts (λ n ps ls. Walked n ps nodes bs qs) t n m (h .tree .words) (h .tips-are) (h .nodes-are)
+      (table-walked t (h .tree) nodes bs qs a)
+
+  pub lent-tallied : (tallies : List ℕ) → Tallied n (take (2 + m - 2) (drop 2 t)) nodes bs qs tallies
+      → tallies ≡ inOrder 11 (tally t)
+  lent-tallied tallies r =
+      of-parts (λ n ps ls. Tallied n ps nodes bs qs tallies) t n m (h .tree .words) (h .tips-are) (h .nodes-are) r
+      .tallies-are (shape t (h .tree)) (a .reads (h .tree))
+      ∙ ap (inOrder 11) (fun-ext (λ i. sym (tally-in-shape t (h .tree) i)))
+
+  module _ (x y : ℕ) (two : Two n x y) (p q : ℕ) (ep : p ≡ word nodes x) (eq : q ≡ word nodes y) (costs : List ℕ)
+      (c : CostsFrom n (take (2 + m - 2) (drop 2 t)) bs qs p costs) where
+    pub lent-node : q < nodeRoom
+    lent-node =
+        let w = lent-walked in
+        omega (arith, node-lt _ _ _ _ _ w (w .shape) (w .reads) y (two .ly), w .nodes-few)
+
+    found : (word costs (word nodes y) ≤ whole (tips t)) × ((whole (tips t) - word costs (word nodes y)) / 6 ≡ movedBy (shape t (h .tree)) x y)
+    found = distance-found (tips t) (parents t) nodes bs qs (table-walked t (h .tree) nodes bs qs a) (shape t (h .tree))
+        (a .reads (h .tree)) x p (omega (arith, two .lx, h .tips-are)) ep costs
+        (of-parts (λ n ps ls. CostsFrom n ps bs qs p costs) t n m (h .tree .words) (h .tips-are) (h .nodes-are) c)
+        y (omega (arith, two .ly, h .tips-are)) (λ e. two .xy (sym e))
+
+    pub lent-least : word costs q ≤ whole n
+    lent-least = rw (eq, h .tips-are) (found .0)
+
+    pub lent-distance : (whole n - word costs q) / 6 ≡ exchangeDistance t x y
+    lent-distance =
+        ap₂ (λ (k v : ℕ). (whole k - word costs v) / 6) (h .tips-are) eq
+        ∙ found .1
+        ∙ sym (distance-moved t (h .tree) x y (record {
+          lx = omega (arith, two .lx, h .tips-are);
+          ly = omega (arith, two .ly, h .tips-are);
+          xy = two .xy;
+        }))

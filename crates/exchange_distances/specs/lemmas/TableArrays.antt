@@ -5,7 +5,7 @@ use mathlib.Core.List.{List}
 use Prim.Native.Nat.{ℕ, zero, suc, _+_, _*_, _-_, _≤_, _<_}
 use native.Mathlib.Nat.{mul-le-mul}
 use native.Mathlib.Omega.{arith}
-use lib.ListN.{length}
+use lib.ListN.{length, take, drop}
 use Rattle.table_words.specs.Sizes.{nodesMost}
 use Rattle.sums.specs.Bits.{bit}
 use Rattle.sums.specs.theorems.SumLaws.{sum-ge, sum-mono, sum-const}
@@ -14,9 +14,11 @@ use Rattle.sums.specs.theorems.Products.{sum-ne}
 use Rattle.shapes.specs.theorems.Shape.{Shape}
 use Rattle.tree_check.specs.Table.{Table, word, tips, nodes, parents, parent, beyond}
 use Rattle.tree_check.specs.IsTree.{IsTree}
-use Rattle.tree_check.specs.lemmas.TableParts.{parents-length}
+use Rattle.tree_check.specs.lemmas.TableParts.{parents-length, to-parts, of-parts}
+use Rattle.tree_check.specs.lemmas.Sized.{Sized}
 use Rattle.walks.specs.Walk.{below}
 use Rattle.walks.specs.theorems.SpanLaws.{SpansOf, start-after}
+use Rattle.walks.specs.lemmas.SpanLists.{Spanned, spans-listed}
 use Rattle.counting.specs.theorems.TreeShape.{shapeOf}
 use Rattle.counting.specs.theorems.TreeSplits.{labelled, zero-here}
 use Rattle.exchanges.specs.theorems.Steps as steps
@@ -118,3 +120,33 @@ module _ (t : Table) (g : IsTree t) where
     tips = g .tips-range;
     nodes-few = omega (arith, edges-are, few-nodes);
   }
+
+-- ---- with n, m and the parents as code lends them
+
+module _ (t : Table) (n m : ℕ) (h : Sized t n m) where
+  pub lent-spans : (labels begin end : List ℕ) → length labels ≡ 256 → (k : ℕ) (labels-now begin-now end-now : List ℕ)
+      → length begin ≡ 1024 → length end ≡ 1024
+      → Spanned t labels begin end k labels-now begin-now end-now → SpansOf t labels-now begin-now end-now
+  lent-spans labels begin end e k labels-now begin-now end-now b d =
+      spans-listed t labels begin end (h .tree) (omega (arith, h .tree .tips-range)) (omega (arith, few-nodes t (h .tree)))
+      (omega (arith, few-nodes t (h .tree))) k labels-now begin-now end-now
+
+  module _ (labels begin end : List ℕ) (s : SpansOf t labels begin end) where
+    pub lent-fit : (size : List ℕ) → length size ≡ 1024 → SpansFit m begin end size
+    lent-fit size e = rw (h .nodes-are) (spans-fit t (h .tree) labels begin end s size e)
+
+    here : (size : List ℕ) → SpanSizes n m begin end size → SpanSizes (tips t) (nodes t) begin end size
+    here size z = rw (h .tips-are, h .nodes-are) at z
+
+    pub lent-sizing : (size : List ℕ) → SpanSizes n m begin end size → Sizing n (take (2 + m - 2) (drop 2 t)) size
+    lent-sizing size z = to-parts (λ n ps ls. Sizing n ps size) t n m (h .tree .words) (h .tips-are) (h .nodes-are)
+        (table-sizing t (h .tree) labels begin end s size (here size z))
+
+    pub lent-arrays : (size : List ℕ) → SpanSizes n m begin end size → (square : List ℕ)
+        → ((s : Shape n) → SizesOf n (take (2 + m - 2) (drop 2 t)) size s → Squared n (take (2 + m - 2) (drop 2 t)) size square s)
+        → Arrays t labels size square
+    lent-arrays size z square q = record {
+      reads = λ g. table-reads t g labels begin end s size square (here size z)
+          (of-parts (λ n ps ls. (s : Shape n) → SizesOf n ps size s → Squared n ps size square s) t n m (h .tree .words)
+          (h .tips-are) (h .nodes-are) q);
+    }

@@ -1,8 +1,8 @@
 -- What a row of pairs needs: no difference below 0, and no tally past the tenth.
 -- Assumes nothing.
-use mathlib.Core.Path.{_≡_}
+use mathlib.Core.Path.{_≡_, ap}
 use mathlib.Core.List.{List}
-use Prim.Native.Nat.{ℕ, _≤_, _<_}
+use Prim.Native.Nat.{ℕ, _*_, _-_, _/_, _≤_, _<_}
 use native.Mathlib.Omega.{arith}
 use lib.ListN.{length}
 use Rattle.table_words.specs.Sizes.{nodeRoom, tipsMost}
@@ -24,3 +24,18 @@ pub record RowRoom (y w sets : ℕ) (nodes costs tallies : List ℕ) : Type 0 wh
 pub whole-le : (n : ℕ) → n ≤ 256 → whole n ≤ 33751040
 unfolding whole
 whole-le n l = omega (arith, square-le (n - 2) (omega arith), cube-le (n - 2) (omega arith))
+
+-- at the node p of a label
+module _ (y w sets : ℕ) (nodes costs tallies : List ℕ) (r : RowRoom y w sets nodes costs tallies) (x p : ℕ) (l : x < y)
+    (e : p ≡ word nodes x) where
+  pub node-room : p < nodeRoom
+  node-room = omega (arith, r .node x l)
+
+  pub path-room : word costs p ≤ w
+  path-room = rw e (r .least x l)
+
+  pub falls-here : 10 * ((w - word costs p) / 6) / sets ≡ fallsAt w sets nodes costs x
+  falls-here = ap (λ (z : ℕ). 10 * ((w - word costs z) / 6) / sets) e
+
+  pub falls-room : 10 * ((w - word costs p) / 6) / sets < 11
+  falls-room = rw falls-here (r .falls x l)

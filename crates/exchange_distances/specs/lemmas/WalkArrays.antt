@@ -63,13 +63,14 @@ pub record WalkFrom (n : ℕ) (ps bs qs : List ℕ) (p : ℕ) : Type 0 where
   pub tips : n ≤ tipsMost
   pub nodes : length ps ≤ nodesMost
 
-pub walk-from : (n : ℕ) (ps nodes bs qs : List ℕ) → Walked n ps nodes bs qs → (y : ℕ) → y < n → WalkFrom n ps bs qs (word nodes y)
-walk-from n ps nodes bs qs h y l = record {
+pub walk-from : (n : ℕ) (ps nodes bs qs : List ℕ) → Walked n ps nodes bs qs → (y p : ℕ) → y < n → p ≡ word nodes y
+    → WalkFrom n ps bs qs p
+walk-from n ps nodes bs qs h y p l e = record {
   shape = h .shape;
   read = h .reads .squared;
   label = y;
   label-lt = l;
-  here = h .reads .node y l;
+  here = e ∙ h .reads .node y l;
   tips = h .tips .1;
   nodes = h .nodes-few;
 }
