@@ -1,4 +1,5 @@
 pub mod PairOrder
+pub mod Clearing
 pub mod CheckedPair
 pub mod theorems
 pub mod lemmas

@@ -1,1 +1,2 @@
 pub mod PairCheck
+pub mod ClearingLaws

@@ -1,0 +1,3 @@
+pub mod ExchangeTallies
+pub mod theorems
+pub mod lemmas
