@@ -1553,7 +1553,8 @@ class Pages(unittest.TestCase):
         blocks = "\n".join(re.findall(r"^```python\n(.*?)^```$", text, re.M | re.S))
         modules = [("docs/COMMANDS.md", blocks), ("leskwyn", leskwyn.__doc__),
                    *((name, getattr(leskwyn, name).__doc__)
-                     for name in ("compare", "matrix", "why", "influence", "canonical_copy", "same"))]
+                     for name in ("compare", "matrix", "why", "influence", "canonical_copy", "same", "exchange_tallies",
+                                  "exchange_distance"))]
         runner = doctest.DocTestRunner(verbose=False)
         with inside(ROOT), contextlib.redirect_stdout(io.StringIO()) as said:
             for name, content in modules:

@@ -8,7 +8,8 @@ Needs target/libleskwyn.so, or what LESKWYN_LIBRARY names, and the proved progra
 to a brute force over sets of four that looks at the edges of named trees, and to one over sets of three that climbs to their
 lowest common ancestors; where names are struck, over sets of four of trees that are cut down here; the evidence for four tips to a
 search over all edges and all nodes; the influence of each tip to a look at every set of four that holds it; canonical copies to
-nested sets of names; Robinson-Foulds distances to DendroPy and to ETE where they are installed.
+nested sets of names; exchanges to every set of four with two names exchanged, and to comparisons of the two trees; Robinson-Foulds
+distances to DendroPy and to ETE where they are installed.
 """
 import ctypes
 import dataclasses
@@ -39,18 +40,19 @@ from command_runs import CommandTest
 from cases import skips
 from cases.copies import copy_table, copy_text, kept_splits
 from cases.evidence import Witness, evidence, parted
+from cases.exchanges import REFERENCE_TALLIES, bounds, exchange_distances, exchanges, tallies, tally_of
 from cases.influence import influence
 from cases.newick import Tree, parting, random_names, random_tree, sides_of, star_text, with_pass_through, written_tree
 from cases.pairs import climb, needed, split_counts
 from cases.quartets import OUTSIDE_PAIRS, REFERENCE_PAIRS, cases_by_pairs
 from cases.shapes import (balanced, caterpillar, chained, random_pair, random_table, randomly_chained, related_pair, renumbered,
-                          shuffled, star, unrelated_pair)
+                          shuffled, star, unrelated_pair, with_labels_exchanged)
 from cases.tables import (LABEL_TROUBLE, NUMBERS, OUTSIDE, PASS_THROUGH, P, Q, R, REFERENCE, THREE, TWO, W, X, Table, damaged,
                           table, tree_refusal)
 from cases.triplets import triplet_table
 
 import leskwyn
-from leskwyn import _library, api, copies, counting, sources, trees, weights
+from leskwyn import _library, api, copies, counting, exchanges as exchanging, sources, trees, weights
 
 PROGRAM = pathlib.Path(os.environ.get("LESKWYN_COMPARE") or ROOT / "target" / "bin" / "compare").absolute()
 MOST_BYTES = 1016
@@ -1856,6 +1858,231 @@ class Copies(unittest.TestCase):
                 call(pathlib.Path("absent.nwk"))
 
 
+class LibraryExchanges(unittest.TestCase):
+    """How far the library says that exchanges of two labels move a tree, by every set of four, and by the quartet table of the tree
+    and the tree with the labels exchanged."""
+
+    def tallied(self, t: Table, cells: int) -> tuple[int, list[int], list[int]]:
+        """The refusal, the tallies, and the cells, which hold `pattern` before."""
+        lent = (ctypes.c_uint8 * cells)(*pattern(cells))
+        answer = _library.exchange_tallies(_library.words(t), lent)
+        return answer.refusal, list(answer.tallies), list(lent)
+
+    def distance(self, t: Table, x: int, y: int) -> tuple[int, int]:
+        answer = _library.exchange_distance(_library.words(t), x, y)
+        return answer.refusal, answer.distance
+
+    def assert_tallied(self, t: Table, expected: list[int]) -> None:
+        """With the cells that are needed, which are zero afterwards, and with more, which stay."""
+        for cells in (needed(t, t), needed(t, t) + 5):
+            after = [0] * needed(t, t) + pattern(cells)[needed(t, t):]
+            self.assertEqual(self.tallied(t, cells), (0, expected, after), t)
+
+    def test_reference_tables(self) -> None:
+        """With their nodes in another order, and with pass-through nodes, too."""
+        for t, expected in REFERENCE_TALLIES:
+            for one in (t, *(chains for chains, plain in PASS_THROUGH if plain == t)):
+                self.assert_tallied(one, expected)
+                self.assert_tallied(renumbered(one), expected)
+
+    def test_random_trees(self) -> None:
+        """Every pair of labels, in both orders, label 0 among them. All tallies are met, tally 9 in a caterpillar of six."""
+        rng, seen = random.Random(68), set()
+        for case, t in enumerate([caterpillar(6), *(random_table(rng, 2 + case % 8) for case in range(56))]):
+            t = randomly_chained(rng, t) if case % 3 == 0 else t
+            expected, sets_of_four = exchange_distances(sides_of_table(t), range(t[0])), math.comb(t[0], 4)
+            for (x, y), distance in expected.items():
+                self.assertEqual((self.distance(t, x, y), self.distance(t, y, x)), ((0, distance), (0, distance)), (t, x, y))
+            self.assert_tallied(t, tallies(expected.values(), sets_of_four))
+            seen |= {tally_of(distance, sets_of_four) for distance in expected.values()}
+        self.assertEqual(seen, set(range(11)))
+
+    def test_as_two_trees(self) -> None:
+        """Of two labels but 0 the quartet distance of the table with their words exchanged, up to 256 tips and 1024 nodes."""
+        rng, sizes = random.Random(69), []
+        large = [shuffled(rng, caterpillar(256)), balanced(256), chained(rng, random_table(rng, 256), 1024)]
+        for t in [*(random_table(rng, n) for n in range(20, 60, 5)), *large]:
+            words, marks, lent = _library.words(t), marked(*[1] * t[0]), _library.work(needed(t, t))
+            for x, y in (rng.sample(range(1, t[0]), 2) for _ in range(30)):
+                other = _library.words(with_labels_exchanged(t, x, y))
+                expected = _library.quartet_table(words, other, marks, lent)
+                self.assertEqual(self.distance(t, x, y), (expected.refusal, expected.distance), (t, x, y))
+            sizes.append(t[1])
+        self.assertEqual((max(sizes), len(sizes)), (1024, 11))
+
+    def test_caterpillars(self) -> None:
+        """A tip at one end and one at the other change the sets with one of them and three others, and those with both; no other
+        two move so much. At 78 tips that is a tenth of all sets of four, at 79 less."""
+        for n in (5, 6, 10, 40, 78, 79, 256):
+            t, sets_of_four, ends = caterpillar(n), math.comb(n, 4), 2 * math.comb(n - 2, 3) + math.comb(n - 2, 2)
+            words, pairs = _library.words(t), list(itertools.combinations(range(n), 2))
+            every = {two: _library.exchange_distance(words, *two).distance for two in pairs}
+            self.assertEqual([two for two, distance in every.items() if distance == ends],
+                             list(itertools.product((0, 1), (n - 2, n - 1))))
+            self.assertEqual((max(every.values()), [two for two in pairs if not every[two]]), (ends, [(0, 1), (n - 2, n - 1)]))
+            self.assert_tallied(t, tallies(every.values(), sets_of_four))
+            self.assertEqual(tally_of(ends, sets_of_four) > 0, n <= 78)
+
+    def test_large_trees(self) -> None:
+        """From 82 tips on all pairs are in the first tally."""
+        rng = random.Random(70)
+        for n in (82, 83, 256):
+            for t in (star(n), balanced(n), shuffled(rng, caterpillar(n)), chained(rng, random_table(rng, n), 4 * n)):
+                self.assert_tallied(t, [math.comb(n, 2)] + [0] * 10)
+
+    def test_refusals(self) -> None:
+        """Those of the table, then 9 of the tallies, and 10 and 11 of a distance: a refused call answers zeros, and every cell
+        stays. 1 to 48 cells are too few for P."""
+        numbers, asked = set(), set()
+        labels = [0, 1, 4, 5, 255, X, X + 1, X + 6]
+        for t in [P, *damaged(P), *(t for t, _ in LABEL_TROUBLE)]:
+            for cells in (1, 48, 49, 50):
+                expected = tree_refusal(t) or (9 if cells < 49 else 0)
+                refusal, told, left = self.tallied(t, cells)
+                self.assertEqual(refusal, expected, (t, cells))
+                if expected:
+                    self.assertEqual((told, left), ([0] * 11, pattern(cells)))
+                numbers.add(expected)
+            for x, y in itertools.product(labels, repeat=2):
+                expected = tree_refusal(t) or (10 if max(x, y) >= 5 else 11 if x == y else 0)
+                refusal, distance = self.distance(t, x, y)
+                self.assertEqual((refusal, 0 if expected else distance), (expected, distance), (t, x, y))
+                asked.add(expected)
+        self.assertEqual((numbers, asked), ({0, *NUMBERS, 9}, {0, *NUMBERS, 10, 11}))
+
+    def test_reasons(self) -> None:
+        """The package lends cells enough and asks about labels that are there; that it does not is told all the same."""
+        unworded = "the library refuses the tree, and README.md, 'Refusals', has the number"
+        too_short = ("too short: words missing: 1; the table has 17 words, 2 + 2m is 18; words are missing or left over: make the "
+                     "file again")
+        for t, x, y, words in ((P[:-1], 5, 5, f"refused 4: {too_short}"), (P, 5, 5, f"refused 10: {unworded}"),
+                               (P, 2, 2, f"refused 11: {unworded}")):
+            with self.assertRaises(leskwyn.Refusal) as raised:
+                exchanging.distance(_library.words(t), x, y)
+            self.assertEqual(str(raised.exception), words)
+        for t, words in ((P[:-1], f"refused 4: {too_short}"), (P, f"refused 9: {unworded}")):
+            with unittest.mock.patch.object(_library, "WORK_CELLS", 48), self.assertRaises(leskwyn.Refusal) as raised:
+                exchanging.of_table("a table", _library.words(t), list("abcde"))
+            self.assertEqual(str(raised.exception), words)
+
+
+class Exchanges(unittest.TestCase):
+    """How far exchanges of two names move a named tree, by every set of four, and by comparisons."""
+
+    def test_random_trees(self) -> None:
+        """In texts and in objects, with pass-through nodes or without: everything that is told, in its order, and each distance."""
+        rng, seen = random.Random(71), set()
+        for case in range(40):
+            plain = random_named_trees(rng, 2 + case % 8, 1)[0]
+            names, sides = sorted(plain.name.values()), sides_of(plain)
+            tree = with_pass_through(rng, plain, rng.randint(1, 8)) if case % 3 == 0 else plain
+            pairs = [None, 1, 3, 28, 99][case % 5]
+            told = {"tree": "the tree", **exchanges(sides, names, pairs)}
+            for given in (written_tree(rng, tree), in_nodes(tree)) if len(names) > 2 else (written_tree(rng, tree),):
+                with self.subTest(case=case, given=given, pairs=pairs):
+                    found = leskwyn.exchange_tallies(given, pairs=pairs)
+                    self.assertEqual((found.as_dict(), list(found.as_dict())), (told, list(told)))
+                    for (x, y), distance in exchange_distances(sides, names).items():
+                        self.assertEqual((leskwyn.exchange_distance(given, x, y), leskwyn.exchange_distance(given, y, x)),
+                                         (distance, distance), (x, y))
+            seen.add((len(found.most or ()), found.exchanges, pairs))
+        self.assertLessEqual({(1, 1, 99), (3, 15, 3), (28, 36, 28), (36, 36, 99)}, seen)
+
+    def test_as_compared(self) -> None:
+        """The distance of the tree to the tree with two names exchanged, that of label 0 or others."""
+        rng = random.Random(72)
+        for n, count in ((18, 153), (40, 60), (256, 25)):
+            names = sorted(f"t{i}" for i in range(n))
+            tree = random_tree(rng, names, 0.3)
+            text, pairs = written_tree(rng, tree), list(itertools.combinations(names, 2))
+            for x, y in [*pairs[:2], *rng.sample(pairs[2:], count - 2)]:
+                other = Tree([])
+                other.joined = tree.joined
+                other.name = {node: {x: y, y: x}.get(name, name) for node, name in tree.name.items()}
+                expected = leskwyn.compare(text, written_tree(rng, other)).distance
+                self.assertEqual(leskwyn.exchange_distance(text, x, y), expected, (text, x, y))
+
+    def test_the_example_trees(self) -> None:
+        """Feathers with Bute and Foula exchanged are wings. By hand: Azores and Foula, Bute and Coll, or Lundy and Texel move
+        nothing; Azores or Foula with another moves 7 sets of four, as README.md has them, and two of different pairs move 13."""
+        found = leskwyn.exchange_tallies(FEATHERS, pairs=4)
+        self.assertEqual((found.tree, found.tips, found.sets_of_four, found.exchanges, found.tallies),
+                         (str(FEATHERS), 6, 15, 15, (3, 0, 0, 0, 8, 0, 0, 0, 4, 0, 0)))
+        self.assertEqual([(one.name, one.other, one.distance, one.normalised_distance) for one in found.most],
+                         [(*two, 13, 13 / 15) for two in itertools.product(("Bute", "Coll"), ("Lundy", "Texel"))])
+        self.assertEqual([(one.name, one.other, one.distance) for one in found.least],
+                         [("Azores", "Foula", 0), ("Bute", "Coll", 0), ("Lundy", "Texel", 0), ("Azores", "Bute", 7)])
+        self.assertEqual([leskwyn.exchange_distance(given, "Bute", "Foula") for given in (FEATHERS, str(WINGS))], [7, 7])
+
+    def test_pairs(self) -> None:
+        """None, few, all and more than there are. Equal distances stand in the order of the labels in both lists."""
+        text = "((a,b),(c,(d,e)));"
+        far, near = [("a", "d"), ("a", "e"), ("b", "d"), ("b", "e")], [("a", "c"), ("b", "c"), ("c", "d"), ("c", "e")]
+        still = [("a", "b"), ("d", "e")]
+        found = leskwyn.exchange_tallies(text)
+        self.assertEqual((found.most, found.least, list(found.as_dict())[-1]), (None, None, "bounds"))
+        for pairs in (1, 5, 9, 10, 11, 10**30):
+            found = leskwyn.exchange_tallies(text, pairs=pairs)
+            for told, expected in ((found.most, far + near + still), (found.least, still + near + far)):
+                self.assertEqual([(one.name, one.other) for one in told], expected[:pairs])
+
+    def test_bounds(self) -> None:
+        """By trying all distances; of large trees each tally begins after the one before, and its bounds fall in it."""
+        for tips in range(2, 17):
+            found = leskwyn.ExchangeTallies(tree="", tips=tips, tallies=())
+            self.assertEqual(found.as_dict()["bounds"], bounds(math.comb(tips, 4)))
+        for tips in range(17, 257):
+            found = leskwyn.ExchangeTallies(tree="", tips=tips, tallies=()).bounds
+            for tally, (lowest, highest) in enumerate(found):
+                self.assertEqual([tally_of(one, math.comb(tips, 4)) for one in (lowest, highest)], [tally, tally])
+                self.assertEqual(lowest, found[tally - 1][1] + 1 if tally else 0)
+            self.assertEqual(found[10], (math.comb(tips, 4), math.comb(tips, 4)))
+
+    def test_256_tips(self) -> None:
+        """A caterpillar: its ends move it most, and a neighbour at an end moves nothing."""
+        names = [f"t{i:03}" for i in range(256)]
+        found = leskwyn.exchange_tallies("".join(f"({name}," for name in names[:-1]) + names[-1] + ")" * 255 + ";", pairs=4)
+        ends = 2 * math.comb(254, 3) + math.comb(254, 2)
+        self.assertEqual([(one.name, one.other, one.distance) for one in found.most],
+                         [(*two, ends) for two in itertools.product(names[:2], names[-2:])])
+        self.assertEqual([(one.name, one.other, one.distance) for one in found.least][:2],
+                         [("t000", "t001", 0), ("t254", "t255", 0)])
+        self.assertEqual((found.tallies, found.exchanges), ((32640,) + (0,) * 10, 32640))
+
+    def test_names(self) -> None:
+        """By the name, or by the word that stands for it in Newick text."""
+        text = "((Parus_major,'a_b'),(c,('d e',f)));"
+        for x, y, distance in (("Parus major", "d e", 5), ("Parus_major", "'d e'", 5), ("a_b", "d_e", 5), ("'a_b'", "c", 2),
+                               ("a_b", "Parus major", 0)):
+            self.assertEqual(leskwyn.exchange_distance(text, x, y), distance, (x, y))
+
+    def test_refusals(self) -> None:
+        for call, given, told in (
+                (leskwyn.exchange_distance, [WINGS, "Coll", "Zeist"], "'Zeist' is not a tip of the tree"),
+                (leskwyn.exchange_distance, [WINGS, "Yell", "Zeist"], "'Yell', 'Zeist' are not tips of the tree"),
+                (leskwyn.exchange_distance, [WINGS, "Coll", "'Coll'"], "'Coll' stands more than once; two different names are "
+                                                                       "needed"),
+                (leskwyn.exchange_tallies, ["(a,b);(a,b);"], "the tree: 2 trees in the file; one tree is needed here"),
+                (leskwyn.exchange_tallies, ["(a,b,a);"], "the tree: repeated tip names: 'a'; each population stands once in a "
+                                                         "tree"),
+                (leskwyn.exchange_tallies, ["a;"], "the tree: 1 tip; a tree needs 2 to 256")):
+            with self.assertRaises(leskwyn.Refusal) as raised:
+                call(*given)
+            self.assertEqual(str(raised.exception), told)
+        path = ROOT / "examples" / "p-q.bin"
+        for call, more in ((leskwyn.exchange_tallies, []), (leskwyn.exchange_distance, ["a", "b"])):
+            with self.assertRaisesRegex(leskwyn.Refusal, f"^{re.escape(str(path))} is a comparison file, without names: "):
+                call(path, *more)
+            with self.assertRaisesRegex(leskwyn.Trouble, "cannot read absent.nwk"):
+                call(pathlib.Path("absent.nwk"), *more)
+
+    def test_wrong_arguments(self) -> None:
+        """Told before a file is read."""
+        for pairs in (0, -1):
+            with self.assertRaisesRegex(ValueError, f"^pairs is {pairs}, not 1 or more$"):
+                leskwyn.exchange_tallies(pathlib.Path("absent.nwk"), pairs=pairs)
+
+
 class Weights(unittest.TestCase):
     """The spellings of a weight, and the sentence that turns another one away."""
 
@@ -1929,6 +2156,12 @@ class Answers(unittest.TestCase):
         with self.assertRaises(dataclasses.FrozenInstanceError):
             copy.table = ()
         self.assertEqual(len({copy, leskwyn.canonical_copy(FEATHERS, struck=["Foula"])}), 1)
+        moved = leskwyn.exchange_tallies(FEATHERS, pairs=2)
+        for part, field in ((moved, "tallies"), (moved.most[0], "distance")):
+            with self.assertRaises(dataclasses.FrozenInstanceError):
+                setattr(part, field, None)
+        self.assertEqual(json.loads(json.dumps(moved.as_dict())), moved.as_dict())
+        self.assertEqual(len({moved, leskwyn.exchange_tallies(FEATHERS, pairs=2)}), 1)
 
     def test_errors(self) -> None:
         with tempfile.NamedTemporaryFile() as file:
@@ -1962,7 +2195,7 @@ class Answers(unittest.TestCase):
         for name in leskwyn.__all__:
             self.assertTrue(getattr(leskwyn, name).__doc__, name)
         for answer in (leskwyn.Comparison, leskwyn.Evidence, leskwyn.Witness, leskwyn.Influence, leskwyn.Holding, leskwyn.Dropped,
-                       leskwyn.CanonicalCopy):
+                       leskwyn.CanonicalCopy, leskwyn.Exchange, leskwyn.ExchangeTallies):
             for field in dataclasses.fields(answer):
                 self.assertRegex(answer.__doc__, rf"(?m)^ *(\w+, )*{field.name}\b")
 

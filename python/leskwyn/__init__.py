@@ -12,6 +12,9 @@ why(a, b, names)     why two trees part four populations alike or differently, a
 influence(a, b)      which populations drive the distance of two trees, an Influence
 canonical_copy(a)    a tree in the form that all trees with its splits have, a CanonicalCopy
 same(a, b)           whether two trees are the same
+exchange_tallies(a)  how far a tree moves if two populations are mixed up, an ExchangeTallies
+exchange_distance(a, x, y)
+                     how far it moves if these two are
 
 A tree is Newick text, the path of a file, or a tree object of DendroPy or ETE. What is turned away is a Refusal, and what
 cannot be read a Trouble; both are a LeskwynError, with the fields number and reason. docs/COMMANDS.md has the commands
@@ -23,13 +26,16 @@ __version__ = "0.11.0"
 
 # This file and __main__.py are written so that old Pythons can read them, and say a sentence.
 if sys.version_info >= (3, 10):
-    from leskwyn.api import against, canonical_copy, compare, influence, matrix, same, why
+    from leskwyn.api import (against, canonical_copy, compare, exchange_distance, exchange_tallies, influence, matrix, same,
+                             why)
     from leskwyn.copies import CanonicalCopy
     from leskwyn.errors import LeskwynError, Refusal, Trouble
     from leskwyn.evidence import Evidence, Witness
+    from leskwyn.exchanges import Exchange, ExchangeTallies
     from leskwyn.figures import Comparison
     from leskwyn.holding import Dropped, Holding, Influence
-    __all__ = ["CanonicalCopy", "Comparison", "Dropped", "Evidence", "Holding", "Influence", "LeskwynError", "Refusal", "Trouble",
-               "Witness", "against", "canonical_copy", "compare", "influence", "matrix", "same", "why"]
+    __all__ = ["CanonicalCopy", "Comparison", "Dropped", "Evidence", "Exchange", "ExchangeTallies", "Holding", "Influence",
+               "LeskwynError", "Refusal", "Trouble", "Witness", "against", "canonical_copy", "compare", "exchange_distance",
+               "exchange_tallies", "influence", "matrix", "same", "why"]
 elif sys.argv[:1] not in (["-m"], ["-c"]):
     raise ImportError("leskwyn needs Python 3.10 or newer; this is Python %d.%d" % sys.version_info[:2])

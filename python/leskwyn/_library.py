@@ -17,6 +17,8 @@ WORK_CELLS = 1046529
 # Enough for every canonical copy: 2 + 2m words, where m is 2n - 2 at most and n 256.
 COPY_WORDS = 1022
 MOST_WORD = 65535
+# How many tallies the exchanges of a tree have.
+TALLIES = 11
 # The work, a byte for each cell.
 Cells = ctypes.Array[ctypes.c_uint8]
 
@@ -54,6 +56,19 @@ class CopyAnswer(ctypes.Structure):
     _fields_ = [(name, ctypes.c_uint16) for name in ("refusal", "words")]
 
 
+class ExchangeTallies(ctypes.Structure):
+    _fields_ = [("refusal", ctypes.c_uint16), ("tallies", ctypes.c_uint64 * TALLIES)]
+
+
+class ExchangeDistance(ctypes.Structure):
+    _fields_ = [("refusal", ctypes.c_uint16), ("distance", ctypes.c_uint64)]
+
+
+# A slice is a pointer and a length.
+SLICE_OF_WORDS: list[typing.Any] = [ctypes.POINTER(ctypes.c_uint16), ctypes.c_size_t]
+SLICE_OF_BYTES: list[typing.Any] = [ctypes.POINTER(ctypes.c_uint8), ctypes.c_size_t]
+
+
 class PairCall(typing.NamedTuple):
     """A call of two tables: its answer, whether it takes marks after them, and work after these, and what it takes besides."""
     answer: type[ctypes.Structure]
@@ -69,6 +84,10 @@ PAIR_CALLS = {"leskwyn_claim_sums": PairCall(ClaimSums), "leskwyn_quartet_table"
               "leskwyn_evidence": PairCall(Evidence, is_marked=False, has_work=False, besides=[ctypes.c_uint16] * 4),
               "leskwyn_holding": PairCall(FiveCounts, has_work=False, besides=[ctypes.c_uint16]),
               "leskwyn_change_mark": PairCall(FiveCounts, has_work=False, besides=[ctypes.c_uint64] * 5 + [ctypes.c_uint16] * 2)}
+# The calls of one table: what each answers, and what it takes after the table.
+TREE_CALLS = {"leskwyn_canonical_copy": (CopyAnswer, SLICE_OF_BYTES + SLICE_OF_WORDS),
+              "leskwyn_exchange_tallies": (ExchangeTallies, SLICE_OF_BYTES),
+              "leskwyn_exchange_distance": (ExchangeDistance, [ctypes.c_uint16] * 2)}
 
 
 class Words(typing.NamedTuple):
@@ -126,14 +145,13 @@ def library() -> ctypes.CDLL:
                       "name another")
     try:
         found = ctypes.CDLL(os.path.abspath(path))
-        slice_of_words = [ctypes.POINTER(ctypes.c_uint16), ctypes.c_size_t]
-        slice_of_bytes = [ctypes.POINTER(ctypes.c_uint8), ctypes.c_size_t]
         for name, (answer, is_marked, has_work, besides) in PAIR_CALLS.items():
             call = getattr(found, name)
-            call.argtypes = slice_of_words * 2 + slice_of_bytes * (is_marked + has_work) + besides
+            call.argtypes = SLICE_OF_WORDS * 2 + SLICE_OF_BYTES * (is_marked + has_work) + besides
             call.restype = answer
-        found.leskwyn_canonical_copy.argtypes = slice_of_words + slice_of_bytes + slice_of_words
-        found.leskwyn_canonical_copy.restype = CopyAnswer
+        for name, (tree_answer, after) in TREE_CALLS.items():
+            call = getattr(found, name)
+            call.argtypes, call.restype = SLICE_OF_WORDS + after, tree_answer
         found.leskwyn_version.argtypes, found.leskwyn_version.restype = [], ctypes.c_uint32
     except (OSError, AttributeError) as error:
         raise Trouble(f"cannot load the library {path}: {error}") from None
@@ -196,4 +214,17 @@ def change_mark(first: Words, second: Words, marked: Marks, counts: Sequence[int
 def canonical_copy(table: Words, marked: Marks, lent: Words) -> CopyAnswer:
     """The canonical copy of the kept part of one tree, written into the lent words, and how many words it has; or a refusal."""
     answer: CopyAnswer = library().leskwyn_canonical_copy(*table, *marked, *lent)
+    return answer
+
+
+def exchange_tallies(table: Words, lent: Cells) -> ExchangeTallies:
+    """The eleven tallies of the distances by which exchanges of two labels move a tree, or a refusal."""
+    answer: ExchangeTallies = library().leskwyn_exchange_tallies(*table, lent, len(lent))
+    return answer
+
+
+def exchange_distance(table: Words, x: int, y: int) -> ExchangeDistance:
+    """The distance by which the exchange of two labels moves a tree, or a refusal. It takes no work. A label that does not fit in
+    a word is n or more as the largest word is."""
+    answer: ExchangeDistance = library().leskwyn_exchange_distance(*table, min(x, MOST_WORD), min(y, MOST_WORD))
     return answer

@@ -1,12 +1,15 @@
-"""What Python callers use: compare, against, matrix, why, influence, canonical_copy and same."""
+"""What Python callers use: compare, against, matrix, why, influence, canonical_copy, same, exchange_tallies and
+exchange_distance."""
 import contextlib
 from collections.abc import Iterable, Iterator, Sequence
 
-from leskwyn import _library, copies, counting, evidence, files, holding
+from leskwyn import _library, copies, counting, evidence, exchanges, files, holding
+from leskwyn._library import Words
 from leskwyn.copies import CanonicalCopy, Sameness
 from leskwyn.counting import Number
 from leskwyn.errors import Refusal
 from leskwyn.evidence import Evidence
+from leskwyn.exchanges import ExchangeTallies
 from leskwyn.figures import Comparison
 from leskwyn.holding import Influence
 from leskwyn.labels import labels_given, labels_of_tips, labels_struck, outgroup_first, tips_struck
@@ -129,8 +132,7 @@ def influence(a: Given, b: Given = None, *, common: bool = False, struck: Iterab
         >>> [(one.name, one.kept, one.distance) for one in found.dropped]
         [('c', 4, 0)]
     """
-    if drop is not None and drop < 1:
-        raise ValueError(f"drop is {drop}, not 1 or more")
+    check_positive("drop", drop)
     words, pair = struck_words(struck), pair_given(a, b, None)
     if isinstance(pair, ComparisonFile):
         return influence_file(*pair, words, drop)
@@ -170,6 +172,42 @@ def same(a: Given, b: Given = None, *, common: bool = False, struck: Iterable[st
     if isinstance(pair, ComparisonFile):
         return same_file(*pair, words).is_same
     return same_trees(*pair, common=common, struck=words).is_same
+
+
+def exchange_tallies(tree: Given, *, pairs: int | None = None) -> ExchangeTallies:
+    """How far one tree moves if two of its tips change names, as if two envelopes were mixed up: the quartet distance of the tree
+    with the names exchanged to the tree as it is, tallied over all pairs of tips, as an ExchangeTallies.
+
+    The tree is given as to compare. There are eleven tallies: that of a distance is ten times the distance over all sets of four,
+    rounded down, and with fewer than four tips 0.
+
+    With `pairs`, 1 or more, the ExchangeTallies has so many of the pairs that move the tree most, and of those that move it least,
+    with their distances, or all of them where there are fewer. Equal distances come by name.
+
+    Raises Refusal and Trouble as compare does, and ValueError for `pairs` below 1.
+
+        >>> found = leskwyn.exchange_tallies("((a,b),(c,(d,e)));", pairs=1)
+        >>> found.tallies
+        (2, 0, 0, 0, 4, 0, 0, 0, 0, 0, 4)
+        >>> [(one.name, one.other, one.distance) for one in found.most + found.least]
+        [('a', 'd', 5), ('a', 'b', 0)]
+    """
+    check_positive("pairs", pairs)
+    return exchange_tree(*trees_given(tree, "the tree", 1), pairs)
+
+
+def exchange_distance(tree: Given, x: str, y: str) -> int:
+    """How many sets of four one tree parts differently if the tips `x` and `y` change names: the quartet distance of the tree with
+    the names exchanged to the tree as it is.
+
+    The tree is given as to compare. Raises Refusal and Trouble as compare does, and Refusal for a name that is no tip, or for one
+    that stands twice.
+
+        >>> leskwyn.exchange_distance("((a,b),(c,d));", "a", "b"), leskwyn.exchange_distance("((a,b),(c,d));", "a", "c")
+        (0, 1)
+    """
+    table, names = table_and_names(*trees_given(tree, "the tree", 1))
+    return exchanges.distance(table, *labels_of_tips([x, y], names, "the tree", "two"))
 
 
 # ---- what these share with the commands
@@ -253,7 +291,8 @@ def why_trees(first: Placed, second: Placed, four: Sequence[str], *, common: boo
     (first, second), names = same_names([first, second], common, outgroup)
     labels = labels_of_names(names)
     tables = [table_of(placed.tree, labels) for placed in (first, second)]
-    return evidence.of_labels((first.place, second.place), tables[0], tables[1], labels_of_tips(four, names), names)
+    asked = labels_of_tips(four, names, "both trees", "four")
+    return evidence.of_labels((first.place, second.place), tables[0], tables[1], asked, names)
 
 
 def why_file(place: str, content: bytes, four: Sequence[str]) -> Evidence:
@@ -310,6 +349,16 @@ def same_file(place: str, content: bytes, struck: Sequence[str] | None = None) -
         return copies.sameness(first, second, optional_labels(struck))
 
 
+def table_and_names(placed: Placed) -> tuple[Words, list[str]]:
+    """The table of a tree, and its names in the order of their labels."""
+    names = checked([placed])
+    return _library.words(table_of(placed.tree, labels_of_names(names))), names
+
+
+def exchange_tree(placed: Placed, pairs: int | None = None) -> ExchangeTallies:
+    return exchanges.of_table(placed.place, *table_and_names(placed), pairs)
+
+
 def all_trees(trees: Iterable[Given]) -> list[Placed]:
     if isinstance(trees, str) or named_file(trees) is not None:
         trees = [trees]
@@ -324,7 +373,11 @@ def same_names(trees: Sequence[Placed], common: bool, outgroup: str | None) -> t
     return held, outgroup_first(checked(held), outgroup)
 
 
+def check_positive(name: str, number: int | None) -> None:
+    if number is not None and number < 1:
+        raise ValueError(f"{name} is {number}, not 1 or more")
+
+
 def threads(jobs: int | None) -> int:
-    if jobs is not None and jobs < 1:
-        raise ValueError(f"jobs is {jobs}, not 1 or more")
+    check_positive("jobs", jobs)
     return counting.default_jobs() if jobs is None else jobs

@@ -6,6 +6,7 @@ from collections.abc import Iterable, Sequence
 from leskwyn import _library, counting
 from leskwyn._library import Words
 from leskwyn.errors import Refusal
+from leskwyn.figures import in_lists
 from leskwyn.tables import labels_of, parents_of
 from leskwyn.trees import INNER, Table, repeated
 
@@ -54,10 +55,6 @@ class Evidence:
     def as_dict(self) -> dict[str, typing.Any]:
         """All of it under its names, in the order of docs/COMMANDS.md; names stand in lists."""
         return dataclasses.asdict(self, dict_factory=lambda fields: {key: in_lists(value) for key, value in fields})
-
-
-def in_lists(value: typing.Any) -> typing.Any:
-    return [in_lists(one) for one in value] if isinstance(value, tuple) else value
 
 
 # ---- what is left of a tree with an edge or a node taken away

@@ -128,8 +128,12 @@ class Comparison:
     def as_dict(self) -> dict[str, typing.Any]:
         """All figures under their names, in the order of docs/COMMANDS.md; names stand in lists. Those of a weight are there if one
         is given, and those of struck names if such are given."""
-        figures = ((key, getattr(self, key)) for key in keys_of(self))
-        return {key: list(value) if isinstance(value, tuple) else value for key, value in figures}
+        return {key: in_lists(getattr(self, key)) for key in keys_of(self)}
+
+
+def in_lists(value: typing.Any) -> typing.Any:
+    """The value with a list for each tuple, as JSON has it."""
+    return [in_lists(one) for one in value] if isinstance(value, tuple) else value
 
 
 def normalised(part: int | float, whole: int) -> float:

@@ -1,4 +1,4 @@
-"""Labels of names: which name is the outgroup, which four are asked about, which are struck, and lists of labels, 'label TAB name'
+"""Labels of names: which name is the outgroup, which are asked about, which are struck, and lists of labels, 'label TAB name'
 lines, that are read back."""
 import re
 from collections.abc import Sequence
@@ -30,17 +30,18 @@ def outgroup_first(names: list[str], outgroup: str | None) -> list[str]:
     return [found] + [name for name in names if name != found]
 
 
-def labels_of_tips(words: Sequence[str], names: list[str]) -> list[int]:
-    """The labels of four different tips, of the names in the order of their labels."""
+def labels_of_tips(words: Sequence[str], names: list[str], whose: str, wanted: str) -> list[int]:
+    """The labels of different tips, of the names in the order of their labels. In a message `whose` tells of which trees they are
+    tips, and `wanted` how many there are."""
     found = {word: tip_named(word, names) for word in words}
     strange = [word for word, name in found.items() if name is None]
     if strange:
-        raise Refusal(f"{some_of(strange)} {'is not a tip' if len(strange) == 1 else 'are not tips'} of both trees"
+        raise Refusal(f"{some_of(strange)} {'is not a tip' if len(strange) == 1 else 'are not tips'} of {whose}"
                       + form_hint(strange, names))
     tips = [name for name in map(found.get, words) if name is not None]
     again = repeated(tips)
     if again:
-        raise Refusal(f"{some_of(again)} {'stands' if len(again) == 1 else 'stand'} more than once; four different names are "
+        raise Refusal(f"{some_of(again)} {'stands' if len(again) == 1 else 'stand'} more than once; {wanted} different names are "
                       "needed")
     return [names.index(name) for name in tips]
 

@@ -162,15 +162,19 @@ def marks_refusal(number: int, table: Table, marks: Sequence[int]) -> Refusal | 
     return None
 
 
+def tree_refusal(number: int, table: Table) -> Refusal:
+    """A refusal of one table by the library's number, with the reason that the rules give."""
+    found = broken_rule(table) if number in RULES else None
+    if found is None or found.number != number:
+        return Refusal("the library refuses the tree, and README.md, 'Refusals', has the number", number)
+    return Refusal(f"{found.fault}; {found.advice}", number)
+
+
 def copy_refusal(number: int, table: Table, marks: Sequence[int]) -> Refusal:
     """A refusal of a tree's copy by the library's number, with its reason."""
     if number == 36:
         return Refusal("the words lent for the copy are too few; it takes 2 + 2m for its own m", number)
-    found = broken_rule(table) if number in RULES else None
-    if found is not None and found.number == number:
-        return Refusal(f"{found.fault}; {found.advice}", number)
-    return (marks_refusal(number, table, marks)
-            or Refusal("the library refuses the tree, and README.md, 'Refusals', has the number", number))
+    return marks_refusal(number, table, marks) or tree_refusal(number, table)
 
 
 def pair_refusal(number: int, first: Table, second: Table, marks: Sequence[int] = ()) -> Refusal:
