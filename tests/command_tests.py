@@ -1,6 +1,6 @@
 #!/usr/bin/env python3
-"""Tests of the commands compare, why, influence, copy, same, matrix and against, of docs/COMMANDS.md, and of what the commands say
-where things fail.
+"""Tests of the commands compare, why, influence, copy, same, exchange, matrix and against, of docs/COMMANDS.md, and of what the
+commands say where things fail.
 
     python3 tests/command_tests.py
 
@@ -27,12 +27,14 @@ import tempfile
 import time
 import unittest
 import unittest.mock
+from math import comb
 
 sys.dont_write_bytecode = True
 from command_runs import ENVIRONMENT, LESKWYN, ROOT, CommandTest, Done, inside
 from cases import skips
 from cases.copies import copy_table, copy_text, kept_splits
 from cases.evidence import evidence
+from cases.exchanges import REFERENCE_TALLIES, exchanges
 from cases.influence import CASES, influence
 from cases.newick import random_names, random_tree, sides_of, star_text, with_pass_through, written_tree
 from cases.pairs import pair_refusal, split_counts
@@ -1180,6 +1182,155 @@ class Same(TreesTest):
         self.assert_message(self.here("same", "feathers.nwk", "absent"), 2, "cannot read absent: No such file")
 
 
+class Exchange(TreesTest):
+    """How far two exchanged populations move a tree, by a look at every set of four."""
+
+    # README.md, 'Five minutes': what feathers keep together.
+    SIDES = [frozenset(["Bute", "Coll"]), frozenset(["Lundy", "Texel"])]
+    PAIR = ["name", "other", "distance", "normalised_distance"]
+    SHARES = [*(f"{10 * tally} to {10 * tally + 10} %" for tally in range(10)), "100 %"]
+
+    def words(self, told: dict[str, object]) -> list[str]:
+        """The text of all that is told, squeezed."""
+        def cells(row: dict[str, object]) -> str:
+            return f"{row['name']} + {row['other']} {row['distance']} {row['normalised_distance']:.4f}"
+        distances = ["-" if one is None else " to ".join(map(str, dict.fromkeys(one))) for one in told["bounds"]]
+        lines = [f"tree: {told['tree']}", "", f"populations {told['tips']}", f"sets of four {told['sets_of_four']}",
+                 f"exchanges {told['exchanges']} pairs of populations", "", "share of the sets distance exchanges"]
+        lines += [" ".join(map(str, row)) for row in zip(self.SHARES, distances, told["tallies"], strict=True)]
+        for key in ("most", "least") if "most" in told else ():
+            lines += ["", f"moves the tree {key} distance normalised", *map(cells, told[key])]
+        return [*lines, ""]
+
+    def rows(self, told: dict[str, object]) -> list[list[str]]:
+        """The rows of tsv."""
+        if "most" in told:
+            return [["moves", *self.PAIR], *([key, *(str(row[column]) for column in self.PAIR)] for key in ("most", "least")
+                                             for row in told[key])]
+        limits = [["", ""] if one is None else list(map(str, one)) for one in told["bounds"]]
+        return [["tally", "lowest", "highest", "exchanges"], *([str(tally), *limits[tally], str(count)]
+                                                               for tally, count in enumerate(told["tallies"]))]
+
+    def assert_told(self, path: str, options: list[str], expected: dict[str, object], stdin: str = "") -> None:
+        """All three formats; standard error is empty."""
+        text, tsv, told = (self.here("exchange", path, *options, *more, stdin=stdin) for more in ([], ["--format", "tsv"],
+                                                                                                 ["--format=json"]))
+        self.assertEqual([(done.returncode, done.stderr) for done in (text, tsv, told)], [(0, b"")] * 3)
+        self.assertEqual(squeezed(text.stdout.decode()), self.words(expected))
+        self.assertEqual([line.split("\t") for line in tsv.stdout.decode().removesuffix("\n").split("\n")], self.rows(expected))
+        self.assertEqual((told.stdout.count(b"\n"), json.loads(told.stdout), list(json.loads(told.stdout))),
+                         (1, expected, list(expected)))
+
+    def test_by_hand(self) -> None:
+        """Of feathers 3, 8 and 4 exchanges move 0, 7 and 13 of the 15 sets of four; of a caterpillar of five those of P."""
+        moved = self.words({"tree": "feathers.nwk", **exchanges(self.SIDES, NAMES)})
+        for line in ("0 to 10 % 0 to 1 3", "40 to 50 % 6 to 7 8", "80 to 90 % 12 to 13 4", "100 % 15 0"):
+            self.assertIn(line, moved)
+        for pairs in (None, 1, 3, 15, 16, 10**9):
+            options = [] if pairs is None else ["--pairs", str(pairs)]
+            self.assert_told("feathers.nwk", options, {"tree": "feathers.nwk", **exchanges(self.SIDES, NAMES, pairs)})
+        for t, tallies in REFERENCE_TALLIES:
+            told = json.loads(self.here("exchange", "-", "--format", "json", stdin=newick_text(t)).stdout)
+            self.assertEqual((told["tips"], told["tallies"]), (t[0], tallies))
+
+    def test_few_tips(self) -> None:
+        """Nothing moves, and only tally 0 holds a distance; of four tips, tally 0 and the last do."""
+        for text, sides, names in (("(b,a);", [], "ab"), ("(a,(c,b));", [], "abc"), ("((a,b),(c,d));", [frozenset("ab")], "abcd"),
+                                   ("(a,b,c,d);", [], "abcd")):
+            for pairs in (None, 2):
+                options = [] if pairs is None else [f"--pairs={pairs}"]
+                self.assert_told("-", options, {"tree": "standard input", **exchanges(sides, list(names), pairs)}, stdin=text)
+        lines = squeezed(self.here("exchange", "-", stdin="(a,b,c);").stdout.decode())
+        self.assertEqual(lines[-12:], ["0 to 10 % 0 3", *(f"{share} - 0" for share in self.SHARES[1:]), ""])
+
+    def test_random_trees(self) -> None:
+        """With nodes of many branches and with pass-through nodes."""
+        rng, seen = random.Random(73), set()
+        for case in range(30):
+            names = sorted(f"t{at}" for at in range(4 + case % 6))
+            plain = random_tree(rng, names, rng.choice([0, 0.3, 0.8]))
+            self.file("tree", written_tree(rng, with_pass_through(rng, plain, rng.randint(1, 9)) if case % 2 else plain))
+            pairs = rng.choice([None, 1, 2, 5, 99])
+            expected = {"tree": "tree", **exchanges(sides_of(plain), names, pairs)}
+            with self.subTest(case=case, pairs=pairs):
+                self.assert_told("tree", [] if pairs is None else ["--pairs", str(pairs)], expected)
+            seen |= {tally for tally, count in enumerate(expected["tallies"]) if count}
+        self.assertGreaterEqual(len(seen), 8)
+
+    def test_columns(self) -> None:
+        """What stands first starts in one column, and figures end in theirs, whatever the widths."""
+        names = ["a", "a_longer_name_than_all_others", *(f"t{i}" for i in range(16))]
+        self.file("long.nwk", "".join(f"({name}," for name in names[:-1]) + names[-1] + ")" * 17 + ";")
+        tables = self.here("exchange", "long.nwk", "--pairs", "40").stdout.decode().split("\n\n")[2:]
+        for table, rows in zip(tables, (12, 41, 41), strict=True):
+            ends = [[cell.end() for cell in re.finditer(r"\S+(?: \S+)*", line)][1:] for line in table.splitlines()]
+            self.assertEqual(ends, [ends[0]] * rows)
+        self.assertIn("\na + a longer name than all others   ", tables[2])
+
+    def test_names_as_they_are_written(self) -> None:
+        """In the text a name that could be read as several stands in quotes, and no row has a line break or a TAB of a name."""
+        self.file("names.nwk", "(('a, b',Parus_major),('c + d',('e\nf','g\th')));")
+        most = self.here("exchange", "names.nwk", "--pairs", "4").stdout.decode().split("\n\n")[3].splitlines()[1:]
+        self.assertEqual([re.split(" {3,}", line)[0] for line in most],
+                         ["Parus major + e\\nf", "Parus major + g\\th", "'a, b' + e\\nf", "'a, b' + g\\th"])
+        tsv = self.here("exchange", "names.nwk", "--pairs", "4", "--format", "tsv").stdout.decode().splitlines()
+        self.assertEqual([row.split("\t")[:3] for row in tsv[1:5]],
+                         [["most", x, y] for x in ("Parus major", "a, b") for y in ("e\\nf", "g\\th")])
+        self.assertEqual(tsv[5].split("\t")[:3], ["least", "Parus major", "a, b"])
+
+    def test_every_way_of_giving_a_tree(self) -> None:
+        expected = exchanges(self.SIDES, NAMES, 2)
+        for arguments, stdin, place in ((["feathers.nwk"], "", "feathers.nwk"), (["-"], FEATHERS, "standard input"),
+                                        (["--", "feathers.nwk"], "", "feathers.nwk")):
+            done = self.here("exchange", "--pairs", "2", "--format", "json", *arguments, stdin=stdin)
+            self.assertEqual(json.loads(done.stdout), {"tree": place, **expected})
+        copy = self.here("copy", "feathers.nwk", "--strike", "Azores").stdout
+        told = json.loads(self.here("exchange", "-", "--format", "json", stdin=copy).stdout)
+        self.assertEqual(told, {"tree": "standard input", **exchanges(self.SIDES, NAMES[1:])})
+
+    def test_256_tips(self) -> None:
+        """In a caterpillar the ends move most, and all 32640 exchanges stand there if so many are wanted."""
+        names = [f"t{i:03}" for i in range(256)]
+        self.file("worm.nwk", "".join(f"({name}," for name in names[:-1]) + names[-1] + ")" * 255 + ";")
+        rows = self.here("exchange", "worm.nwk", "--pairs", "99999", "--format", "tsv").stdout.decode().splitlines()[1:]
+        most, least = rows[:32640], rows[32640:]
+        self.assertEqual(sorted(row.split("\t", 1)[1] for row in most), sorted(row.split("\t", 1)[1] for row in least))
+        distances = [int(row.split("\t")[3]) for row in most]
+        self.assertEqual((distances, distances[:4]), (sorted(distances, reverse=True), [2 * comb(254, 3) + comb(254, 2)] * 4))
+        self.assertEqual([int(row.split("\t")[3]) for row in least], distances[::-1])
+
+    def test_trees_that_are_refused(self) -> None:
+        for arguments, stdin, words in (
+                (["both.nwk"], "", "both.nwk: 2 trees in the file; one tree is needed here"),
+                (["-"], "(a,(b,c);", "standard input, line 1: a ( without its )"), (["-"], "a;", "1 tip; a tree needs 2 to 256"),
+                (["-"], "(a,b,a);", "repeated tip names: 'a'"), (["-"], packed(P, Q), "standard input is a comparison file")):
+            for pairs in ([], ["--pairs", "3"]):
+                self.assert_message(self.here("exchange", *arguments, *pairs, stdin=stdin), 1, words)
+
+    def test_wrong_usage(self) -> None:
+        for arguments, words in (([], "0 files; one is needed"), (["a", "b"], "2 files; one is needed"),
+                                 ([""], "an empty file name"), (["both.nwk", "--pairs"], "--pairs: expected one argument"),
+                                 *((["both.nwk", f"--pairs={k}"], f"--pairs: '{k}' is not a number of pairs from 1 on")
+                                   for k in ("0", "-1", "1.0", "x", "", "\u0663")),
+                                 (["both.nwk", "--format", "phylip"], "invalid choice: 'phylip'"),
+                                 (["both.nwk", "--strike", "Azores"], "unrecognized arguments: --strike")):
+            self.assert_message(self.here("exchange", *arguments), 2, words, "leskwyn exchange --help tells the usage")
+        self.assert_message(self.here("exchange", "absent"), 2, "cannot read absent: No such file")
+
+    def test_the_page(self) -> None:
+        """The examples of docs/COMMANDS.md tell what a look at every set of four tells."""
+        page = (ROOT / "docs" / "COMMANDS.md").read_text(encoding="utf-8").split("## exchange\n")[1].split("\n## ")[0]
+        text, tsv, told = re.findall(r"(?ms)^```\n(.*?)^```$", page)
+        place = {"tree": "examples/feathers.nwk"}
+        self.assertEqual(squeezed(text), self.words(place | exchanges(self.SIDES, NAMES, 3)))
+        self.assertEqual([line.split("\t") for line in tsv.splitlines()], self.rows(exchanges(self.SIDES, NAMES)))
+        self.assertEqual(json.loads(told), place | exchanges(self.SIDES, NAMES, 1))
+        for column in ["moves", *self.PAIR]:
+            self.assertIn(f"`{column}`", page)
+        keys = re.findall(r"`(\w+)`", " ".join(re.findall(r"(?m)^\| (`.*?) \|", page)))
+        self.assertEqual(keys, list(place | exchanges(self.SIDES, NAMES, 1)))
+
+
 class Many(TreesTest):
     TREES = [FEATHERS, WINGS, "(Azores,Bute,Coll,Foula,Lundy,Texel);\n", FEATHERS]
 
@@ -1305,7 +1456,7 @@ class Usage(TreesTest):
         self.assert_message(self.here("compare", "both.nwk", "--weight", "1/2", "--listing"), 2, "--listing and --weight exclude")
         self.assert_message(self.here("matrix", "both.nwk", "--weight", "1/2"), 2, "only 'weighted' takes a weight")
         self.assert_message(self.here("matrix", "both.nwk", "--measure", "weighted"), 2, "the weighted distance needs a weight")
-        commands = "compare, matrix, against, why, influence, copy, same, table, show"
+        commands = "compare, matrix, against, why, influence, copy, same, exchange, table, show"
         self.assert_message(self.here("comprae"), 2, f"no command 'comprae'; the commands are {commands} (")
 
     def test_wrong_weights(self) -> None:
@@ -1349,7 +1500,7 @@ class Usage(TreesTest):
     def test_help_and_version(self) -> None:
         version = f"leskwyn (Leskwyn) {leskwyn.__version__}\n".encode()
         self.assertEqual(run_leskwyn("--version").stdout, version)
-        for command in ("compare", "matrix", "against", "why", "influence", "copy", "same", "table", "show"):
+        for command in ("compare", "matrix", "against", "why", "influence", "copy", "same", "exchange", "table", "show"):
             for arguments, word in ((["--version"], version), (["--help"], b"usage: leskwyn " + command.encode())):
                 done = run_leskwyn(command, *arguments)
                 self.assertEqual((done.returncode, done.stderr), (0, b""))
@@ -1364,8 +1515,8 @@ class Surroundings(TreesTest):
     WRITERS = [["compare", "both.nwk"], ["compare", "--listing", "both.nwk"], ["compare", "--listing", "--tables", "both.nwk"],
                ["matrix", "both.nwk"], ["against", "feathers.nwk", "wings.nwk"],
                ["why", "both.nwk", "Azores", "Bute", "Coll", "Foula"], ["influence", "both.nwk"], ["copy", "wings.nwk"],
-               ["same", "both.nwk"], ["same", "wings.nwk", "wings.nwk"], ["--help"], ["compare", "--help"], ["--version"],
-               ["show", "--version"], ["table", "both.nwk"]]
+               ["same", "both.nwk"], ["same", "wings.nwk", "wings.nwk"], ["exchange", "wings.nwk"], ["--help"],
+               ["compare", "--help"], ["--version"], ["show", "--version"], ["table", "both.nwk"]]
 
     def assert_one_sentence(self, done: Done, status: int, *words: bytes) -> None:
         self.assertEqual((done.returncode, done.stderr.count(b"\n"), done.stderr[:9]), (status, 1, b"leskwyn: "), done.stderr)

@@ -446,7 +446,7 @@ class LeskwynBuilding(LeskwynDoor, Building):
     def test_help_and_version_build_nothing(self) -> None:
         self.with_nothing_to_build_with()
         super().test_help_and_version_build_nothing()
-        for command in ("compare", "against", "matrix", "why", "influence", "copy", "same", "table", "show"):
+        for command in ("compare", "against", "matrix", "why", "influence", "copy", "same", "exchange", "table", "show"):
             for words in (["-h"], ["--help"], ["a", "--help"]):
                 done = self.run_door(command, *words)
                 self.assertEqual((done.returncode, done.stderr), (0, b""))
@@ -469,6 +469,8 @@ class LeskwynBuilding(LeskwynDoor, Building):
                             (["copy", "a", "b"], "2 files; one is needed"), (["copy", "a.nwk"], "cannot read a.nwk: No such file"),
                             (["same"], "0 files; one or two are needed"),
                             (["same", "-", "a.nwk"], "cannot read a.nwk: No such file"),
+                            (["exchange", "a", "--pairs", "0"], "not a number of pairs from 1 on"),
+                            (["exchange", "a.nwk"], "cannot read a.nwk: No such file"),
                             (["table"], "0 tree files;"), (["show", "a", "--nmaes", "b"], "--nmaes"),
                             (["compare", "a.nwk", "-"], "cannot read a.nwk: No such file"),
                             (["matrix", "-", "the house"], "cannot read the house: Is a directory"),

@@ -1,4 +1,5 @@
-"""The commands compare, why, influence, copy, same, matrix and against, and the way from the command line to each command.
+"""The commands compare, why, influence, copy, same, exchange, matrix and against, and the way from the command line to each
+command.
 
     leskwyn COMMAND [OPTION...] [FILE...]
 
@@ -13,8 +14,8 @@ from collections.abc import Callable
 
 from leskwyn import __version__, counting, files, text
 from leskwyn._library import TOP
-from leskwyn.api import (compare_file, compare_trees, copy_tree, influence_file, influence_trees, optional_struck, same_file,
-                         same_trees, why_file, why_trees)
+from leskwyn.api import (compare_file, compare_trees, copy_tree, exchange_tree, influence_file, influence_trees, optional_struck,
+                         same_file, same_trees, why_file, why_trees)
 from leskwyn.copies import Sameness
 from leskwyn.errors import LeskwynError, Refusal, Trouble, counted, quoted
 from leskwyn.figures import Comparison
@@ -36,6 +37,7 @@ Counts population trees against each other, four populations at a time, by a lib
   leskwyn influence A B            each population: how far it drives the distance
   leskwyn same A B                 two trees: whether they are the same
   leskwyn copy FILE                one tree, in the form that all trees with its splits have
+  leskwyn exchange FILE            one tree: how far it moves if two populations are mixed up
   leskwyn against REF FILE...      one tree against many, a row for each
   leskwyn matrix FILE...           all pairs of trees, a square of distances
   leskwyn table A B -o PAIR        two trees as one comparison file
@@ -305,6 +307,33 @@ def same_command(options: argparse.Namespace) -> int:
     return 0 if found.is_same else 1
 
 
+# ---- exchange
+
+def exchange_parser() -> Parser:
+    parser = Parser("exchange", usage="leskwyn exchange FILE [--pairs K] [--format text|tsv|json]",
+                    description="Exchanges the names of each two populations of a tree in turn, as if two envelopes were mixed up, "
+                                "and\ntallies how far that moves the tree: how many sets of four it parts differently then.",
+                    epilog="docs/COMMANDS.md has the columns of tsv and the keys of json.\n" + STATUS)
+    parser.add_argument("trees", nargs="*", metavar="FILE", help="a Newick file of one tree; - is standard input")
+    parser.add_argument("--pairs", type=number_of("pairs"), metavar="K",
+                        help="show the K pairs of populations that move the tree most and least, or all where there are fewer")
+    parser.add_argument("--format", choices=list(text.EXCHANGE_FORMATS), default="text", help="for people, or for programs")
+    return parser
+
+
+def exchange_options(arguments: list[str]) -> argparse.Namespace:
+    parser = exchange_parser()
+    options = parser.parsed(arguments, "trees")
+    parser.check_one(options.trees)
+    return options
+
+
+def exchange_command(options: argparse.Namespace) -> int:
+    found = exchange_tree(*trees_of_path(options.trees[0], 1), options.pairs)
+    files.print_text(text.EXCHANGE_FORMATS[options.format](found))
+    return 0
+
+
 # ---- many trees
 
 def read_all(paths: list[str]) -> list[Placed]:
@@ -429,7 +458,7 @@ class Counting(typing.NamedTuple):
 COUNTING = {"compare": Counting(compare_options, compare_command), "matrix": Counting(matrix_options, matrix_command),
             "against": Counting(against_options, against_command), "why": Counting(why_options, why_command),
             "influence": Counting(influence_options, influence_command), "copy": Counting(copy_options, copy_command),
-            "same": Counting(same_options, same_command)}
+            "same": Counting(same_options, same_command), "exchange": Counting(exchange_options, exchange_command)}
 OTHERS = {"table": table_command, "show": show_command}
 
 

@@ -1,11 +1,12 @@
 """Figures as text: for people, as TSV, as JSON, and squares of distances; the evidence for four tips; the influence of each;
-whether two trees are the same."""
+whether two trees are the same; how far exchanges of two tips move a tree."""
 from collections.abc import Iterable, Sequence
 
 from leskwyn.copies import Sameness
 from leskwyn.counting import Number
 from leskwyn.errors import one_line
 from leskwyn.evidence import Evidence, Witness
+from leskwyn.exchanges import EXCHANGE_KEYS, Bounds, Exchange, ExchangeTallies
 from leskwyn.figures import KEYS, Comparison, keys_of
 from leskwyn.holding import DROPPED_KEYS, HOLDING_KEYS, Counted, Influence
 from leskwyn.tables import written_name
@@ -113,10 +114,13 @@ def cell(value: object) -> str:
     return one_line(",".join(map(written_name, value)) if isinstance(value, tuple) else str(value))
 
 
+def lines_tsv(rows: Iterable[Iterable[object]]) -> str:
+    return "".join("\t".join(map(cell, row)) + "\n" for row in rows)
+
+
 def rows_tsv(columns: Sequence[str], records: Iterable[Comparison | Counted]) -> str:
     """A header of the columns, then a row for each record."""
-    rows = [columns, *([cell(getattr(record, column)) for column in columns] for record in records)]
-    return "".join("\t".join(row) + "\n" for row in rows)
+    return lines_tsv([columns, *([getattr(record, column) for column in columns] for record in records)])
 
 
 def as_tsv(comparisons: Sequence[Comparison]) -> str:
@@ -125,7 +129,7 @@ def as_tsv(comparisons: Sequence[Comparison]) -> str:
     return rows_tsv([key for key in keys if key != "names"], comparisons)
 
 
-def line_json(answer: Comparison | Evidence | Influence) -> str:
+def line_json(answer: Comparison | Evidence | Influence | ExchangeTallies) -> str:
     """One object on one line."""
     import json
     return json.dumps(answer.as_dict(), ensure_ascii=False) + "\n"
@@ -259,3 +263,46 @@ def told_sameness(s: Sameness) -> str:
     if s.struck is None:
         return told
     return f"{told} on the {s.kept} kept populations" + (f"; struck: {told_names(s.struck, len(s.struck))}" if s.struck else "")
+
+
+# ---- how far exchanges of two tips move a tree
+
+def told_share(tally: int) -> str:
+    """The share of all sets of four at which a tally begins, and that at which the next does."""
+    return f"{10 * tally} to {10 * tally + 10} %" if tally < 10 else "100 %"
+
+
+def told_bounds(bounds: Bounds) -> str:
+    if bounds is None:
+        return "-"
+    return str(bounds[0]) if bounds[0] == bounds[1] else f"{bounds[0]} to {bounds[1]}"
+
+
+def exchange_rows(head: str, exchanges: Sequence[Exchange]) -> str:
+    return columns([head, "distance", "normalised"], [[f"{told_name(one.name)} + {told_name(one.other)}", str(one.distance),
+                                                       f"{one.normalised_distance:.4f}"] for one in exchanges])
+
+
+def exchanges_for_people(e: ExchangeTallies) -> str:
+    """A row for each tally, then one for each pair that moves the tree most and least."""
+    tallies = [[told_share(at), told_bounds(bounds), str(tally)] for at, (bounds, tally) in enumerate(zip(e.bounds, e.tallies))]
+    parts = [f"tree: {one_line(e.tree)}\n",
+             row("populations", str(e.tips)) + row("sets of four", str(e.sets_of_four))
+             + row("exchanges", str(e.exchanges), "pairs of populations"),
+             columns(["share of the sets", "distance", "exchanges"], tallies)]
+    if e.most is not None and e.least is not None:
+        parts += [exchange_rows("moves the tree most", e.most), exchange_rows("moves the tree least", e.least)]
+    return "\n".join(parts)
+
+
+def exchanges_tsv(e: ExchangeTallies) -> str:
+    """A row for each tally, or for each pair that moves the tree most and least if these are asked for."""
+    if e.most is None or e.least is None:
+        return lines_tsv([["tally", "lowest", "highest", "exchanges"],
+                          *([at, *(bounds or ("", "")), tally] for at, (bounds, tally) in enumerate(zip(e.bounds, e.tallies)))])
+    return lines_tsv([["moves", *EXCHANGE_KEYS],
+                      *([moves, *(getattr(one, key) for key in EXCHANGE_KEYS)]
+                        for moves, exchanges in (("most", e.most), ("least", e.least)) for one in exchanges)])
+
+
+EXCHANGE_FORMATS = {"text": exchanges_for_people, "tsv": exchanges_tsv, "json": line_json}

@@ -95,11 +95,12 @@ def struck_names(options: argparse.Namespace) -> list[str] | None:
     return options.strike + [name for path in options.strike_file for name in names_struck(path)]
 
 
-def number_of(what: str, most: int) -> Callable[[str], int]:
-    """Reads a number from 1 to `most`."""
+def number_of(what: str, most: int | None = None) -> Callable[[str], int]:
+    """Reads a number from 1 to `most`, or any from 1 on."""
     def number(text: str) -> int:
-        if not text.isascii() or not text.isdigit() or not 1 <= int(text) <= most:
-            raise argparse.ArgumentTypeError(f"{quoted(text)} is not a number of {what} from 1 to {most}")
+        if not text.isascii() or not text.isdigit() or int(text) < 1 or most is not None and int(text) > most:
+            raise argparse.ArgumentTypeError(f"{quoted(text)} is not a number of {what} from 1 "
+                                             + ("on" if most is None else f"to {most}"))
         return int(text)
 
     return number
