@@ -16,7 +16,8 @@
  * Threads. No globals, no allocation, no input or output. Calls from several threads at once need no lock, as long as
  * no two of them lend the same cells and nobody writes to a table or to marks that are being read. leskwyn_claim_sums,
  * leskwyn_quartet_table and leskwyn_weighted_distance take up to 240 kB of stack, leskwyn_triplet_table,
- * leskwyn_holding, leskwyn_change_mark and leskwyn_canonical_copy up to 64 kB, the others up to 40 kB.
+ * leskwyn_holding, leskwyn_change_mark, leskwyn_canonical_copy, leskwyn_exchange_tallies and leskwyn_exchange_distance
+ * up to 64 kB, the others up to 40 kB.
  *
  * A tree table. 16-bit words: n, the tips (2 to 256); m, the nodes (n to 4n); then m parent words; then m label words;
  * 2 + 2m words in all.
@@ -29,14 +30,16 @@
  *
  * Work. A call that counts two trees is lent cells of one byte each, one for each edge of the first tree with each edge
  * of the second: how many labels lie beyond both edges. They are 255 at most, since tip 0 lies beyond no edge.
- * leskwyn_evidence, leskwyn_holding and leskwyn_change_mark take no work.
+ * leskwyn_evidence, leskwyn_holding and leskwyn_change_mark take no work. leskwyn_exchange_tallies takes no pair: it is
+ * lent a cell for each edge of its tree with each edge of the same tree, and leaves 0 in all of them.
+ * leskwyn_exchange_distance takes neither a pair nor work.
  *
  * Marks. n bytes, one for each label from 0 on: LESKWYN_KEPT, 1, or LESKWYN_STRUCK, 0. A call that takes marks counts
  * kept labels only, in its cells too: its figures are those of the two trees cut down to the kept labels. Any labels
  * may be struck, tip 0 and even all of them; fewer than four kept labels give zero counts. With all marks 1 all labels
- * count. leskwyn_holding counts one label besides, kept or struck. leskwyn_triplet_table and leskwyn_evidence take no
- * marks and know all labels. leskwyn_canonical_copy counts nothing: it writes one tree cut down to its kept labels, of
- * which there are to be two or more.
+ * count. leskwyn_holding counts one label besides, kept or struck. leskwyn_triplet_table, leskwyn_evidence,
+ * leskwyn_exchange_tallies and leskwyn_exchange_distance take no marks and know all labels. leskwyn_canonical_copy
+ * counts nothing: it writes one tree cut down to its kept labels, of which there are to be two or more.
  *
  * Refusals. 0 stands for accepted. A refused call gives its number, 0 in every other field of its answer (but case E
  * where a case is told), and no change to a lent cell. Where several conditions hold, the first in this order decides.
@@ -57,6 +60,7 @@
  *                8   the two n differ
  *               32   there are not n marks, or a mark is above 1, where the call takes marks; or `mark` is above 1
  *                9   the work has fewer than (m - 1)(m' - 1) cells, m' being the second table's m
+ *   of exchanges 9   the work has fewer than (m - 1)(m - 1) cells
  *   of a weight 30   the kind is not 0 to 2, or the fraction of a part is not k/256 with a k from 0 to 256
  *   of a change 33   the label already is as wished
  *               34   the given counts do not add up to the number of sets of four kept labels, or a strike would take
@@ -101,6 +105,12 @@ typedef struct { uint16_t refusal, butterfly, partner; } leskwyn_topology_answer
 
 /* The refusal, or 0; how many words the copy has. */
 typedef struct { uint16_t refusal, words; } leskwyn_copy_answer;
+
+/* The refusal, or 0; how many exchanges fall in each of the eleven tallies. */
+typedef struct { uint16_t refusal; uint64_t tallies[11]; } leskwyn_exchange_answer;
+
+/* The refusal, or 0; the quartet distance of the tree with two labels exchanged to the tree itself. */
+typedef struct { uint16_t refusal; uint64_t distance; } leskwyn_exchange_distance_answer;
 
 /* The refusal, or 0; the claim sums S, S', S2 and S3 of the kept tips. */
 typedef struct { uint16_t refusal; uint64_t first, second, same, different; } leskwyn_claim_sums_answer;
@@ -208,6 +218,19 @@ uint16_t leskwyn_reroot(const uint16_t *table, size_t table_words, uint16_t labe
 leskwyn_copy_answer leskwyn_canonical_copy(const uint16_t *table, size_t table_words,
                                            const uint8_t *marks, size_t marks_count,
                                            uint16_t *copy, size_t copy_words);
+
+/*
+ * How far the exchange of two labels moves a tree. The labels of each unordered pair of tips are exchanged in turn,
+ * label 0 among them, and the quartet distance of the exchanged tree to the tree itself is taken: how many sets of four
+ * labels have different topologies in the two. A distance d falls in tally 10 d / f, rounded down, with f the number of
+ * sets of four, n(n - 1)(n - 2)(n - 3)/24; with fewer than four tips all fall in tally 0. The tallies add up to
+ * n(n - 1)/2. Afterwards the first (m - 1)(m - 1) cells of the work are 0; later cells stay. What the cells held before
+ * plays no part. Refuses as the check does, then 9.
+ */
+leskwyn_exchange_answer leskwyn_exchange_tallies(const uint16_t *table, size_t words, uint8_t *work, size_t cells);
+
+/* That distance for the labels x and y, in either order. Refuses as the check does, then 10, then 11. */
+leskwyn_exchange_distance_answer leskwyn_exchange_distance(const uint16_t *table, size_t words, uint16_t x, uint16_t y);
 
 /*
  * The crossings of two trees: afterwards cell (i - 1)(m' - 1) + (j - 1) of the work holds how many kept labels lie

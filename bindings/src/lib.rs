@@ -11,16 +11,19 @@
 //! counted, as if the tips of the others were not there; [`all_kept`] are the marks that strike none. Any labels may be
 //! struck, label 0 and all of them too. [`triplet_table`] and [`evidence`] take no marks and know all labels.
 //! [`change_mark`] strikes or restores one label and keeps the five counts of the quartet table up to date.
-//! [`canonical_copy`] writes one tree cut down to its kept labels.
+//! [`canonical_copy`] writes one tree cut down to its kept labels. [`exchange_tallies`] and [`exchange_distance`] tell how
+//! far the exchange of two labels moves one tree; they take no marks and know all labels.
 //!
 //! A call that counts two trees is lent *work*: cells of one byte each, one for each edge of the first tree with each edge
 //! of the second. They hold how many labels lie beyond both edges, 255 at most, since tip 0 lies beyond no edge.
-//! [`work_cells`] tells how many cells a pair takes. [`holding`] and [`change_mark`] take none.
+//! [`work_cells`] tells how many cells a pair takes. [`holding`] and [`change_mark`] take none. [`exchange_tallies`] is
+//! lent as many as its tree takes with itself, and leaves 0 in them.
 //!
 //! Any words in slices of any length may be passed. The answer is the whole answer or a [`Refusal`]; a refused call
 //! changes no lent cell. No call allocates, keeps a slice, or touches anything global, so all may be made from several
 //! threads at once. [`claim_sums`], [`quartet_table`] and [`weighted_distance`] take up to 240 kB of stack,
-//! [`triplet_table`], [`holding`], [`change_mark`] and [`canonical_copy`] up to 64 kB, the others up to 40 kB.
+//! [`triplet_table`], [`holding`], [`change_mark`], [`canonical_copy`], [`exchange_tallies`] and [`exchange_distance`] up to
+//! 64 kB, the others up to 40 kB.
 //!
 //! ```
 //! use leskwyn::{all_kept, quartet_table, work_cells, INNER as X};
@@ -425,6 +428,57 @@ pub fn canonical_copy<'a>(table: &[u16], marks: &[u8], cells: &'a mut [u16]) -> 
     };
     // A refused answer has no words.
     Refusal::or(answer.refusal, &cells[..usize::from(answer.words)])
+}
+
+/// How far the exchange of two labels moves a tree: the labels of each unordered pair of tips are exchanged in turn, label
+/// 0 among them, and each exchange falls in one of eleven tallies by its [`exchange_distance`].
+///
+/// A distance d falls in tally 10 d / f, rounded down, with f the number of sets of four, n(n - 1)(n - 2)(n - 3)/24; with
+/// fewer than four tips all fall in tally 0. The tallies add up to n(n - 1)/2. The first (m - 1)(m - 1) cells of the
+/// work, which are those of [`work_cells`] of the tree with itself, are 0 afterwards; later cells stay.
+///
+/// ```
+/// use leskwyn::{exchange_tallies, INNER as X};
+/// // Below tip 0: (1,(2,(3,4))). Of its five sets of four the exchanges of 0 with 1 and of 3 with 4 change none, those of
+/// // 2 with any other label change two, and the others change all.
+/// let p = [5, 8, 0, 0, 1, 1, 3, 3, 5, 5, 0, X, 1, X, 2, X, 3, 4];
+/// let mut work = [9; 50];
+/// assert_eq!(exchange_tallies(&p, &mut work)?, [2, 0, 0, 0, 4, 0, 0, 0, 0, 0, 4]);
+/// assert_eq!((&work[..49], work[49]), (&[0; 49][..], 9));
+/// assert_eq!(exchange_tallies(&p, &mut work[..48]).unwrap_err().number(), 9);
+/// # Ok::<(), leskwyn::Refusal>(())
+/// ```
+///
+/// # Errors
+///
+/// 1 to 6, 31 and 7, then 9.
+pub fn exchange_tallies(table: &[u16], work: &mut [u8]) -> Result<[u64; 11], Refusal> {
+    // SAFETY: each pointer and length are those of one live slice, and `work` is borrowed alone.
+    let answer = unsafe { raw::leskwyn_exchange_tallies(table.as_ptr(), table.len(), work.as_mut_ptr(), work.len()) };
+    Refusal::or(answer.refusal, answer.tallies)
+}
+
+/// The quartet distance of the tree with the labels x and y exchanged to the tree itself: how many sets of four labels
+/// have different topologies in the two. It is the same for y and x, and takes no work.
+///
+/// ```
+/// use leskwyn::{exchange_distance, INNER as X};
+/// // Below tip 0: (1,(2,(3,4))).
+/// let p = [5, 8, 0, 0, 1, 1, 3, 3, 5, 5, 0, X, 1, X, 2, X, 3, 4];
+/// assert_eq!(exchange_distance(&p, 3, 4), Ok(0));
+/// assert_eq!(exchange_distance(&p, 0, 2), Ok(2));
+/// assert_eq!(exchange_distance(&p, 4, 0), Ok(5));
+/// assert_eq!(exchange_distance(&p, 5, 5).unwrap_err().number(), 10);
+/// assert_eq!(exchange_distance(&p, 4, 4).unwrap_err().number(), 11);
+/// ```
+///
+/// # Errors
+///
+/// 1 to 6, 31 and 7, then 10, then 11.
+pub fn exchange_distance(table: &[u16], x: u16, y: u16) -> Result<u64, Refusal> {
+    // SAFETY: the pointer and the length are those of one live slice.
+    let answer = unsafe { raw::leskwyn_exchange_distance(table.as_ptr(), table.len(), x, y) };
+    Refusal::or(answer.refusal, answer.distance)
 }
 
 /// Marks that keep all n labels of a table. A copy of them can have labels struck.

@@ -35,6 +35,22 @@ pub struct CopyAnswer {
     pub words: u16,
 }
 
+/// The refusal, or 0; how many exchanges fall in each of the eleven tallies.
+#[repr(C)]
+#[derive(Clone, Copy, Debug, PartialEq, Eq)]
+pub struct ExchangeAnswer {
+    pub refusal: u16,
+    pub tallies: [u64; 11],
+}
+
+/// The refusal, or 0; the quartet distance of the tree with two labels exchanged to the tree itself.
+#[repr(C)]
+#[derive(Clone, Copy, Debug, PartialEq, Eq)]
+pub struct ExchangeDistanceAnswer {
+    pub refusal: u16,
+    pub distance: u64,
+}
+
 /// The refusal, or 0; S, S', S2 and S3.
 #[repr(C)]
 #[derive(Clone, Copy, Debug, PartialEq, Eq)]
@@ -156,6 +172,10 @@ extern "C" {
         copy: *mut u16,
         copy_words: usize,
     ) -> CopyAnswer;
+
+    pub fn leskwyn_exchange_tallies(table: *const u16, words: usize, work: *mut u8, cells: usize) -> ExchangeAnswer;
+
+    pub fn leskwyn_exchange_distance(table: *const u16, words: usize, x: u16, y: u16) -> ExchangeDistanceAnswer;
 
     pub fn leskwyn_crossings(
         first: *const u16,
