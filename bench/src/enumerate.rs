@@ -380,6 +380,14 @@ impl Tree {
     }
 }
 
+/// How many sets of four there are of so many labels.
+pub fn sets_of_four(labels: u64) -> u64 {
+    match labels {
+        0..4 => 0,
+        n => n * (n - 1) * (n - 2) * (n - 3) / 24,
+    }
+}
+
 fn pairs_of(k: u64) -> u64 {
     k * k.saturating_sub(1) / 2
 }

@@ -38,10 +38,7 @@ impl OneLabel<'_> {
 
     /// How many sets of four kept labels there are.
     pub fn sets_of_four(&self) -> u64 {
-        match self.marks.iter().filter(|&&mark| mark == 1).count() as u64 {
-            0..4 => 0,
-            kept => kept * (kept - 1) * (kept - 2) * (kept - 3) / 24,
-        }
+        enumerate::sets_of_four(self.marks.iter().filter(|&&mark| mark == 1).count() as u64)
     }
 }
 

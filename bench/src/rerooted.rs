@@ -13,11 +13,11 @@ pub fn refusal(table: &[u16], label: u16, cells: usize) -> u16 {
     }
 }
 
-/// The label of a tip in a table that is re-rooted at `at`.
-pub fn exchanged(label: u16, at: u16) -> u16 {
+/// A label where x and y are exchanged: y for x, x for y, and any other for itself.
+pub fn swapped(x: u16, y: u16, label: u16) -> u16 {
     match label {
-        0 => at,
-        _ if label == at => 0,
+        _ if label == x => y,
+        _ if label == y => x,
         _ => label,
     }
 }
@@ -39,7 +39,7 @@ pub fn rerooted(table: &[u16], label: u16) -> Vec<u16> {
         }
     };
     let hung = (0..m).map(|number| parent(number) as u16);
-    let named = nodes.iter().map(|&node| exchanged(labels[node], label));
+    let named = nodes.iter().map(|&node| swapped(0, label, labels[node]));
     [table[0], table[1]].into_iter().chain(hung).chain(named).collect()
 }
 

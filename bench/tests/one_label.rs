@@ -12,7 +12,7 @@ use bench::generate::{Chains, Kept, Partner, Shape};
 use bench::one_label::{Change, OneLabel};
 use bench::random::Random;
 use bench::reference::{P, Q, X};
-use bench::rerooted::exchanged;
+use bench::rerooted::swapped;
 use bench::{pruned, straight};
 use leskwyn::{holding, quartet_table, topology, work_cells, FiveCounts, QuartetTable, Topology};
 
@@ -454,10 +454,10 @@ fn partner(table: &[u16], four: [u16; 4], label: u16) -> Option<u16> {
 
 /// Four labels lie in the re-rooted table as they did, with 0 and `at` exchanged.
 fn lies_as_before(table: &[u16], at: u16, rerooted: &[u16], four: [u16; 4]) {
-    let now = four.map(|label| exchanged(label, at));
+    let now = four.map(|label| swapped(0, at, label));
     for label in four {
-        let (was, is) = (partner(table, four, label), partner(rerooted, now, exchanged(label, at)));
-        assert_eq!(is, was.map(|label| exchanged(label, at)), "{four:?} in {table:?} re-rooted at {at}");
+        let (was, is) = (partner(table, four, label), partner(rerooted, now, swapped(0, at, label)));
+        assert_eq!(is, was.map(|label| swapped(0, at, label)), "{four:?} in {table:?} re-rooted at {at}");
     }
 }
 

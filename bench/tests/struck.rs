@@ -3,6 +3,7 @@
 
 use bench::agree::{pair_agrees, passing_through_agrees, refused_agrees, weighted_agrees, Asked, Expected, Told};
 use bench::damage::{damaged, Met, NUMBERS};
+use bench::enumerate::sets_of_four;
 use bench::evidence::every_four;
 use bench::generate::{any_chained, any_marks, any_pair, chained, every_marks, marks, pair, table, wrong_marks};
 use bench::generate::{Chains, Graph, Kept, Numbering, Partner, Shape};
@@ -32,9 +33,7 @@ fn with_either_outgroup(marks: Vec<u8>) -> [Vec<u8>; 2] {
 fn laws_hold(expected: &Expected) {
     let ([first, second, same, different], [a, b, c, d, e]) = (expected.claims, expected.quartets);
     assert_eq!([first, second, same, different], [2 * (a + b + c), 2 * (a + b + d), 2 * a, 4 * b], "{expected:?}");
-    let kept = kept_of(&expected.marks);
-    let fours = if kept < 4 { 0 } else { kept * (kept - 1) * (kept - 2) * (kept - 3) / 24 };
-    assert_eq!(a + b + c + d + e, fours, "{expected:?}");
+    assert_eq!(a + b + c + d + e, sets_of_four(kept_of(&expected.marks)), "{expected:?}");
     assert_eq!(b + c + d == 0, expected.splits[3] == 0, "{expected:?}");
 }
 
