@@ -2,6 +2,7 @@
 //! cell before and after, and the cells on either side of those that are lent.
 
 mod copies;
+mod exchanges;
 mod one_label;
 
 use std::fmt::Debug;
@@ -22,6 +23,7 @@ use crate::weights::{self, Weighing};
 use crate::{common_ancestors, cubic, pruned};
 
 pub use copies::copy_agrees;
+pub use exchanges::{exchange_agrees, tallies_agree};
 pub use one_label::{change_agrees, holding_agrees, reroot_agrees};
 
 /// Pairs of claims that are summed one by one; for more, S2 and S3 are read from the cases.
