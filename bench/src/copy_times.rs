@@ -1,10 +1,8 @@
 //! The canonical copy of a tree, timed beside the quartet table of the same marks.
 
-use std::time::Duration;
-
 use bench::copied::copied;
 
-use crate::timing::{bare_and_long, batch, calls_of, fastest, tables, Pairing, MOST_TIPS, PAIRINGS, ROUNDS};
+use crate::timing::{in_turns, of_one_shape, MOST_TIPS};
 
 /// The tips of the trees that are copied.
 const TIPS: [usize; 3] = [16, 64, MOST_TIPS];
@@ -26,19 +24,14 @@ fn timed(name: &'static str, [first, second]: [Vec<u16>; 2]) -> CopyTimes {
     let mut work = vec![0; leskwyn::work_cells(&first, &second).expect("accepted tables")];
     let expected = copied(&first, &marks, first.len());
     assert_eq!(leskwyn::canonical_copy(&first, &marks, &mut cells).ok(), expected.as_deref().ok(), "{name}");
-    let mut copy = || leskwyn::canonical_copy(&first, &marks, &mut cells).expect("accepted").len();
-    let mut quartets = || leskwyn::quartet_table(&first, &second, &marks, &mut work).expect("accepted");
-    let calls = [calls_of(batch(&mut copy, 1)), calls_of(batch(&mut quartets, 1))];
-    let turns: Vec<[Duration; 2]> =
-        (0..ROUNDS).map(|_| [batch(&mut copy, calls[0]), batch(&mut quartets, calls[1])]).collect();
-    let [copy, quartets] = [0, 1].map(|i| fastest(turns.iter().map(|turn| turn[i]).collect()));
+    let [copy, quartets] = in_turns(
+        || leskwyn::canonical_copy(&first, &marks, &mut cells).expect("accepted").len(),
+        || leskwyn::quartet_table(&first, &second, &marks, &mut work).expect("accepted"),
+    );
     CopyTimes { name, tips: usize::from(first[0]), copy, quartets }
 }
 
 /// Each shape at each size, and a random binary tree with the most pass-through nodes besides.
 pub fn measure() -> Vec<CopyTimes> {
-    let [_, long] = bare_and_long();
-    let of_shapes = PAIRINGS.iter().filter(|pairing| pairing.is_of_one_shape());
-    let bare = of_shapes.flat_map(|pairing: &Pairing| TIPS.map(|tips| (pairing.name, tables(pairing, tips))));
-    bare.chain([("random binary, m = 1024", long)]).map(|(name, pair)| timed(name, pair)).collect()
+    of_one_shape(&TIPS).into_iter().map(|(name, pair)| timed(name, pair)).collect()
 }

@@ -6,6 +6,7 @@ use std::num::NonZero;
 use std::thread;
 
 use crate::copy_times::CopyTimes;
+use crate::exchange_times::ExchangeTimes;
 use crate::label_times::LabelTimes;
 use crate::timing::{Measured, PAIRINGS};
 
@@ -123,6 +124,20 @@ pub fn copies(measured: &[CopyTimes]) -> String {
     text
 }
 
+/// The time of the exchange tallies beside the quartet table's, as a table in Markdown.
+pub fn exchanges(measured: &[ExchangeTimes]) -> String {
+    let mut text = String::from(
+        "| trees | n | exchange tallies (µs) | quartet table (µs) | tallies ÷ quartets (≤ 1 at n = 256) |\n\
+         |---|---:|---:|---:|---:|\n",
+    );
+    for ExchangeTimes { name, tips, tallies, quartets } in measured {
+        let compared = marked(tallies / quartets, *tips < 256 || tallies <= quartets);
+        let columns = [micros(*tallies), micros(*quartets), compared].join(" | ");
+        writeln!(text, "| {name} | {tips} | {columns} |").expect("a string takes all");
+    }
+    text
+}
+
 /// The processor as the system names it.
 fn processor() -> String {
     let told = fs::read_to_string("/proc/cpuinfo").unwrap_or_default();
@@ -137,10 +152,21 @@ pub fn commands(page: &str) -> &str {
     page.find("\n## The commands\n").map_or("", |at| &page[at..])
 }
 
+/// Everything that is timed.
+pub struct Timed {
+    pub pairs: Vec<Measured>,
+    pub passed_through: Vec<Measured>,
+    pub labels: Vec<LabelTimes>,
+    pub copied: Vec<CopyTimes>,
+    pub exchanged: Vec<ExchangeTimes>,
+}
+
 /// docs/BENCHMARKS.md but for its last section.
-pub fn page(measured: &[Measured], passed_through: &[Measured], labels: &[LabelTimes], copied: &[CopyTimes]) -> String {
-    let (processor, table, ratios, triplets) = (processor(), table(measured), ratios(measured), triplets(measured));
-    let (pass_through, one_label, copies) = (pass_through(passed_through), one_label(labels), copies(copied));
+pub fn page(timed: &Timed) -> String {
+    let Timed { pairs, passed_through, labels, copied, exchanged } = timed;
+    let (processor, table, ratios, triplets) = (processor(), table(pairs), ratios(pairs), triplets(pairs));
+    let (pass_through, one_label) = (pass_through(passed_through), one_label(labels));
+    let (copies, exchanges) = (copies(copied), exchanges(exchanged));
     format!(
         "# Benchmarks
 
@@ -202,7 +228,17 @@ m = 1024. This table alone is printed by
 
     cd bench && cargo run --release --offline -- canonical-copy
 
-{copies}"
+{copies}
+## The exchange tallies
+
+`leskwyn_exchange_tallies`, with the check of the table, all exchanges of two labels and zeros in the lent work, beside
+`leskwyn_quartet_table` of the tree with itself, timed in the same turns. All labels are kept. Up to 81 tips the tallies agree
+with those of the distances by *straight Rust*, tree after exchanged tree, before they are timed; with 256 tips every exchange
+falls in tally 0. The last tree is the first one above with m = 1024. This table alone is printed by
+
+    cd bench && cargo run --release --offline -- exchanges
+
+{exchanges}"
     )
 }
 

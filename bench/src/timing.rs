@@ -21,13 +21,6 @@ pub struct Pairing {
     second: Shape,
 }
 
-impl Pairing {
-    /// Whether both trees are of one shape.
-    pub fn is_of_one_shape(&self) -> bool {
-        self.first == self.second
-    }
-}
-
 const fn pairing(name: &'static str, first: Shape, second: Shape) -> Pairing {
     Pairing { name, first, second }
 }
@@ -68,7 +61,7 @@ const BATCH: Duration = Duration::from_millis(2);
 
 /// Batches of each method, of which the fastest is taken: what else the machine does only adds to a time. Fewer where a
 /// single call is slow.
-pub const ROUNDS: usize = 25;
+const ROUNDS: usize = 25;
 const SLOW_ROUNDS: usize = 11;
 const SLOW: Duration = Duration::from_millis(20);
 
@@ -91,7 +84,7 @@ fn methods<'a>(first: &'a [u16], second: &'a [u16]) -> [Method<'a>; TIMED] {
 }
 
 /// How long so many calls take, one on the average.
-pub fn batch<T>(mut method: impl FnMut() -> T, calls: u32) -> Duration {
+fn batch<T>(mut method: impl FnMut() -> T, calls: u32) -> Duration {
     let start = Instant::now();
     for _ in 0..calls {
         black_box(method());
@@ -100,13 +93,21 @@ pub fn batch<T>(mut method: impl FnMut() -> T, calls: u32) -> Duration {
 }
 
 /// How many calls make a batch, where a single one takes so long.
-pub fn calls_of(single: Duration) -> u32 {
+fn calls_of(single: Duration) -> u32 {
     (BATCH.as_nanos() / single.as_nanos().max(1)) as u32 + 1
 }
 
 /// The fastest batch, in microseconds.
-pub fn fastest(times: Vec<Duration>) -> f64 {
+fn fastest(times: Vec<Duration>) -> f64 {
     times.into_iter().min().expect("a batch").as_secs_f64() * 1e6
+}
+
+/// The times of two methods in microseconds, batch after batch in turns.
+pub fn in_turns<T, U>(mut one: impl FnMut() -> T, mut other: impl FnMut() -> U) -> [f64; 2] {
+    let calls = [calls_of(batch(&mut one, 1)), calls_of(batch(&mut other, 1))];
+    let turns: Vec<[Duration; 2]> =
+        (0..ROUNDS).map(|_| [batch(&mut one, calls[0]), batch(&mut other, calls[1])]).collect();
+    [0, 1].map(|i| fastest(turns.iter().map(|turn| turn[i]).collect()))
 }
 
 /// One pair of trees, its methods, and their batches so far.
@@ -172,6 +173,14 @@ pub fn bare_and_long() -> [[Vec<u16>; 2]; 2] {
     });
     assert_eq!([&bare, &long].map(|[first, second]| [first[1], second[1]]), [[510, 510], [1024, 1024]]);
     [bare, long]
+}
+
+/// Two trees of each shape at each of these sizes, under its name, and the two with the most pass-through nodes.
+pub fn of_one_shape(sizes: &[usize]) -> Vec<(&'static str, [Vec<u16>; 2])> {
+    let [_, long] = bare_and_long();
+    let shapes = PAIRINGS.iter().filter(|pairing| pairing.first == pairing.second);
+    let bare = shapes.flat_map(|pairing| sizes.iter().map(|&tips| (pairing.name, tables(pairing, tips))));
+    bare.chain([("random binary, m = 1024", long)]).collect()
 }
 
 /// The same trees without pass-through nodes and with them.
