@@ -22,6 +22,7 @@ prints() { # PROGRAM TEXT
 
 prints distance 'distance 2'
 prints canonical_copy '3 4 0 0 1 1 0 65535 1 2'
+prints exchange_tallies '2 0 0 0 4 0 0 0 0 0 4'
 if command -v c++ >/dev/null; then
     c++ -Wall -Wextra -Werror -Iinclude -x c++ -fsyntax-only include/leskwyn.h
 fi
