@@ -260,7 +260,8 @@ fn the_order_of_numbers() {
         let tallies = || tallied(table[0], Pairings::of(&table).distances());
         of_tallies.meet(tallies_agree(&table, lent, tallies, &mut random).err().unwrap_or(0));
         let mut label = || if random.chance(20) { random.between(n, 300) } else { random.below(n) } as u16;
-        let two = [label(), label()];
+        let (x, y) = (label(), label());
+        let two = [x, if random.chance(20) { x } else { y }];
         of_labels.meet(exchange_agrees(&table, two, || Pairings::of(&table).distance(two)).err().unwrap_or(0));
     }
     of_tallies.at_least(200, NUMBERS.into_iter().chain([9, 0]));
