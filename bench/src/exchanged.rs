@@ -48,7 +48,7 @@ impl Pairings {
             Topology::Butterfly(partner) => {
                 let [smallest, others @ ..] = four;
                 let mut apart = others.into_iter().filter(|&label| label != partner);
-                let apart = [apart.next()?, apart.next()?];
+                let apart = [apart.next(), apart.next()].map(|label| label.expect("two on the other side"));
                 Some(in_order([[smallest, partner], apart]))
             }
         };
