@@ -55,7 +55,7 @@ NUMBERS = {"u16": ("uint16_t ", "u16"), "u64": ("uint64_t ", "u64"), "usize": ("
 
 def exports() -> str:
     """The exported functions of crates/capi but the version's."""
-    return "".join(text(f"crates/capi/src/{name}.rt") for name in ("exports", "labels", "tables", "exchanges"))
+    return "".join(text(f"crates/capi/src/{name}.rt") for name in ("exports", "labels", "tables", "tallies"))
 
 
 def parameter_types(pattern: str, source: str, of_parameter: str) -> dict[str, list[str]]:

@@ -102,3 +102,17 @@ pub struct CopyAnswer {
     pub refusal: u16,
     pub words: u16,
 }
+
+// The number; how many exchanges fall in each tally.
+#[repr(C)]
+pub struct ExchangeAnswer {
+    pub refusal: u16,
+    pub tallies: [u64; 11],
+}
+
+// The number; the distance of an exchange.
+#[repr(C)]
+pub struct ExchangeDistanceAnswer {
+    pub refusal: u16,
+    pub distance: u64,
+}

@@ -17,13 +17,7 @@ ghost use Rattle.exchange_distances.specs.lemmas.SquareLoops.{Sizing, Re
 ghost use Rattle.exchange_distances.specs.lemmas.TableArrays.{Arrays};
 
 // How many labels lie at or below each node, from where its span begins and ends; all n do at node 0.
-fn sizes(
-    begin: &[Cell; NODES],
-    end: &[Cell; NODES],
-    n: usize,
-    m: usize,
-    size: &mut [usize; NODES],
-)
+fn sizes(begin: &[Cell; NODES], end: &[Cell; NODES], n: usize, m: usize, size: &mut [usize; NODES])
     requires { ⌜ SpansFit m (now begin) (now end) (now size) ⌝ }
     ensures { λ _. ⌜ SpanSizes n m (now (begin .entry)) (now (end .entry)) (now (size .exit)) ⌝ }
 {

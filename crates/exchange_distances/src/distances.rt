@@ -64,7 +64,13 @@ pub fn exchange_distance(table: &[u16], x: u16, y: u16) -> ExchangeDistance
             distance: 0,
         };
     }
-    let distance = distance_of(table, as_index(tips), as_index(nodes), as_index(x), as_index(y));
+    let distance = distance_of(
+        table,
+        as_index(tips),
+        as_index(nodes),
+        as_index(x),
+        as_index(y),
+    );
     ExchangeDistance {
         refusal: 0,
         distance: distance as u64,

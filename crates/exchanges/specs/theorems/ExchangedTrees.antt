@@ -17,7 +17,6 @@ use Rattle.counting.specs.Labels.{all}
 use Rattle.counting.specs.declared.Case.{Case}
 use Rattle.counting.specs.Cases.{caseOf, isCase, topologyAt, quartets}
 use Rattle.exchanges.specs.Exchanges.{exchangedButterfly, exchangedTopology, exchangeCases}
-
 use Rattle.sums.specs.Swaps.{swapped}
 use Rattle.sums.specs.theorems.SwapLaws.{swapped-first, swapped-second, swapped-other, swapped-twice, swapped-lt}
 use Rattle.rerooting.specs.Rerooted.{rerooted}

@@ -46,8 +46,12 @@ cell-index-requires-2 c κs = search needs
 
 sub-size : tie.Need-sub-size Inv-loop μ-loop
 sub-size c =
-    omega (arith, read c .cell-index .ensures .0, c .cell-index2 .ensures .0,
-    start (turn (read c)) .pre .rising _ (turn (read c) .before .loop .inv .0) (turn (read c) .loop-test .taken))
+    omega (
+      arith,
+      read c .cell-index .ensures .0,
+      c .cell-index2 .ensures .0,
+      start (turn (read c)) .pre .rising _ (turn (read c) .before .loop .inv .0) (turn (read c) .loop-test .taken),
+    )
 
 mul-size : tie.Need-mul-size Inv-loop μ-loop
 mul-size c = omega (arith, turn (read c) .loop-test .taken, start (turn (read c)) .pre .few .1)

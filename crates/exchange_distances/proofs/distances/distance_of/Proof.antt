@@ -52,9 +52,11 @@ costs-from-requires : tie.Need-costs-from-requires
 costs-from-requires c κs =
     let i = c .before .before .before .before in
     let a = read i in
-    let s = start a in
-    (walk-from _ _ _ _ _ (lent-walked _ _ _ (s .pre .0) _ _ _ (a .arrays-of .ensures)) _ _ (s .pre .1 .lx) (i .as-index .ensures .0),
-    search needs, search needs)
+    let s = start a in (
+      walk-from _ _ _ _ _ (lent-walked _ _ _ (s .pre .0) _ _ _ (a .arrays-of .ensures)) _ _ (s .pre .1 .lx) (i .as-index .ensures .0),
+      search needs,
+      search needs,
+    )
 
 whole-of-requires : tie.Need-whole-of-requires
 whole-of-requires c κs = search needs
@@ -84,8 +86,12 @@ sub-result c =
     let i = set-out (walked c) in
     let a = read i in
     let s = start a in
-    omega (arith, c .before .whole-of .ensures, lent-least _ _ _ (s .pre .0) _ _ _ (a .arrays-of .ensures) _ _ (s .pre .1) _ _
-    (i .as-index .ensures .0) (c .as-index2 .ensures .0) _ (walked c .costs-from .ensures .0))
+    omega (
+      arith,
+      c .before .whole-of .ensures,
+      lent-least _ _ _ (s .pre .0) _ _ _ (a .arrays-of .ensures) _ _ (s .pre .1) _ _
+          (i .as-index .ensures .0) (c .as-index2 .ensures .0) _ (walked c .costs-from .ensures .0),
+    )
 
 returns : tie.Need-returns
 returns c =

@@ -13,11 +13,11 @@ use Rattle.exchange_distances.proofs.pairs.tally_pairs.Statement.{state
 use Rattle.exchange_distances.proofs.pairs.tally_pairs.Tie as tie
 
 abbrev Inv-loop : tie.InvT-loop
-Inv-loop parents n labelled size square whole sets toward₀ costs₀ tallies₀ y₀ toward costs tallies y = 
+Inv-loop parents n labelled size square whole sets toward₀ costs₀ tallies₀ y₀ toward costs tallies y =
     (y ≤ n) × (length toward ≡ nodeRoom) × (length costs ≡ nodeRoom) × Tallying n parents labelled size square y tallies
 
 abbrev μ-loop : tie.MeasureT-loop
-μ-loop parents n labelled size square whole sets toward₀ costs₀ tallies₀ y₀ toward costs tallies y = 
+μ-loop parents n labelled size square whole sets toward₀ costs₀ tallies₀ y₀ toward costs tallies y =
     n - y
 
 -- ---- the points of the program

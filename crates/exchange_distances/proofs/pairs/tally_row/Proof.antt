@@ -107,9 +107,11 @@ loop-less c = search needs
 loop-again : tie.Need-loop-again Inv-loop μ-loop
 loop-again c =
     let p = c .before .before in
-    let l = turn p .before .loop in
-    (omega arith, counted-next _ (l .x) _ _ _
-    (falls-here _ _ _ _ _ _ (start (turn p) .pre) _ _ (turn p .loop-test .taken) (node p)) (falls p) (l .inv .1))
+    let l = turn p .before .loop in (
+      omega arith,
+      counted-next _ (l .x) _ _ _
+          (falls-here _ _ _ _ _ _ (start (turn p) .pre) _ _ (turn p .loop-test .taken) (node p)) (falls p) (l .inv .1),
+    )
 
 returns : tie.Need-returns Inv-loop μ-loop
 returns c =

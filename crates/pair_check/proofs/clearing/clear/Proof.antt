@@ -44,9 +44,11 @@ loop-less c = search needs
 
 loop-again : tie.Need-loop-again Inv-loop μ-loop
 loop-again c =
-    let l = c .before .loop in
-    (omega arith, ap (λ (x : List ℕ). set x (l .c) 0) (l .inv .1)
-    ∙ in-front-next (l .c) (λ i. 0) _ 0 (omega (arith, c .loop-test .taken, room (c .before))) refl)
+    let l = c .before .loop in (
+      omega arith,
+      ap (λ (x : List ℕ). set x (l .c) 0) (l .inv .1)
+          ∙ in-front-next (l .c) (λ i. 0) _ 0 (omega (arith, c .loop-test .taken, room (c .before))) refl,
+    )
 
 same-length : tie.Need-same-length Inv-loop μ-loop
 same-length c = long (c .before)
