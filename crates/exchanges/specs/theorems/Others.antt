@@ -131,10 +131,6 @@ module _ (n x y : ℕ) (two : Two n x y) where
   unfolding others2
   cong2 f g h = others-cong n x y (λ a. others-cong n x y (h a))
 
-  cong3 : (f g : ℕ → ℕ → ℕ → ℕ) → ((a b c : ℕ) → f a b c ≡ g a b c) → others3 n x y f ≡ others3 n x y g
-  unfolding others3
-  cong3 f g h = others-cong n x y (λ a. cong2 (f a) (g a) (h a))
-
   parts3 : (f : ℕ → ℕ → ℕ → ℕ) → ((a b c : ℕ) → f a b c ≡ f b a c) → ((a b c : ℕ) → f a b c ≡ f a c b)
       → ((a b : ℕ) → f a a b ≡ 0)
       → tuples3 n f
