@@ -16,6 +16,10 @@ keptAt q (suc n) i = elim (q n) [
   | false ↦ keptAt q n i
 ]
 
+-- those of n labels that pass a test
+abbrev pub passing : (ℕ → Bool) → ℕ → Labels
+passing q n = record { number = count n q; at = keptAt q n }
+
 -- those of n labels that marks keep
 abbrev pub kept : List ℕ → ℕ → Labels
 kept marks n = record { number = keptOf marks n; at = keptAt (isKept marks) n }

@@ -34,11 +34,13 @@ topology t a b c d =
     named (butterfly t a b c d) (butterfly t a c b d) (butterfly t a d b c)
     (partner a b c d) (partner a c b d) (partner a d b c)
 
--- the number, and the topology or a star
+-- a number, and the topology or a star
+unfoldable pub topologyUnder : ℕ → Table → ℕ → ℕ → ℕ → ℕ → TopologyAnswer
+topologyUnder number t a b c d = record { refusal = number; topology = ifAccepted number (topology t a b c d) Star }
+
+-- the number of four labels that are asked about
 unfoldable pub topologyAnswer : Table → ℕ → ℕ → ℕ → ℕ → TopologyAnswer
-topologyAnswer t a b c d =
-    let number = refusal (labelOrder t (a ∷ b ∷ c ∷ d ∷ [])) in
-    record { refusal = number; topology = ifAccepted number (topology t a b c d) Star }
+topologyAnswer t a b c d = topologyUnder (refusal (labelOrder t (a ∷ b ∷ c ∷ d ∷ []))) t a b c d
 
 -- ---- what an answer tells, in numbers
 
@@ -56,9 +58,9 @@ partnerOf Star = 0
 abbrev pub PartedIn : Table → ℕ → ℕ → ℕ → ℕ → Type 0
 PartedIn t a b c d = Parted (parent t) (nodes t - 1) (nodeOf t a) (nodeOf t b) (nodeOf t c) (nodeOf t d)
 
--- what an answer tells of the edges
-pub record Told (t : Table) (a b c d : ℕ) (r : TopologyAnswer) : Type 0 where
-  pub number-told : r .refusal ≡ refusal (labelOrder t (a ∷ b ∷ c ∷ d ∷ []))
+-- what an answer with that number tells of the edges
+pub record TopologyTold (number : ℕ) (t : Table) (a b c d : ℕ) (r : TopologyAnswer) : Type 0 where
+  pub number-told : r .refusal ≡ number
   -- a refusal tells a star
   pub refused : r .refusal ≢ 0 → (butterflyOf (r .topology) ≡ 0) × (partnerOf (r .topology) ≡ 0)
   -- the butterfly whose pairs some edge has on its two sides
@@ -71,3 +73,7 @@ pub record Told (t : Table) (a b c d : ℕ) (r : TopologyAnswer) : Type 0 where
   -- a star if no edge has two of them on each side
   pub star : r .refusal ≡ 0 → (PartedIn t a b c d → ⊥) → (PartedIn t a c b d → ⊥) → (PartedIn t a d b c → ⊥)
       → (butterflyOf (r .topology) ≡ 0) × (partnerOf (r .topology) ≡ 0)
+
+-- .. with the number of four labels that are asked about
+abbrev pub Told : Table → ℕ → ℕ → ℕ → ℕ → TopologyAnswer → Type 0
+Told t a b c d r = TopologyTold (refusal (labelOrder t (a ∷ b ∷ c ∷ d ∷ []))) t a b c d r

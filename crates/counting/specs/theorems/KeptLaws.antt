@@ -1,11 +1,11 @@
 -- Kept labels: each rank below their number is that of one kept label, in rising order; a sum over ranks is a sum over kept
 -- labels; and where all are kept, a label is its own rank.
 -- Assumes nothing.
-use mathlib.Core.Path.{_≡_, refl, sym, _∙_, ap}
+use mathlib.Core.Path.{_≡_, refl, sym, _∙_, ap, ap₂, fun-ext}
 use mathlib.Core.Bool.{Bool, true, false}
 use mathlib.Core.Logic.{_⊎_, inl, inr, _≢_}
 use mathlib.Core.List.{List}
-use Prim.Native.Nat.{ℕ, zero, suc, _+_, _*_, _≤_, _<_}
+use Prim.Native.Nat.{ℕ, zero, suc, _+_, _*_, _-_, _≤_, _<_}
 use native.Mathlib.Decide.{decLe, decLt, ℕ-discrete}
 use native.Mathlib.Omega.{arith}
 use borrow.Author.Tests.{eq-eqb, ne-eqb}
@@ -17,7 +17,7 @@ use Rattle.sums.specs.Counts.{count}
 use Rattle.counting.specs.Labels.{Labels}
 use Rattle.counting.specs.theorems.LabelLaws.{Rising}
 use Rattle.marks.specs.Marks.{isKept}
-use Rattle.counting.specs.Kept.{keptAt, kept}
+use Rattle.counting.specs.Kept.{keptAt, passing, kept}
 
 known : (b : Bool) → ((b ≡ true) × (bit b ≡ 1)) ⊎ ((b ≡ false) × (bit b ≡ 0))
 unfolding bit
@@ -153,29 +153,58 @@ module _ (q : ℕ → Bool) where
       ∙ sum-kept n (λ z. sum z (λ y. bit (q y) * sum y (λ x. bit (q x) * sum x (λ w. bit (q w) * f w x y z))))
       ∙ sym (simp sum-mul-left)
 
+  pub passing-rising : (n : ℕ) → Rising n (passing q n)
+  passing-rising n = record {
+    inside = λ x l. ranked n x l .label;
+    rises = rises;
+  }
+    where
+      rises : (x y : ℕ) → x < y → y < count n q → keptAt q n x < keptAt q n y
+      rises x y l m =
+          let a = ranked n x (omega arith) in
+          let b = ranked n y m in
+          elim (decLt (keptAt q n x) (keptAt q n y)) [
+            | yes o ↦ o
+            | no o ↦ absurd (omega (arith, a .rank, b .rank, grows (keptAt q n x) (keptAt q n y) (omega arith)))
+          ]
+
+  -- ---- however many labels follow that do not pass
+
+  step-past : (n i : ℕ) → q n ≡ false → (count (suc n) q ≡ count n q) × (keptAt q (suc n) i ≡ keptAt q n i)
+  unfolding bit
+  step-past n i e = (one-more n ∙ rw e (omega arith), at-struck n i e)
+
+  -- none passes from n on
+  abbrev pub NoneFrom : ℕ → Type 0
+  NoneFrom n = (x : ℕ) → n ≤ x → q x ≡ false
+
+  past : (n : ℕ) → NoneFrom n → (d i : ℕ) → (count (n + d) q ≡ count n q) × (keptAt q (n + d) i ≡ keptAt q n i)
+  past n h zero i = let e : n + zero ≡ n = omega arith in rw e (refl, refl)
+  past n h (suc d) i =
+      let e : n + suc d ≡ suc (n + d) = omega arith in
+      let s = step-past (n + d) i (h (n + d) (omega arith)) in
+      let r = past n h d i in
+      rw e (s .0 ∙ r .0, s .1 ∙ r .1)
+
+  passing-later : (n m : ℕ) → n ≤ m → NoneFrom n → passing q m ≡ passing q n
+  passing-later n m l h =
+      let e : n + (m - n) ≡ m = omega arith in
+      let mk : ℕ → (ℕ → ℕ) → Labels = λ k f. record { number = k; at = f } in
+      ap (passing q) (sym e)
+      ∙ ap₂ mk (past n h (m - n) 0 .0) (fun-ext (λ i. past n h (m - n) i .1))
+
+  -- where none passes from n on, and none from m on, the labels are the same
+  pub same-passing : (n m : ℕ) → NoneFrom n → NoneFrom m → passing q n ≡ passing q m
+  same-passing n m h k = elim (decLe n m) [
+    | yes l ↦ sym (passing-later n m l h)
+    | no d ↦ passing-later m n (omega arith) k
+  ]
+
 -- ---- of marks
 
 module _ (marks : List ℕ) (n : ℕ) where
   pub kept-rising : Rising n (kept marks n)
-  kept-rising = record {
-    inside = λ x l. ranked (isKept marks) n x l .label;
-    rises = λ x y l m. rises x y l m;
-  }
-    where
-      rises : (x y : ℕ) → x < y → y < count n (isKept marks)
-          → keptAt (isKept marks) n x < keptAt (isKept marks) n y
-      rises x y l m =
-          let a = ranked (isKept marks) n x (omega arith) in
-          let b = ranked (isKept marks) n y m in
-          elim (decLt (keptAt (isKept marks) n x) (keptAt (isKept marks) n y)) [
-            | yes o ↦ o
-            | no o ↦ absurd (omega (
-              arith,
-              a .rank,
-              b .rank,
-              grows (isKept marks) (keptAt (isKept marks) n x) (keptAt (isKept marks) n y) (omega arith),
-            ))
-          ]
+  kept-rising = passing-rising (isKept marks) n
 
   module _ (every : (x : ℕ) → x < n → bit (isKept marks x) ≡ 1) where
     all-before : (x : ℕ) → x ≤ n → count x (isKept marks) ≡ x

@@ -86,11 +86,11 @@ FormulasOf l t u = FormulasCount (l .number) (S l t) (S l u) (S2 l t u) (S3 l t 
 
 -- ---- the zero rule over tables
 
-zero-rule-of-tables : (l : Labels) (t u : Table) → IsTree t → IsTree u → tips t ≡ tips u → Rising (tips t) l
+-- labels of both, whose n may differ
+pub zero-rule-of-tables : (l : Labels) (t u : Table) → IsTree t → IsTree u → Rising (tips t) l → Rising (tips u) l
     → (distance l t u ≡ 0) ↔ HaveSameSplits l t u
 unfolding shapeOf beyond beyondAt
-zero-rule-of-tables l t u g h e r =
-    let s = rising-of (tips t) (tips u) l e r in
+zero-rule-of-tables l t u g h r s =
     let q = quartets-in-shapes l t u g h r s in
     rw (q B, q C, q D) (zero-rule (shapeOf t g l r) (shapeOf u h l s))
 
@@ -118,8 +118,8 @@ quartet-theorem l t u g h e r = record {
   total = omega (arith, f .A-counts, f .B-counts, f .C-counts, f .D-counts, f .E-counts, f .all);
   distance-counts = counted;
   distance-zero = (
-    λ z. zero-rule-of-tables l t u g h e r .0 (sym counted ∙ z),
-    λ s. counted ∙ zero-rule-of-tables l t u g h e r .1 s,
+    λ z. zero-rule-of-tables l t u g h r (rising-of (tips t) (tips u) l e r) .0 (sym counted ∙ z),
+    λ s. counted ∙ zero-rule-of-tables l t u g h r (rising-of (tips t) (tips u) l e r) .1 s,
   );
 }
   where

@@ -20,9 +20,9 @@ use Rattle.tree_check.specs.Refusals.{refusal, ifAccepted}
 use Rattle.trees.specs.LabelOrder.{askedOrder, labelOrder}
 use Rattle.trees.specs.theorems.LabelOrderLaws.{AllBelow, Different, label-check}
 use Rattle.walks.specs.theorems.WalkOrderLaws.{tree-accepted}
-use Rattle.trees.specs.Topology.{butterfly, topology, topologyAnswer}
+use Rattle.trees.specs.Topology.{butterfly, topology, topologyUnder, topologyAnswer}
 use Rattle.counting.specs.Labels.{Labels, all}
-use Rattle.counting.specs.theorems.LabelLaws.{Rising, all-rising, rising-of, at-four}
+use Rattle.counting.specs.theorems.LabelLaws.{Rising, all-rising, all-of, rising-of, at-four}
 use Rattle.counting.specs.declared.Case.{Case}
 use Rattle.counting.specs.declared.Case.the-variants.{A, B, C, D}
 use Rattle.counting.specs.Cases.{caseOf, isCase, topologyAt, quartets}
@@ -58,14 +58,14 @@ asked-four n a b c d l m = record {
 }
 
 -- two tables with the same splits among the labels l
-module _ (l : Labels) (t t' : Table) (g : IsTree t) (g' : IsTree t') (e : tips t ≡ tips t') (r : Rising (tips t) l)
+module _ (l : Labels) (t t' : Table) (g : IsTree t) (g' : IsTree t') (r : Rising (tips t) l) (r' : Rising (tips t') l)
     (s : HaveSameSplits l t t') where
-  same-butterflies : (a b c d : ℕ) → Four (l .number) a b c d
+  pub same-butterflies : (a b c d : ℕ) → Four (l .number) a b c d
       → butterfly t (l .at a) (l .at b) (l .at c) (l .at d) ≡ butterfly t' (l .at a) (l .at b) (l .at c) (l .at d)
   unfolding butterfly beyond beyondAt shapeOf
-  same-butterflies = same-fours-iff (shapeOf t g l r) (shapeOf t' g' l (rising-of (tips t) (tips t') l e r)) .1 s
+  same-butterflies = same-fours-iff (shapeOf t g l r) (shapeOf t' g' l r') .1 s
 
-  same-topologies : (a b c d : ℕ) → Four (l .number) a b c d → topologyAt l t a b c d ≡ topologyAt l t' a b c d
+  pub same-topologies : (a b c d : ℕ) → Four (l .number) a b c d → topologyAt l t a b c d ≡ topologyAt l t' a b c d
   unfolding topology topologyAt
   same-topologies a b c d f = rw (
     same-butterflies a b c d f,
@@ -77,13 +77,13 @@ module _ (l : Labels) (t t' : Table) (g : IsTree t) (g' : IsTree t') (e : tips t
 module _ (t t' : Table) (g : IsTree t) (g' : IsTree t') (e : tips t ≡ tips t') (s : HaveSameSplits (all (tips t)) t t') where
   whole-topologies : (a b c d : ℕ) → Four (tips t) a b c d → topology t a b c d ≡ topology t' a b c d
   unfolding topologyAt
-  whole-topologies = same-topologies (all (tips t)) t t' g g' e (all-rising (tips t)) s
+  whole-topologies = same-topologies (all (tips t)) t t' g g' (all-rising (tips t)) (all-of (tips t) (tips t') (sym e)) s
 
   -- have them among any
   same-among : (l : Labels) → Rising (tips t) l → HaveSameSplits l t t'
   unfolding butterfly beyond beyondAt shapeOf
   same-among l r = same-fours-iff (shapeOf t g l r) (shapeOf t' g' l (rising-of (tips t) (tips t') l e r)) .0 (λ a b c d f.
-      same-butterflies (all (tips t)) t t' g g' e (all-rising (tips t)) s _ _ _ _ (at-four (tips t) l r a b c d f))
+      same-butterflies (all (tips t)) t t' g g' (all-rising (tips t)) (all-of (tips t) (tips t') (sym e)) s _ _ _ _ (at-four (tips t) l r a b c d f))
 
   -- 10 and 11 are told of n and the labels
   same-number : (xs : List ℕ) → refusal (labelOrder t xs) ≡ refusal (labelOrder t' xs)
@@ -92,7 +92,7 @@ module _ (t t' : Table) (g : IsTree t) (g' : IsTree t') (e : tips t ≡ tips t')
       tree-accepted t _ g ∙ ap (λ (n : ℕ). refusal (askedOrder n xs)) e ∙ sym (tree-accepted t' _ g')
 
   same-answers : (a b c d : ℕ) → topologyAnswer t a b c d ≡ topologyAnswer t' a b c d
-  unfolding topologyAnswer
+  unfolding topologyAnswer topologyUnder
   same-answers a b c d =
       let xs : List ℕ = a ∷ b ∷ c ∷ d ∷ [] in
       let told : ℕ → Topology → TopologyAnswer = λ k x. record { refusal = k; topology = x } in
@@ -115,8 +115,8 @@ module _ (l : Labels) (t u t' u' : Table) (g : IsTree t) (h : IsTree u) (g' : Is
   same-counts k =
       sets4-ext (l .number) _ _ (λ w x y z wx xy yz m.
       ap₂ (λ (p q : Topology). bit (isCase (caseOf p q) k))
-      (same-topologies l t t' g g' et rt s w x y z (omega arith))
-      (same-topologies l u u' h h' eu ru r w x y z (omega arith)))
+      (same-topologies l t t' g g' rt (rising-of (tips t) (tips t') l et rt) s w x y z (omega arith))
+      (same-topologies l u u' h h' ru (rising-of (tips u) (tips u') l eu ru) r w x y z (omega arith)))
 
   same-common : commonSplits l t u ≡ commonSplits l t' u'
   same-common =
@@ -172,7 +172,7 @@ module _ (t u t' u' : Table) (g : IsTree t) (h : IsTree u) (g' : IsTree t') (h' 
 pub alone-at : (l : Labels) (t t' : Table) → IsTree t → IsTree t' → tips t ≡ tips t' → Rising (tips t) l → HaveSameSplits l t t'
     → AloneAt l t t'
 alone-at l t t' g g' e r s = record {
-  topologies = same-topologies l t t' g g' e r s;
+  topologies = same-topologies l t t' g g' r (rising-of (tips t) (tips t') l e r) s;
   as-first = λ u h q. same-figures l t u t' u g h g' h q e refl r s (same-splits-refl _ _ _);
   as-second = λ u h q. same-figures l u t u t' h g h g' q refl e (rising-of (tips t) (tips u) l (sym q) r) (same-splits-refl _ _ _) s;
 }

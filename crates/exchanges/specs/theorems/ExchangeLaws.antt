@@ -12,19 +12,19 @@ use Rattle.sums.specs.theorems.SumLaws.{sum-cong}
 use Rattle.sums.specs.theorems.Inserted.{sets2-ext}
 use Rattle.sums.specs.theorems.SetLaws.{sets4-ext}
 use Rattle.shapes.specs.theorems.FourLabels.{Four, swapped-four}
-use Rattle.shapes.specs.theorems.SameFours.{same-fours-iff}
 use Rattle.trees.specs.declared.quartet.Topology.{Topology}
-use Rattle.tree_check.specs.Table.{Table, tips, nodes, beyond}
+use Rattle.tree_check.specs.Table.{Table, tips, nodes}
 use Rattle.tree_check.specs.IsTree.{IsTree}
 use Rattle.trees.specs.Topology.{butterfly, topology}
 use Rattle.counting.specs.Labels.{all}
 use Rattle.counting.specs.declared.Case.{Case}
 use Rattle.counting.specs.declared.Case.the-variants.{B, C, D}
-use Rattle.counting.specs.Cases.{caseOf, isCase}
-use Rattle.counting.specs.SplitCounts.{beyondAt, HaveSameSplits}
+use Rattle.counting.specs.Cases.{caseOf, isCase, topologyAt}
+use Rattle.counting.specs.SplitCounts.{HaveSameSplits}
 use Rattle.counting.specs.theorems.PassThrough.{TakenOut}
-use Rattle.counting.specs.theorems.LabelLaws.{all-rising, rising-of}
+use Rattle.counting.specs.theorems.LabelLaws.{all-rising, all-of}
 use Rattle.counting.specs.theorems.TreeShape.{shapeOf}
+use Rattle.counting.specs.theorems.TipLabels as TipLabels
 use Rattle.counting.specs.theorems.PassingThrough.{taken-out-same-splits}
 use Rattle.exchanges.specs.Exchanges.{exchangedButterfly, exchangedTopology, exchangeCases, exchangeDistance}
 use Rattle.exchanges.specs.Exchanges.{tallyOf, tally}
@@ -37,17 +37,13 @@ use Rattle.exchanges.specs.theorems.ExchangedTables.{all-first, none-lat
 
 module _ (t u : Table) (g : IsTree t) (h : IsTree u) (e : tips t ≡ tips u) (s : HaveSameSplits (all (tips t)) t u) where
   same-butterflies : (a b c d : ℕ) → Four (tips t) a b c d → butterfly t a b c d ≡ butterfly u a b c d
-  unfolding butterfly beyond beyondAt shapeOf
-  same-butterflies = same-fours-iff (shapeOf t g (all (tips t)) (all-rising (tips t)))
-      (shapeOf u h (all (tips t)) (rising-of (tips t) (tips u) (all (tips t)) e (all-rising (tips t)))) .1 s
+  same-butterflies =
+      TipLabels.same-butterflies (all (tips t)) t u g h (all-rising (tips t)) (all-of (tips t) (tips u) (sym e)) s
 
   same-topologies : (a b c d : ℕ) → Four (tips t) a b c d → topology t a b c d ≡ topology u a b c d
-  unfolding topology
-  same-topologies a b c d f = rw (
-    same-butterflies a b c d f,
-    same-butterflies a c b d (search Ne·symm),
-    same-butterflies a d b c (search Ne·symm),
-  )
+  unfolding topologyAt
+  same-topologies =
+      TipLabels.same-topologies (all (tips t)) t u g h (all-rising (tips t)) (all-of (tips t) (tips u) (sym e)) s
 
   module _ (x y : ℕ) (lx : x < tips t) (ly : y < tips t) where
     same-moved : (a b c d : ℕ) → Four (tips t) a b c d → exchangedButterfly t x y a b c d ≡ exchangedButterfly u x y a b c d

@@ -62,6 +62,14 @@ module _ (k : ℕ) (f : ℕ → ℕ) (cells : List ℕ) where
       at c (yes m) = front c m ∙ sym (in-front-at c m)
       at c (no m) = back c (omega arith) ∙ sym (in-front-later c (omega arith))
 
+-- written once more they are the same
+pub in-front-again : (k : ℕ) (f : ℕ → ℕ) (cells : List ℕ) → k ≤ length cells → inFront k f (inFront k f cells) ≡ inFront k f cells
+in-front-again k f cells l =
+    in-front-is k f cells (inFront k f (inFront k f cells))
+    (in-front-length k f (inFront k f cells) (omega (arith, in-front-length k f cells l)) ∙ in-front-length k f cells l) l
+    (λ c m. in-front-at k f (inFront k f cells) c m)
+    (λ c m. in-front-later k f (inFront k f cells) c m ∙ in-front-later k f cells c m)
+
 -- ---- as a loop writes them
 
 pub in-front-none : (f : ℕ → ℕ) (cells : List ℕ) → cells ≡ inFront 0 f cells

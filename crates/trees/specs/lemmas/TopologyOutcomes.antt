@@ -16,7 +16,7 @@ use Rattle.tree_check.specs.IsTree.{IsTree}
 use Rattle.tree_check.specs.TreeOrder.{treeOrder}
 use Rattle.walks.specs.theorems.WalkOrderLaws.{tree-refused, tree-accepted}
 use Rattle.trees.specs.LabelOrder.{askedOrder, labelOrder}
-use Rattle.trees.specs.Topology.{topology, topologyAnswer, butterflyOf, partnerOf, Told}
+use Rattle.trees.specs.Topology.{topology, topologyUnder, topologyAnswer, butterflyOf, partnerOf, TopologyTold, Told}
 use Rattle.trees.specs.theorems.LabelOrderLaws.{label-check}
 use Rattle.trees.specs.theorems.TopologyLaws.{star-iff, parted-butterfly, parted-with-c, parted-with-d}
 use Rattle.trees.specs.lemmas.Sides.{sides, pairing, pairing-le, SidesAre, Shown, topologyShown}
@@ -28,7 +28,7 @@ told k x = record { refusal = k; topology = x }
 module _ (t : Table) (a b c d : ℕ) where
   answered : (k : ℕ) (x : Topology) → refusal (labelOrder t (a ∷ b ∷ c ∷ d ∷ [])) ≡ k
       → ifAccepted k (topology t a b c d) Star ≡ x → topologyAnswer t a b c d ≡ told k x
-  unfolding topologyAnswer
+  unfolding topologyAnswer topologyUnder
   answered k x e f = ap (λ (j : ℕ). told j (ifAccepted j (topology t a b c d) Star)) e ∙ ap (told k) f
 
   -- the table is refused
@@ -86,9 +86,6 @@ module _ (t : Table) (a b c d : ℕ) where
 -- ---- what the answer tells
 
 module _ (t : Table) (a b c d : ℕ) where
-  number : ℕ
-  number = refusal (labelOrder t (a ∷ b ∷ c ∷ d ∷ []))
-
   told-refused : (k : ℕ) (x : Topology) → k ≢ 0
       → (butterflyOf (ifAccepted k x Star) ≡ 0) × (partnerOf (ifAccepted k x Star) ≡ 0)
   told-refused k x n = rw (if-refused k x Star n) (refl, refl)
@@ -97,9 +94,10 @@ module _ (t : Table) (a b c d : ℕ) where
       → (butterflyOf (ifAccepted k x Star) ≡ p) × (partnerOf (ifAccepted k x Star) ≡ q)
   told-as k p q x y z e f g = rw (if-accepted k x Star z, e) (f, g)
 
-  own-told : Told t a b c d (topologyAnswer t a b c d)
-  unfolding topologyAnswer number
-  own-told = record {
+  -- whatever the order that the number is of, which accepts trees alone
+  pub told-under : (number : ℕ) → (number ≡ 0 → IsTree t) → TopologyTold number t a b c d (topologyUnder number t a b c d)
+  unfolding topologyUnder
+  told-under number tree = record {
     number-told = refl;
     refused = λ n. told-refused number (topology t a b c d) n;
     with-b = λ z h. told-as number 1 _ _ _ z (parted-butterfly t a b c d h) refl refl;
@@ -107,9 +105,10 @@ module _ (t : Table) (a b c d : ℕ) where
     with-d = λ z h. told-as number 1 _ _ _ z (parted-with-d t (tree z) a b c d h) refl refl;
     star = λ z nb nc nd. told-as number 0 0 _ _ z (star-iff t a b c d .1 (nb, nc, nd)) refl refl;
   }
-    where
-      tree : refusal (labelOrder t (a ∷ b ∷ c ∷ d ∷ [])) ≡ 0 → IsTree t
-      tree z = label-check t (a ∷ b ∷ c ∷ d ∷ []) .0 z .0
+
+  own-told : Told t a b c d (topologyAnswer t a b c d)
+  unfolding topologyAnswer
+  own-told = told-under (refusal (labelOrder t (a ∷ b ∷ c ∷ d ∷ []))) (λ z. label-check t (a ∷ b ∷ c ∷ d ∷ []) .0 z .0)
 
   -- an answer, and what it tells
   pub topology-told : (r : TopologyAnswer) → r ≡ topologyAnswer t a b c d

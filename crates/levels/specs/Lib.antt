@@ -1,0 +1,4 @@
+pub mod Levels
+pub mod ViewTopology
+pub mod theorems
+pub mod lemmas

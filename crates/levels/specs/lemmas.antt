@@ -1,0 +1,2 @@
+pub mod LevelOutcomes
+pub mod ViewOutcomes

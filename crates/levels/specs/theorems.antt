@@ -1,0 +1,2 @@
+pub mod LevelsCheck
+pub mod LevelExamples
