@@ -9,15 +9,15 @@
  * is aligned for its elements and not null, even where the number is 0. Nothing is kept after a call returns: a slice
  * has to live only as long as the call.
  *
- * Overlap. Tables are only read, so the two of a pair may be one slice, or share words; and so are marks, but for those
- * of leskwyn_change_mark. The lent cells (`walk`, `out`, `copy`, `work`, and those marks) must not overlap a table or
- * marks.
+ * Overlap. Tables and levels are only read, so the two of a pair may be one slice, or share words; and so are marks,
+ * but for those of leskwyn_change_mark. The lent cells (`walk`, `out`, `copy`, `work`, and those marks) must not
+ * overlap a table, marks or levels.
  *
  * Threads. No globals, no allocation, no input or output. Calls from several threads at once need no lock, as long as
- * no two of them lend the same cells and nobody writes to a table or to marks that are being read. leskwyn_claim_sums,
- * leskwyn_quartet_table and leskwyn_weighted_distance take up to 240 kB of stack, leskwyn_triplet_table,
- * leskwyn_holding, leskwyn_change_mark, leskwyn_canonical_copy, leskwyn_exchange_tallies and leskwyn_exchange_distance
- * up to 64 kB, the others up to 40 kB.
+ * no two of them lend the same cells and nobody writes to a table, marks or levels that are being read.
+ * leskwyn_claim_sums, leskwyn_quartet_table, leskwyn_weighted_distance and leskwyn_view take up to 240 kB of stack,
+ * leskwyn_triplet_table, leskwyn_holding, leskwyn_change_mark, leskwyn_canonical_copy, leskwyn_exchange_tallies and
+ * leskwyn_exchange_distance up to 64 kB, the others up to 40 kB.
  *
  * A tree table. 16-bit words: n, the tips (2 to 256); m, the nodes (n to 4n); then m parent words; then m label words;
  * 2 + 2m words in all.
@@ -41,6 +41,14 @@
  * leskwyn_exchange_tallies and leskwyn_exchange_distance take no marks and know all labels. leskwyn_canonical_copy
  * counts nothing: it writes one tree cut down to its kept labels, of which there are to be two or more.
  *
+ * Levels. n bytes, one for each label from 0 on, each 0 to 3; and a viewer has a level of 0 to 3. A label is visible
+ * if its level is not above the viewer's, else it is hidden. leskwyn_view and leskwyn_view_topology are for viewers
+ * and take levels in place of marks. Levels, viewer and work come from the desk that keeps the trees. A viewer chooses
+ * only the four labels, and is told only the answer: nothing of the work is the viewer's. Any labels may be hidden,
+ * tip 0 and even all of them. Two desks whose visible labels are the same, with the same topology of every four of
+ * them in the two first trees and in the two second ones, tell a viewer the same, if neither refuses the tables, the
+ * levels or the work; n, m, the levels and the viewer's may differ. So a hidden label is like one that does not exist.
+ *
  * Refusals. 0 stands for accepted. A refused call gives its number, 0 in every other field of its answer (but case E
  * where a case is told), and no change to a lent cell. Where several conditions hold, the first in this order decides.
  *
@@ -52,13 +60,14 @@
  *                6   node 0's label is not 0, or a label is neither LESKWYN_INNER nor below n
  *               31   some label from 0 to n - 1 does not stand exactly once
  *                7   a tip other than node 0 has a child, or an inner node has none
- *   of labels   10   a label is n or more
+ *   of labels   10   a label is n or more, or hidden, where the call takes levels
  *               11   two of the labels are equal
  *   of an edge  13   the edge is 0, or m or more
  *   of room     12   the lent walk is shorter than n, or `out` has fewer than 2 + 2m cells
  *   of a pair    the first table's number; then the second's, with 100 more (101 to 106, 131, 107); then
  *                8   the two n differ
  *               32   there are not n marks, or a mark is above 1, where the call takes marks; or `mark` is above 1
+ *               37   there are not n levels, or a level or the viewer's is above 3, where the call takes levels
  *                9   the work has fewer than (m - 1)(m' - 1) cells, m' being the second table's m
  *   of exchanges 9   the work has fewer than (m - 1)(m - 1) cells
  *   of a weight 30   the kind is not 0 to 2, or the fraction of a part is not k/256 with a k from 0 to 256
@@ -121,6 +130,15 @@ typedef struct { uint16_t refusal; uint64_t first, second, same, different; } le
  * b + c + d.
  */
 typedef struct { uint16_t refusal; uint64_t a, b, c, d, e, distance; } leskwyn_quartet_table_answer;
+
+/*
+ * The refusal, or 0; how many labels are visible; and over these the five cases and the distance of the quartet table,
+ * then the splits of the first tree, of the second, and of both, and the Robinson-Foulds distance.
+ */
+typedef struct {
+    uint16_t refusal;
+    uint64_t visible, a, b, c, d, e, distance, first_splits, second_splits, common_splits, robinson_foulds;
+} leskwyn_view_answer;
 
 /* The refusal, or 0; how many sets of four of some kind are in each of these five cases. */
 typedef struct { uint16_t refusal; uint64_t a, b, c, d, e; } leskwyn_five_answer;
@@ -313,6 +331,25 @@ leskwyn_five_answer leskwyn_change_mark(const uint16_t *first, size_t first_word
                                         uint8_t *marks, size_t marks_count,
                                         uint64_t a, uint64_t b, uint64_t c, uint64_t d, uint64_t e,
                                         uint16_t label, uint16_t mark);
+
+/*
+ * What a viewer may see of two trees: how many labels are visible, and what leskwyn_quartet_table and
+ * leskwyn_split_counts tell under marks that keep these. Leaves the crossings of visible labels in the work, as
+ * leskwyn_crossings does under those marks; they are the desk's. Refuses by the pair's numbers, with 37 in the place
+ * of 32.
+ */
+leskwyn_view_answer leskwyn_view(const uint16_t *first, size_t first_words,
+                                 const uint16_t *second, size_t second_words,
+                                 const uint8_t *levels, size_t levels_count, uint16_t viewer,
+                                 uint8_t *work, size_t cells);
+
+/*
+ * The topology of four visible labels, as leskwyn_topology tells it. A hidden label is refused by 10, even if it stands
+ * twice. Refuses as the check does, then 37, 10 and 11.
+ */
+leskwyn_topology_answer leskwyn_view_topology(const uint16_t *table, size_t words,
+                                              const uint8_t *levels, size_t levels_count, uint16_t viewer,
+                                              uint16_t a, uint16_t b, uint16_t c, uint16_t d);
 
 #ifdef __cplusplus
 }

@@ -14,6 +14,12 @@
 //! [`canonical_copy`] writes one tree cut down to its kept labels. [`exchange_tallies`] and [`exchange_distance`] tell how
 //! far the exchange of two labels moves one tree; they take no marks and know all labels.
 //!
+//! [`view`] and [`view_topology`] are for viewers and take *levels* in place of marks: a byte of 0 to 3 for each label, and
+//! the viewer's own. A label is visible if its level is not above the viewer's, else it is hidden. Levels, viewer and work
+//! come from the desk that keeps the trees; a viewer chooses only four labels, and nothing of the work is the viewer's.
+//! What a viewer is told depends only on the visible labels and their topologies in each tree, as long as the tables, the
+//! levels and the work are accepted: a hidden label is like one that does not exist.
+//!
 //! A call that counts two trees is lent *work*: cells of one byte each, one for each edge of the first tree with each edge
 //! of the second. They hold how many labels lie beyond both edges, 255 at most, since tip 0 lies beyond no edge.
 //! [`work_cells`] tells how many cells a pair takes. [`holding`] and [`change_mark`] take none. [`exchange_tallies`] is
@@ -21,7 +27,7 @@
 //!
 //! Any words in slices of any length may be passed. The answer is the whole answer or a [`Refusal`]; a refused call
 //! changes no lent cell. No call allocates, keeps a slice, or touches anything global, so all may be made from several
-//! threads at once. [`claim_sums`], [`quartet_table`] and [`weighted_distance`] take up to 240 kB of stack,
+//! threads at once. [`claim_sums`], [`quartet_table`], [`weighted_distance`] and [`view`] take up to 240 kB of stack,
 //! [`triplet_table`], [`holding`], [`change_mark`], [`canonical_copy`], [`exchange_tallies`] and [`exchange_distance`] up to
 //! 64 kB, the others up to 40 kB.
 //!
@@ -68,6 +74,13 @@ pub enum Topology {
     Butterfly(u16),
     /// No edge parts them two and two.
     Star,
+}
+
+impl Topology {
+    /// The topology of an accepted call.
+    fn of(raw::TopologyAnswer { refusal, butterfly, partner }: raw::TopologyAnswer) -> Result<Topology, Refusal> {
+        Refusal::or(refusal, if butterfly == 1 { Topology::Butterfly(partner) } else { Topology::Star })
+    }
 }
 
 /// The claim sums of two trees, over kept tips.
@@ -263,6 +276,33 @@ pub struct Evidence {
     pub second: Witness,
 }
 
+/// What a viewer is told of two trees: figures of visible labels alone.
+#[derive(Clone, Copy, Debug, Default, PartialEq, Eq, Hash)]
+pub struct View {
+    /// The visible labels.
+    pub visible: u64,
+    /// Of the sets of four visible labels: the same butterfly in both trees.
+    pub a: u64,
+    /// Different butterflies.
+    pub b: u64,
+    /// A butterfly in the first tree only.
+    pub c: u64,
+    /// A butterfly in the second tree only.
+    pub d: u64,
+    /// A star in both.
+    pub e: u64,
+    /// The quartet distance, B + C + D.
+    pub distance: u64,
+    /// The first tree's splits of visible labels.
+    pub first_splits: u64,
+    /// The second's.
+    pub second_splits: u64,
+    /// Those of both.
+    pub common_splits: u64,
+    /// The Robinson-Foulds distance, first + second - 2 common.
+    pub robinson_foulds: u64,
+}
+
 /// Checks a tree table.
 ///
 /// ```
@@ -359,8 +399,7 @@ pub fn centre(table: &[u16], a: u16, b: u16, c: u16) -> Result<u16, Refusal> {
 pub fn topology(table: &[u16], a: u16, b: u16, c: u16, d: u16) -> Result<Topology, Refusal> {
     // SAFETY: the pointer and the length are those of one live slice.
     let answer = unsafe { raw::leskwyn_topology(table.as_ptr(), table.len(), a, b, c, d) };
-    let topology = if answer.butterfly == 1 { Topology::Butterfly(answer.partner) } else { Topology::Star };
-    Refusal::or(answer.refusal, topology)
+    Topology::of(answer)
 }
 
 /// Writes the table re-rooted at the tip with that label into the first 2 + 2m cells; later cells stay.
@@ -807,4 +846,82 @@ pub fn change_mark(
         )
     };
     FiveCounts::of(answer)
+}
+
+/// What a viewer may see of two trees: the number of visible labels, and the figures of [`quartet_table`] and
+/// [`split_counts`] under marks that keep these. Leaves in the work what [`crossings`] does under those marks, for the desk.
+///
+/// ```
+/// use leskwyn::{view, work_cells, View, INNER as X};
+/// // Below tip 0: (1,(2,(3,4))) and (1,(2,3,4)). A viewer of level 1 sees all but label 1.
+/// let p = [5, 8, 0, 0, 1, 1, 3, 3, 5, 5, 0, X, 1, X, 2, X, 3, 4];
+/// let q = [5, 7, 0, 0, 1, 1, 3, 3, 3, 0, X, 1, X, 2, 3, 4];
+/// let levels = [0, 2, 0, 1, 1];
+/// let mut work = vec![0; work_cells(&p, &q)?];
+/// let View { visible, c, distance, first_splits, robinson_foulds, .. } = view(&p, &q, &levels, 1, &mut work)?;
+/// assert_eq!([visible, c, distance, first_splits, robinson_foulds], [4, 1, 1, 1, 1]);
+/// assert_eq!(view(&p, &q, &levels, 2, &mut work)?.visible, 5);
+/// assert_eq!(view(&p, &q, &levels, 4, &mut work).unwrap_err().number(), 37);
+/// # Ok::<(), leskwyn::Refusal>(())
+/// ```
+///
+/// # Errors
+///
+/// Those of [`work_cells`], then 37, then 9.
+pub fn view(first: &[u16], second: &[u16], levels: &[u8], viewer: u16, work: &mut [u8]) -> Result<View, Refusal> {
+    // SAFETY: each pointer and length are those of one live slice, and `work` is borrowed alone.
+    let answer = unsafe {
+        raw::leskwyn_view(
+            first.as_ptr(),
+            first.len(),
+            second.as_ptr(),
+            second.len(),
+            levels.as_ptr(),
+            levels.len(),
+            viewer,
+            work.as_mut_ptr(),
+            work.len(),
+        )
+    };
+    let raw::ViewAnswer {
+        refusal,
+        visible,
+        a,
+        b,
+        c,
+        d,
+        e,
+        distance,
+        first_splits,
+        second_splits,
+        common_splits,
+        robinson_foulds,
+    } = answer;
+    let view = View { visible, a, b, c, d, e, distance, first_splits, second_splits, common_splits, robinson_foulds };
+    Refusal::or(refusal, view)
+}
+
+/// The topology of four visible labels, whatever their order. A hidden label is refused like one that is n or more, even
+/// if it stands twice.
+///
+/// ```
+/// use leskwyn::{view_topology, Topology, INNER as X};
+/// // Below tip 0: (1,(2,(3,4))). A viewer of level 1 sees all but label 1.
+/// let p = [5, 8, 0, 0, 1, 1, 3, 3, 5, 5, 0, X, 1, X, 2, X, 3, 4];
+/// let levels = [0, 2, 0, 1, 1];
+/// assert_eq!(view_topology(&p, &levels, 1, [4, 0, 3, 2]), Ok(Topology::Butterfly(2)));
+/// for (four, number) in [([0, 1, 2, 3], 10), ([1, 1, 2, 3], 10), ([0, 2, 3, 5], 10), ([0, 2, 2, 3], 11)] {
+///     assert_eq!(view_topology(&p, &levels, 1, four).unwrap_err().number(), number);
+/// }
+/// ```
+///
+/// # Errors
+///
+/// 1 to 6, 31 and 7, then 37, 10 and 11.
+pub fn view_topology(table: &[u16], levels: &[u8], viewer: u16, [a, b, c, d]: [u16; 4]) -> Result<Topology, Refusal> {
+    // SAFETY: each pointer and length are those of one live slice.
+    let answer = unsafe {
+        raw::leskwyn_view_topology(table.as_ptr(), table.len(), levels.as_ptr(), levels.len(), viewer, a, b, c, d)
+    };
+    Topology::of(answer)
 }

@@ -143,6 +143,25 @@ pub struct FiveAnswer {
     pub e: u64,
 }
 
+/// The refusal, or 0; the number of visible labels; A to E and B + C + D; the splits of the first tree, of the second, of
+/// both, and the Robinson-Foulds distance.
+#[repr(C)]
+#[derive(Clone, Copy, Debug, PartialEq, Eq)]
+pub struct ViewAnswer {
+    pub refusal: u16,
+    pub visible: u64,
+    pub a: u64,
+    pub b: u64,
+    pub c: u64,
+    pub d: u64,
+    pub e: u64,
+    pub distance: u64,
+    pub first_splits: u64,
+    pub second_splits: u64,
+    pub common_splits: u64,
+    pub robinson_foulds: u64,
+}
+
 /// A function of two tables, the marks and the work: each as a pointer and a number of elements.
 pub type PairFunction<T> =
     unsafe extern "C" fn(*const u16, usize, *const u16, usize, *const u8, usize, *mut u8, usize) -> T;
@@ -279,4 +298,28 @@ extern "C" {
         label: u16,
         mark: u16,
     ) -> FiveAnswer;
+
+    pub fn leskwyn_view(
+        first: *const u16,
+        first_words: usize,
+        second: *const u16,
+        second_words: usize,
+        levels: *const u8,
+        levels_count: usize,
+        viewer: u16,
+        work: *mut u8,
+        cells: usize,
+    ) -> ViewAnswer;
+
+    pub fn leskwyn_view_topology(
+        table: *const u16,
+        words: usize,
+        levels: *const u8,
+        levels_count: usize,
+        viewer: u16,
+        a: u16,
+        b: u16,
+        c: u16,
+        d: u16,
+    ) -> TopologyAnswer;
 }

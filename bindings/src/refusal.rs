@@ -32,8 +32,8 @@ impl Refusal {
     }
 
     /// The number: 1 to 7 or 31 of a table or of the first of two; 101 to 107 or 131 of the second; 8 to 13; 15 of a file;
-    /// 30 of a weight; 32 of marks; 33 or 34 of a changed mark; 35 or 36 of a copy. Where several rules are broken, 31
-    /// stands between 6 and 7, 131 between 106 and 107, and 32 between 8 and 9.
+    /// 30 of a weight; 32 of marks; 33 or 34 of a changed mark; 35 or 36 of a copy; 37 of levels. Where several rules are
+    /// broken, 31 stands between 6 and 7, 131 between 106 and 107, and 32 or 37 between 8 and 9.
     #[must_use]
     pub fn number(self) -> u16 {
         self.0.get()
@@ -53,7 +53,7 @@ impl Refusal {
             7 | 107 => "a tip other than node 0 has a child, or an inner node has none",
             8 => "the two n differ",
             9 => "the work has fewer than (m - 1)(m' - 1) cells",
-            10 => "a label asked about is n or more",
+            10 => "a label asked about is n or more, or hidden",
             11 => "two labels asked about are equal",
             12 => "the lent walk is shorter than n, or a re-rooted table's cells are fewer than 2 + 2m",
             13 => "the edge is 0, or m or more",
@@ -64,6 +64,7 @@ impl Refusal {
             34 => "the counts do not add up to the sets of four kept labels, or a strike would overdraw a case",
             35 => "fewer than two labels are kept",
             36 => "the cells are fewer than the canonical copy has words",
+            37 => "there are not n levels, or a level or the viewer's is above 3",
             _ => "a rule is broken",
         }
     }
