@@ -4,6 +4,7 @@
 mod copies;
 mod exchanges;
 mod one_label;
+mod views;
 
 use std::fmt::Debug;
 
@@ -25,6 +26,7 @@ use crate::{common_ancestors, cubic, pruned};
 pub use copies::copy_agrees;
 pub use exchanges::{exchange_agrees, tallies_agree};
 pub use one_label::{change_agrees, holding_agrees, reroot_agrees};
+pub use views::{view_agrees, view_topology_agrees};
 
 /// Pairs of claims that are summed one by one; for more, S2 and S3 are read from the cases.
 const MOST_CLAIM_PAIRS: usize = 500_000;
@@ -234,20 +236,26 @@ pub fn centre_agrees(table: &[u16], tree: Option<&Tree>, [a, b, c]: [u16; 3]) {
 pub fn topology_agrees(table: &[u16], tree: Option<&Tree>, four: [u16; 4]) {
     let refusal = enumerate::label_refusal(table, &four);
     let topology = tree.filter(|_| refusal == 0).map_or(Topology::Star, |tree| tree.topology(four));
-    let (butterfly, partner) = match topology {
-        Topology::Butterfly(partner) => (1, partner),
-        Topology::Star => (0, 0),
-    };
     let [a, b, c, d] = four;
     // SAFETY: the pointer and the length are those of one slice.
     let answer = unsafe { raw::leskwyn_topology(table.as_ptr(), table.len(), a, b, c, d) };
-    assert_eq!(answer, TopologyAnswer { refusal, butterfly, partner }, "topology of {four:?} in {table:?}");
-    match (leskwyn::topology(table, a, b, c, d), topology) {
-        (Err(refused), _) => assert_eq!(refused.number(), refusal),
-        (Ok(leskwyn::Topology::Butterfly(one)), Topology::Butterfly(other)) => assert_eq!(one, other),
-        (Ok(leskwyn::Topology::Star), Topology::Star) => assert_eq!(refusal, 0),
-        (Ok(one), other) => panic!("{one:?} in place of {other:?}"),
-    }
+    let wrapped = leskwyn::topology(table, a, b, c, d);
+    told_topology_agrees((answer, wrapped), (refusal, topology), &(four, "in", table));
+}
+
+/// A function's answer and its wrapper's against the number, which goes with a star, and the topology.
+fn told_topology_agrees(
+    (answer, wrapped): (TopologyAnswer, Result<leskwyn::Topology, Refusal>),
+    (refusal, topology): (u16, Topology),
+    told: &impl Debug,
+) {
+    let (butterfly, partner, same) = match topology {
+        Topology::Butterfly(partner) => (1, partner, leskwyn::Topology::Butterfly(partner)),
+        Topology::Star => (0, 0, leskwyn::Topology::Star),
+    };
+    assert_eq!(answer, TopologyAnswer { refusal, butterfly, partner }, "topology of {told:?}");
+    let expected = if refusal == 0 { Ok(same) } else { Err(refusal) };
+    assert_eq!(wrapped.map_err(Refusal::number), expected, "topology of {told:?}");
 }
 
 /// What a refusal shows.

@@ -504,7 +504,7 @@ pub fn triplet_cases(first: &Tree, second: &Tree) -> [u64; 5] {
 }
 
 /// The case of a set that either tree resolves in some way, or leaves open.
-fn case_of<T: PartialEq>(ours: Option<T>, theirs: Option<T>) -> usize {
+pub fn case_of<T: PartialEq>(ours: Option<T>, theirs: Option<T>) -> usize {
     match (ours, theirs) {
         (Some(one), Some(other)) if one == other => 0,
         (Some(_), Some(_)) => 1,

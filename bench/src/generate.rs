@@ -2,6 +2,7 @@
 
 use crate::random::Random;
 use crate::reference::X;
+use crate::viewed::Levels;
 
 #[derive(Clone, Copy, Debug, PartialEq, Eq)]
 pub enum Shape {
@@ -455,6 +456,31 @@ pub fn wrong_marks(n: usize, random: &mut Random) -> Vec<u8> {
         _ => marks[random.below(n)] = *random.pick(&[2, 3, 128, 254, 255]),
     }
     marks
+}
+
+/// Levels and a viewer who sees exactly the labels that marks keep. One of level 3 sees all.
+pub fn levels(marks: &[u8], random: &mut Random) -> Levels {
+    let viewer = random.between(0, if marks.contains(&0) { 2 } else { 3 });
+    let level = |&mark: &u8| if mark == 1 { random.between(0, viewer) } else { random.between(viewer + 1, 3) };
+    Levels { of_labels: marks.iter().map(level).map(|level| level as u8).collect(), viewer: viewer as u16 }
+}
+
+/// Levels of n labels and a viewer, whoever sees whatever.
+pub fn any_levels(n: usize, random: &mut Random) -> Levels {
+    levels(&any_marks(n, random), random)
+}
+
+/// Bytes that are no levels of n labels, or a viewer that has none: too few, too many, or one above 3.
+pub fn wrong_levels(n: usize, random: &mut Random) -> Levels {
+    let mut levels = any_levels(n, random);
+    match random.below(5) {
+        0 => levels.of_labels.truncate(random.below(n)),
+        1 => levels.of_labels.extend((0..random.between(1, 300)).map(|_| 0)),
+        2 => levels.of_labels[random.below(n)] = random.between(4, 255) as u8,
+        3 => levels.of_labels[random.below(n)] = *random.pick(&[4, 5, 128, 255]),
+        _ => levels.viewer = *random.pick(&[4, 5, 255, 256, 257, 259, 32768, X]),
+    }
+    levels
 }
 
 /// How a pair's second tree comes about.

@@ -4,10 +4,10 @@
 //! splits as a set of pairs of tip sets, triplets by climbing to lowest common ancestors. `evidence` looks at every
 //! edge and every node, `weights` has the weighted distance in whole numbers, `one_label` says what comes of a label
 //! that is struck or restored, `rerooted` hangs a tree from another tip, `pass_through` takes pass-through nodes out,
-//! `pruned` the tips of struck labels, `copied` makes a canonical copy from sets of labels, and `exchanged` looks at every
-//! set of four of a tree with two labels exchanged. Nothing in these, in `cubic` and `expanded`, which follow document
-//! 001, or in `common_ancestors` comes from the library. `straight` is the library's own algorithm as a Rust programmer
-//! would write it, and is there to be timed.
+//! `pruned` the tips of struck labels, `copied` makes a canonical copy from sets of labels, `exchanged` looks at every
+//! set of four of a tree with two labels exchanged, and `viewed` has what a viewer is told of visible labels. Nothing in
+//! these, in `cubic` and `expanded`, which follow document 001, or in `common_ancestors` comes from the library.
+//! `straight` is the library's own algorithm as a Rust programmer would write it, and is there to be timed.
 
 pub mod agree;
 pub mod common_ancestors;
@@ -27,4 +27,5 @@ pub mod reference;
 pub mod rerooted;
 mod sides;
 pub mod straight;
+pub mod viewed;
 pub mod weights;
