@@ -98,6 +98,13 @@ def trees_of_path(path: str, wanted: int | None) -> list[Placed]:
     return trees_of_bytes(files.shown_path(path), files.read_bytes(path), wanted)
 
 
+def two_trees(paths: list[str]) -> list[Placed]:
+    """Those of two files with one tree each, or of one with both."""
+    if len(paths) == 1:
+        return trees_of_path(paths[0], 2)
+    return [placed for path in paths for placed in trees_of_path(path, 1)]
+
+
 def named_file(given: Given) -> str | None:
     """The path, for an os.PathLike and for a str that names a file that is there; else None."""
     if isinstance(given, os.PathLike):

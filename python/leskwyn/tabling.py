@@ -7,7 +7,7 @@ import stat
 from leskwyn import files
 from leskwyn.errors import Refusal, counted, one_line, some_of
 from leskwyn.labels import label_list, names_in_order, order_of_tips, outgroup_first
-from leskwyn.sources import trees_of_path
+from leskwyn.sources import two_trees
 from leskwyn.tables import (COMPARE_BYTES, ORDINALS, Broken, broken_rule, cut, file_bytes, file_words, labels_not_once,
                             newick_text)
 from leskwyn.trees import INNER, Placed, Table, checked, labels_of_names, table_of, written
@@ -109,12 +109,6 @@ def wrong_usage(options: argparse.Namespace) -> str:
     if is_terminal("-" if options.output is None else options.output):
         return "a comparison file is bytes, which are not for a terminal: name a file with -o, or use a pipe"
     return ""
-
-
-def two_trees(paths: list[str]) -> list[Placed]:
-    if len(paths) == 1:
-        return trees_of_path(paths[0], 2)
-    return [placed for path in paths for placed in trees_of_path(path, 1)]
 
 
 def table_command(arguments: list[str]) -> int:

@@ -10,6 +10,7 @@ INNER = 65535
 FEWEST_TIPS, MOST_TIPS = 2, 256
 # A table of n tips has at most 4n nodes.
 NODES_FOR_A_TIP = 4
+COMMON_HINT = "; --common (in Python common=True) leaves them out"
 
 
 class Tree:
@@ -68,24 +69,23 @@ def form_hint(only_first: Collection[str], only_second: Collection[str]) -> str:
             "(NFC)")
 
 
-def check_same_names(first: Placed, second: Placed, struck: Collection[str] = ()) -> None:
-    """Tells all names that only one of the trees has, but for struck ones."""
+def check_same_names(first: Placed, second: Placed, struck: Collection[str] = (), hint: str = COMMON_HINT) -> None:
+    """Tells all names that only one of the trees has, but for struck ones; `hint` says what helps."""
     names = [set(placed.tree.tips()).difference(struck) for placed in (first, second)]
     only = [sorted(names[0] - names[1]), sorted(names[1] - names[0])]
     if not only[0] and not only[1]:
         return
     parts = [f"only {placed.place} has {some_of(left)}" for placed, left in zip((first, second), only) if left]
-    raise Refusal(f"the trees have different tips: {'; '.join(parts)}{form_hint(*only)}; --common (in Python common=True) "
-                  "leaves them out")
+    raise Refusal(f"the trees have different tips: {'; '.join(parts)}{form_hint(*only)}{hint}")
 
 
-def checked(trees: Sequence[Placed]) -> list[str]:
-    """The sorted names of the trees, which must all have the same."""
+def checked(trees: Sequence[Placed], hint: str = COMMON_HINT) -> list[str]:
+    """The sorted names of the trees, which must all have the same; `hint` says what helps if they do not."""
     for placed in trees:
         tips = placed.tree.tips()
         check_repeats(placed.place, tips)
         check_count(placed.place, len(tips))
-        check_same_names(trees[0], placed)
+        check_same_names(trees[0], placed, hint=hint)
     return sorted(trees[0].tree.tips())
 
 
