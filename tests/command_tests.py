@@ -1,6 +1,6 @@
 #!/usr/bin/env python3
-"""Tests of the commands compare, why, influence, copy, same, exchange, matrix and against, of docs/COMMANDS.md, and of what the
-commands say where things fail.
+"""Tests of the commands compare, why, influence, copy, same, exchange, view, view-topology, matrix and against, of
+docs/COMMANDS.md, and of what the commands say where things fail.
 
     python3 tests/command_tests.py
 
@@ -36,15 +36,17 @@ from cases.copies import copy_table, copy_text, kept_splits
 from cases.evidence import evidence
 from cases.exchanges import REFERENCE_TALLIES, exchanges
 from cases.influence import CASES, influence
-from cases.newick import random_names, random_tree, sides_of, star_text, with_pass_through, written_tree
+from cases.newick import Tree, random_names, random_tree, sides_of, star_text, with_pass_through, written_tree
 from cases.pairs import pair_refusal, split_counts
 from cases.shapes import balanced, caterpillar
 from cases.tables import LABEL_TROUBLE, P, Q, THREE, W, X, damaged
 from cases.triplets import triplet_table
+from cases.views import topology, view, visible, with_tips
 
 import leskwyn
 from leskwyn import commands, usage
 from leskwyn.figures import KEYS, STRUCK_KEYS, WEIGHTED_KEYS
+from leskwyn.labels import label_list
 from leskwyn.tables import newick_text
 
 FEATHERS, WINGS = "(Azores,(Bute,Coll),Foula,(Lundy,Texel));\n", "(Azores,Bute,(Coll,Foula),(Lundy,Texel));\n"
@@ -1331,6 +1333,279 @@ class Exchange(TreesTest):
         self.assertEqual(keys, list(place | exchanges(self.SIDES, NAMES, 1)))
 
 
+class View(TreesTest):
+    """What a viewer may see, by a look at every set of four visible names; and nothing of what is hidden."""
+
+    FEATHERS = [frozenset(["Bute", "Coll"]), frozenset(["Lundy", "Texel"])]
+    WINGS = [frozenset(["Coll", "Foula"]), frozenset(["Lundy", "Texel"])]
+    FORMATS = ("text", "tsv", "json")
+    NOT_SEEN = b"leskwyn: refused 10: not all of the four names are populations that this viewer sees\n"
+
+    def setUp(self) -> None:
+        super().setUp()
+        self.levels(dict.fromkeys(NAMES, 0) | {"Foula": 3})
+
+    def levels(self, levels: dict[str, int], name: str = "levels.tsv") -> str:
+        lines = [label_list([one]).split("\t", 1)[1].rstrip("\n") + f"\t{level}\n" for one, level in levels.items()]
+        return self.file(name, "".join(lines))
+
+    def view(self, *arguments: str, levels: str = "levels.tsv", viewer: int = 0, stdin: bytes | str = b"") -> Done:
+        return self.here("view", *arguments, "--levels", levels, "--viewer", str(viewer), stdin=stdin)
+
+    def topology(self, *arguments: str, levels: str = "levels.tsv", viewer: int = 0, stdin: bytes | str = b"") -> Done:
+        return self.here("view-topology", "--levels", levels, "--viewer", str(viewer), *arguments, stdin=stdin)
+
+    def told(self, done: Done) -> object:
+        self.assertEqual((done.returncode, done.stderr, done.stdout.count(b"\n")), (0, b"", 1), done)
+        return json.loads(done.stdout)
+
+    def words(self, told: dict[str, object]) -> list[str]:
+        """The text of all that is told of two trees, squeezed."""
+        cases = [told[key] for key in CASES]
+        shares = [f"{100 * count / sum(cases):.1f} %" if sum(cases) else "none" for count in cases]
+        names = ["parted alike by both trees", "parted differently", "parted by the first tree only",
+                 "parted by the second tree only", "left open by both trees"]
+        splits = told["first_splits"] + told["second_splits"]
+        return [f"visible populations {told['visible']}", f"sets of four {told['sets_of_four']}",
+                *(" ".join(map(str, row)) for row in zip("ABCDE", names, cases, shares, strict=True)),
+                f"distance {told['distance']} B + C + D", f"normalised distance {told['normalised_distance']:.4f} "
+                + ("distance / sets of four" if sum(cases) else "there are no sets of four"), "",
+                f"splits of the first tree {told['first_splits']}", f"splits of the second tree {told['second_splits']}",
+                f"splits of both {told['common_splits']}",
+                f"Robinson-Foulds distance {told['robinson_foulds']} splits of one tree only",
+                f"normalised Robinson-Foulds {told['normalised_robinson_foulds']:.4f} "
+                + ("distance / splits of the first and the second" if splits else "neither tree has a split"), ""]
+
+    def assert_view(self, expected: dict[str, object], *arguments: str, viewer: int = 0) -> None:
+        """All three formats; standard error is empty."""
+        text, tsv, told = (self.view(*arguments, "--format", one, viewer=viewer) for one in self.FORMATS)
+        self.assertEqual([(done.returncode, done.stderr) for done in (text, tsv)], [(0, b"")] * 2)
+        self.assertEqual(squeezed(text.stdout.decode()), self.words(expected))
+        columns = [key for key in expected if key != "names"]
+        self.assertEqual([line.split("\t") for line in tsv.stdout.decode().splitlines()],
+                         [columns, [str(expected[key]) for key in columns]])
+        self.assertEqual((self.told(told), list(json.loads(told.stdout))), (expected, list(expected)))
+
+    def test_by_hand(self) -> None:
+        """Feathers and wings without the names that are hidden, as KEPT has them."""
+        for hidden, (cases, splits) in KEPT.items():
+            names = [name for name in NAMES if name not in hidden.split()]
+            apart = splits[0] + splits[1] - 2 * splits[2]
+            expected = {"visible": len(names), "sets_of_four": sum(cases), **dict(zip(CASES, cases)), "distance": sum(cases[1:4]),
+                        "normalised_distance": sum(cases[1:4]) / (sum(cases) or 1), "first_splits": splits[0],
+                        "second_splits": splits[1], "common_splits": splits[2], "robinson_foulds": apart,
+                        "normalised_robinson_foulds": apart / (splits[0] + splits[1] or 1), "names": names}
+            for viewer in range(3):
+                self.levels({name: viewer if name in names else viewer + 1 for name in NAMES})
+                for files in (["feathers.nwk", "wings.nwk"], ["both.nwk"]):
+                    self.assert_view(expected, *files, viewer=viewer)
+
+    def test_random_trees(self) -> None:
+        """With nodes of many branches and pass-through nodes; all levels and viewers are met."""
+        rng, seen = random.Random(81), set()
+        for case in range(40):
+            names = sorted(f"t{at}" for at in range(3 + case % 6))
+            trees = [random_tree(rng, names, rng.choice([0, 0.3, 0.8])) for _ in range(2)]
+            for name, tree in zip(("a.nwk", "b.nwk"), trees):
+                self.file(name, written_tree(rng, with_pass_through(rng, tree, rng.randint(1, 9)) if case % 2 else tree))
+            levels, viewer = {name: rng.choice([0, 0, 1, 2, 3]) for name in names}, rng.randrange(4)
+            self.levels(levels)
+            expected = view(*map(sides_of, trees), levels, viewer)
+            with self.subTest(case=case):
+                self.assert_view(expected, "a.nwk", "b.nwk", viewer=viewer)
+                for four in itertools.combinations(visible(levels, viewer), 4):
+                    told = self.topology("a.nwk", *rng.sample(four, 4), "--format=json", viewer=viewer)
+                    self.assertEqual(self.told(told), topology(sides_of(trees[0]), four))
+            seen |= {(viewer, min(expected["visible"], 4))}
+        self.assertGreaterEqual(seen, {(viewer, 4) for viewer in range(4)})
+
+    def desk(self, rng: random.Random, name: str, trees: list[Tree], shown: list[str]) -> tuple[list[str], dict[str, object]]:
+        """The files of a desk whose visible names are these: hidden tips, levels and the viewer's level are its own."""
+        hidden = [f"hush{at}{name}" for at in rng.sample(range(100), rng.randint(0, 6))]
+        viewer = rng.randrange(3) if hidden else rng.randrange(4)
+        levels = {one: rng.randint(0, viewer) for one in shown} | {one: rng.randint(viewer + 1, 3) for one in hidden}
+        order = rng.sample(sorted(levels), len(levels))
+        paths = [self.file(f"{name}{at}-hush.nwk", written_tree(rng, with_tips(rng, tree, hidden)))
+                 for at, tree in enumerate(trees)]
+        return paths, {"levels": self.levels({one: levels[one] for one in order}, f"{name}-hush.tsv"), "viewer": viewer}
+
+    def test_what_is_hidden_changes_nothing(self) -> None:
+        """Two desks that agree on the visible names and their topologies: hidden tips, their number, names and places, levels, the
+        viewer's level and the files' names differ. Every byte on both streams is the same, and none is of a hidden name."""
+        rng = random.Random(82)
+        for case in range(30):
+            shown = sorted(f"t{at}" for at in range(4 + case % 4))
+            trees = [random_tree(rng, shown, rng.choice([0, 0.3, 0.8])) for _ in range(2)]
+            (paths, one), (others, other) = (self.desk(rng, name, trees, shown) for name in ("x", "y"))
+            runs = [(self.view(*paths, "--format", form, **one), self.view(*others, "--format", form, **other))
+                    for form in self.FORMATS]
+            asked = [*itertools.combinations(shown, 4), ["t0", "t1", "t2", "hush1x"], ["hush2x"] * 4, ["t0", "t0", "t1", "t2"],
+                     ["hush3y", "t0", "t0", "t1"], ["t0", "t1", "t2", "0"]]
+            runs += [(self.topology(paths[0], *four, "--format", form, **one),
+                      self.topology(others[0], *four, "--format", form, **other)) for four in asked for form in self.FORMATS]
+            with self.subTest(case=case):
+                for done, again in runs:
+                    self.assertEqual((done.returncode, done.stdout, done.stderr), (again.returncode, again.stdout, again.stderr))
+                    self.assertNotIn(b"hush", done.stdout + done.stderr)
+                self.assertEqual({done.returncode for done, _ in runs}, {0, 1})
+
+    def test_every_hidden_name_is_asked_about(self) -> None:
+        """Each of a desk's own hidden names, where it stands and how often."""
+        rng, shown = random.Random(83), [f"t{at}" for at in range(5)]
+        for name in "xyz":
+            paths, options = self.desk(rng, name, [random_tree(rng, shown, 0.3)], shown)
+            tips = re.findall(rf"hush\d+{name}", (self.folder / options["levels"]).read_text())
+            for hidden, at in itertools.product([*tips, "Zeist", "", "65535"], range(4)):
+                for four in (["t0", "t1", "t2"], ["t0", "t0", "t1"], [hidden] * 3):
+                    done = self.topology(paths[0], *four[:at], hidden, *four[at:], **options)
+                    self.assertEqual((done.returncode, done.stdout, done.stderr), (1, b"", self.NOT_SEEN), (hidden, four))
+
+    def test_what_is_visible_counts(self) -> None:
+        """One visible topology changed, and the answer is another."""
+        self.file("other.nwk", FEATHERS.replace("(Bute,Coll)", "Coll").replace("(Lundy", "((Bute,Lundy)"))
+        told = [[self.view(one, "wings.nwk").stdout, self.topology(one, *NAMES[:3], "Lundy").stdout]
+                for one in ("feathers.nwk", "other.nwk")]
+        self.assertNotEqual(told[0][0], told[1][0])
+        self.assertNotEqual(told[0][1], told[1][1])
+        self.assertNotEqual(self.view("both.nwk").stdout, self.view("both.nwk", viewer=3).stdout)
+
+    def test_topology(self) -> None:
+        """Feathers pair Bute with Coll and Lundy with Texel; Azores and Foula stand alone. The order of the names plays no part."""
+        for four, pairs in ((["Azores", "Bute", "Coll", "Lundy"], [["Azores", "Lundy"], ["Bute", "Coll"]]),
+                            (["Bute", "Coll", "Lundy", "Texel"], [["Bute", "Coll"], ["Lundy", "Texel"]]),
+                            (["Azores", "Bute", "Foula", "Lundy"], None)):
+            lines = [f"  {' + '.join(pair)}" for pair in pairs] if pairs else [f"  {name}" for name in four]
+            text = "\n".join(["parts them two and two:" if pairs else "leaves them open:", *lines, ""])
+            told = {"names": four, "topology": "butterfly" if pairs else "star", "pairs": pairs}
+            row = [",".join(four), told["topology"], *(",".join(pair) for pair in pairs or [[], []])]
+            tsv = f"names\ttopology\tfirst_pair\tsecond_pair\n{chr(9).join(row)}\n"
+            for order in itertools.permutations(four):
+                runs = [self.topology("feathers.nwk", *order, "--format", form, viewer=3) for form in self.FORMATS]
+                self.assertEqual([(done.returncode, done.stderr) for done in runs], [(0, b"")] * 3)
+                self.assertEqual([done.stdout.decode() for done in runs[:2]], [text, tsv])
+                self.assertEqual((json.loads(runs[2].stdout), list(json.loads(runs[2].stdout))), (told, list(told)))
+
+    def test_asked_names(self) -> None:
+        """A visible name that stands twice is told, in whatever words; with a hidden one, or two, 10 comes first."""
+        done = self.topology("wings.nwk", "Coll", "Bute", "'Coll'", "Azores")
+        self.assert_message(done, 1, "refused 11: 'Coll' stands more than once; four different names are needed")
+        done = self.topology("wings.nwk", "Coll", "Bute", "Bute", "Coll")
+        self.assert_message(done, 1, "refused 11: 'Coll', 'Bute' stand more than once; four different names are needed")
+        for four in ("Foula Foula Bute Coll", "Foula Bute Bute Coll", "Zeist Bute Bute Coll", "Foula Zeist Azores Bute"):
+            done = self.topology("wings.nwk", *four.split())
+            self.assertEqual((done.returncode, done.stdout, done.stderr), (1, b"", self.NOT_SEEN))
+
+    def test_a_hidden_name_takes_no_word(self) -> None:
+        """A word stands for a visible name as if the hidden ones were not there."""
+        for hidden in ("'a_b'", "x"):
+            self.file("tree.nwk", f"(('a b',c),({hidden},d),e);")
+            self.file("words.tsv", f"'a b'\t0\nc\t0\nd\t1\ne\t1\n{hidden}\t2\n")
+            told = self.told(self.topology("tree.nwk", "a_b", "c", "d", "e", "--format=json", levels="words.tsv", viewer=1))
+            self.assertEqual(told, {"names": ["a b", "c", "d", "e"], "topology": "butterfly", "pairs": [["a b", "c"], ["d", "e"]]})
+
+    def test_a_hidden_name_in_another_unicode_form(self) -> None:
+        self.file("tree.nwk", "((M\u00f6we,b),(c,(d,e)));")
+        self.levels({"M\u00f6we": 3, "b": 0, "c": 0, "d": 0, "e": 0})
+        done = self.topology("tree.nwk", "Mo\u0308we", "b", "c", "d")
+        self.assertEqual((done.returncode, done.stdout, done.stderr), (1, b"", self.NOT_SEEN))
+
+    def test_forms_of_the_levels(self) -> None:
+        """Line ends, byte order marks, blanks around a level, lines that are passed over, names in quotes or with _, escapes."""
+        expected = self.view("both.nwk").stdout
+        plain = (self.folder / "levels.tsv").read_text()
+        for content in (plain.replace("\n", "\r\n"), plain.encode("utf-16"), "# a note\n\n" + plain, plain.removesuffix("\n"),
+                        "".join(reversed(plain.splitlines(True))), plain.replace("Bute", "'Bute'"), plain.replace("\t", "\t ")):
+            self.file("other.tsv", content)
+            done = self.view("both.nwk", levels="other.tsv")
+            self.assertEqual((done.returncode, done.stdout, done.stderr), (0, expected, b""), content)
+        self.assertEqual(self.view("both.nwk", levels="-", stdin=plain).stdout, expected)
+        self.file("names.nwk", "((Parus_major,'#1'),('e\nf',('g\th','i\\n')));")
+        self.file("names.tsv", "Parus_major\t0\n'#1'\t0\ne\\nf\t0\ng\th\t0\ni\\\\n\t1\n")
+        told = self.told(self.view("-", "--format=json", levels="names.tsv", stdin=(self.folder / "names.nwk").read_bytes() * 2))
+        self.assertEqual((told["visible"], told["names"]), (4, ["#1", "Parus major", "e\nf", "g\th"]))
+
+    def test_wrong_levels(self) -> None:
+        """They are the desk's: status 2, a line that names the name, and nothing on standard output."""
+        plain = (self.folder / "levels.tsv").read_text()
+        for content, words in (
+                (plain + "Zeist\t0\n", "wrong.tsv: the list has 'Zeist', not a tip of the trees"),
+                (plain.replace("Foula\t3\n", ""), "wrong.tsv: the list lacks 'Foula'"),
+                (plain.replace("Foula", "Zeist"), "wrong.tsv: the list lacks 'Foula' and has 'Zeist', not a tip of the trees"),
+                (plain + "Foula\t3\n", "wrong.tsv: the list repeats 'Foula'"),
+                (plain + "'Foula'\t0\n", "wrong.tsv: the list repeats 'Foula'"),
+                (plain.replace("Foula\t3", "#Foula\t3"), "wrong.tsv: the list lacks 'Foula'"),
+                (plain.replace("Foula\t3", "Foula\t4"), "refused 37: the level of 'Foula' is 4, not 0 to 3"),
+                (plain.replace("Foula\t3", "Foula\t256"), "refused 37: the level of 'Foula' is 256, not 0 to 3"),
+                (plain.replace("Foula\t3", "Foula\t-256"), "wrong.tsv: 'Foula\\t-256' is not a name, a TAB and a level"),
+                (plain.replace("Foula\t3", "Foula\t"), "wrong.tsv: 'Foula\\t' is not a name, a TAB and a level"),
+                (plain.replace("Foula\t3", "Foula 3"), "wrong.tsv: 'Foula 3' is not a name, a TAB and a level"),
+                (plain.replace("Foula\t3", "Foula\t1.0"), "wrong.tsv: 'Foula\\t1.0' is not a name, a TAB and a level"),
+                (plain.replace("Foula\t3", "Foula\t\u0663"), "wrong.tsv: 'Foula\\t\u0663' is not a name, a TAB and a level"),
+                ("", "wrong.tsv: the list lacks 'Azores', 'Bute', 'Coll', 'Foula', 'Lundy', 'Texel'"),
+                (b"F\xf6ula\t3\n", "wrong.tsv: not UTF-8 text")):
+            self.file("wrong.tsv", content)
+            for done in (self.view("both.nwk", levels="wrong.tsv"), self.topology("wings.nwk", *NAMES[:4], levels="wrong.tsv"),
+                         self.topology("wings.nwk", "Zeist", *NAMES[:3], levels="wrong.tsv", viewer=3)):
+                self.assert_message(done, 2, words)
+
+    def test_trees_that_are_refused(self) -> None:
+        """They are the desk's, too; of two trees with different names no --common is spoken of, since there is none."""
+        for command, arguments, stdin, words in (
+                (self.view, ["-"], FEATHERS, "one tree in the file; two trees are needed"),
+                (self.view, ["feathers.nwk", "both.nwk"], "", "both.nwk: 2 trees in the file"),
+                (self.view, ["-"], "(a,b);(a,(b);", "standard input, line 1: "),
+                (self.view, ["-"], packed(P, Q), "standard input is a comparison file"),
+                (self.view, ["feathers.nwk", "-"], "(Azores,Bute,Zeist);", "different tips: only feathers.nwk has 'Coll', "),
+                (self.topology, ["both.nwk", *NAMES[:4]], "", "both.nwk: 2 trees in the file"),
+                (self.topology, ["-", *NAMES[:4]], "(a,b,a);", "repeated tip names: 'a'"),
+                (self.topology, ["-", *NAMES[:4]], "a;", "1 tip; a tree needs 2 to 256")):
+            done = command(*arguments, stdin=stdin)
+            self.assert_message(done, 2, words)
+            self.assertNotIn(b"--common", done.stderr)
+
+    def test_wrong_usage(self) -> None:
+        options = ["--levels", "levels.tsv", "--viewer", "1"]
+        for command, arguments, words in (
+                ("view", [*options], "0 files; one or two are needed"),
+                ("view", ["a", "b", "c", *options], "3 files; one or two are needed"),
+                ("view", ["both.nwk", "--viewer", "1"], "required: --levels"),
+                ("view", ["both.nwk", "--levels", "a"], "required: --viewer"),
+                ("view", ["both.nwk", "--levels=a", *options], "2 files of levels; one is needed"),
+                *(("view", ["both.nwk", "--levels=a", f"--viewer={k}"], f"--viewer: '{k}' is not a level from 0 to 3")
+                  for k in ("4", "-1", "256", "65536", "1.0", "x", "", "01", "\u0663")),
+                ("view", ["-", "--levels", "-", "--viewer", "0"], "standard input can be read only once"),
+                ("view", ["", *options], "an empty file name"),
+                ("view", ["both.nwk", "--levels=", "--viewer=0"], "an empty file name"),
+                ("view", ["both.nwk", "--common", *options], "unrecognized arguments: --common"),
+                ("view", ["both.nwk", "--format", "phylip", *options], "invalid choice: 'phylip'"),
+                ("view-topology", ["wings.nwk", "a", "b", "c", *options], "4 words; a file and four names are needed"),
+                ("view-topology", ["wings.nwk", *"abcde", *options], "6 words; a file and four names are needed"),
+                ("view-topology", ["wings.nwk", *"abcd"], "required: --levels, --viewer")):
+            self.assert_message(self.here(command, *arguments), 2, words, f"leskwyn {command} --help tells the usage")
+        self.assert_message(self.view("absent", "wings.nwk"), 2, "cannot read absent: No such file")
+        self.assert_message(self.view("both.nwk", levels="absent"), 2, "cannot read absent: No such file")
+        self.assert_message(self.topology("absent", *NAMES[:4]), 2, "cannot read absent: No such file")
+
+    def test_the_page(self) -> None:
+        """The examples of docs/COMMANDS.md tell what a look at every set of four tells, and the keys are those of json."""
+        levels = dict(line.split("\t") for line in (ROOT / "examples" / "levels.tsv").read_text().splitlines())
+        page = (ROOT / "docs" / "COMMANDS.md").read_text(encoding="utf-8")
+        shown, asked = (page.split(f"## {command}\n")[1].split("\n## ")[0] for command in ("view", "view-topology"))
+        self.assertIn("".join(f"{name}\t{level}\n" for name, level in levels.items()), shown)
+        _, text, tsv, told = re.findall(r"(?ms)^```\n(.*?)^```$", shown)
+        expected = view(self.FEATHERS, self.WINGS, {name: int(level) for name, level in levels.items()}, 2)
+        self.assertEqual((squeezed(text), json.loads(told)), (self.words(expected), expected))
+        self.assertEqual(dict(zip(*(line.split("\t") for line in tsv.splitlines()))),
+                         {key: str(value) for key, value in expected.items() if key != "names"})
+        self.assertEqual(re.findall(r"`(\w+)`", " ".join(re.findall(r"(?m)^\| (`.*?) \|", shown))), list(expected))
+        text, hidden, unknown, told = re.findall(r"(?ms)^```\n(.*?)^```$", asked)
+        expected = topology(self.FEATHERS, ["Azores", "Bute", "Coll", "Lundy"])
+        self.assertEqual(text, "parts them two and two:\n  Azores + Lundy\n  Bute + Coll\n")
+        self.assertEqual(json.loads(told), expected)
+        self.assertEqual((hidden, unknown), (self.NOT_SEEN.decode(), self.NOT_SEEN.decode()))
+        self.assertEqual(re.findall(r"(?m)^\| `(\w+)` \|", asked), list(expected))
+
+
 class Many(TreesTest):
     TREES = [FEATHERS, WINGS, "(Azores,Bute,Coll,Foula,Lundy,Texel);\n", FEATHERS]
 
@@ -1456,7 +1731,7 @@ class Usage(TreesTest):
         self.assert_message(self.here("compare", "both.nwk", "--weight", "1/2", "--listing"), 2, "--listing and --weight exclude")
         self.assert_message(self.here("matrix", "both.nwk", "--weight", "1/2"), 2, "only 'weighted' takes a weight")
         self.assert_message(self.here("matrix", "both.nwk", "--measure", "weighted"), 2, "the weighted distance needs a weight")
-        commands = "compare, matrix, against, why, influence, copy, same, exchange, table, show"
+        commands = "compare, matrix, against, why, influence, copy, same, exchange, view, view-topology, table, show"
         self.assert_message(self.here("comprae"), 2, f"no command 'comprae'; the commands are {commands} (")
 
     def test_wrong_weights(self) -> None:
@@ -1500,7 +1775,8 @@ class Usage(TreesTest):
     def test_help_and_version(self) -> None:
         version = f"leskwyn (Leskwyn) {leskwyn.__version__}\n".encode()
         self.assertEqual(run_leskwyn("--version").stdout, version)
-        for command in ("compare", "matrix", "against", "why", "influence", "copy", "same", "exchange", "table", "show"):
+        for command in ("compare", "matrix", "against", "why", "influence", "copy", "same", "exchange", "view", "view-topology",
+                        "table", "show"):
             for arguments, word in ((["--version"], version), (["--help"], b"usage: leskwyn " + command.encode())):
                 done = run_leskwyn(command, *arguments)
                 self.assertEqual((done.returncode, done.stderr), (0, b""))
@@ -1512,10 +1788,12 @@ class Usage(TreesTest):
 class Surroundings(TreesTest):
     """Output that cannot be written, input that is closed, no library, an old Python: a sentence and status 2."""
 
+    SEEN = ["--levels", str(ROOT / "examples" / "levels.tsv"), "--viewer", "3"]
     WRITERS = [["compare", "both.nwk"], ["compare", "--listing", "both.nwk"], ["compare", "--listing", "--tables", "both.nwk"],
                ["matrix", "both.nwk"], ["against", "feathers.nwk", "wings.nwk"],
                ["why", "both.nwk", "Azores", "Bute", "Coll", "Foula"], ["influence", "both.nwk"], ["copy", "wings.nwk"],
-               ["same", "both.nwk"], ["same", "wings.nwk", "wings.nwk"], ["exchange", "wings.nwk"], ["--help"],
+               ["same", "both.nwk"], ["same", "wings.nwk", "wings.nwk"], ["exchange", "wings.nwk"],
+               ["view", "both.nwk", *SEEN], ["view-topology", "wings.nwk", "Azores", "Bute", "Coll", "Foula", *SEEN], ["--help"],
                ["compare", "--help"], ["--version"], ["show", "--version"], ["table", "both.nwk"]]
 
     def assert_one_sentence(self, done: Done, status: int, *words: bytes) -> None:
@@ -1705,7 +1983,7 @@ class Pages(unittest.TestCase):
         modules = [("docs/COMMANDS.md", blocks), ("leskwyn", leskwyn.__doc__),
                    *((name, getattr(leskwyn, name).__doc__)
                      for name in ("compare", "matrix", "why", "influence", "canonical_copy", "same", "exchange_tallies",
-                                  "exchange_distance"))]
+                                  "exchange_distance", "view", "view_topology"))]
         runner = doctest.DocTestRunner(verbose=False)
         with inside(ROOT), contextlib.redirect_stdout(io.StringIO()) as said:
             for name, content in modules:

@@ -446,7 +446,8 @@ class LeskwynBuilding(LeskwynDoor, Building):
     def test_help_and_version_build_nothing(self) -> None:
         self.with_nothing_to_build_with()
         super().test_help_and_version_build_nothing()
-        for command in ("compare", "against", "matrix", "why", "influence", "copy", "same", "exchange", "table", "show"):
+        for command in ("compare", "against", "matrix", "why", "influence", "copy", "same", "exchange", "view", "view-topology",
+                        "table", "show"):
             for words in (["-h"], ["--help"], ["a", "--help"]):
                 done = self.run_door(command, *words)
                 self.assertEqual((done.returncode, done.stderr), (0, b""))
@@ -471,6 +472,12 @@ class LeskwynBuilding(LeskwynDoor, Building):
                             (["same", "-", "a.nwk"], "cannot read a.nwk: No such file"),
                             (["exchange", "a", "--pairs", "0"], "not a number of pairs from 1 on"),
                             (["exchange", "a.nwk"], "cannot read a.nwk: No such file"),
+                            (["view", "a", "b"], "required: --levels, --viewer"),
+                            (["view", "-", "--levels", "a.tsv", "--viewer", "1"], "cannot read a.tsv: No such file"),
+                            (["view", "a", "--levels", "b", "--viewer", "4"], "'4' is not a level from 0 to 3"),
+                            (["view-topology", "a", "--levels", "b", "--viewer", "1"], "1 word; a file and four names are needed"),
+                            (["view-topology", "a.nwk", *"bcde", "--levels", "-", "--viewer", "1"],
+                             "cannot read a.nwk: No such file"),
                             (["table"], "0 tree files;"), (["show", "a", "--nmaes", "b"], "--nmaes"),
                             (["compare", "a.nwk", "-"], "cannot read a.nwk: No such file"),
                             (["matrix", "-", "the house"], "cannot read the house: Is a directory"),

@@ -8,8 +8,9 @@ Needs target/libleskwyn.so, or what LESKWYN_LIBRARY names, and the proved progra
 to a brute force over sets of four that looks at the edges of named trees, and to one over sets of three that climbs to their
 lowest common ancestors; where names are struck, over sets of four of trees that are cut down here; the evidence for four tips to a
 search over all edges and all nodes; the influence of each tip to a look at every set of four that holds it; canonical copies to
-nested sets of names; exchanges to every set of four with two names exchanged, and to comparisons of the two trees; Robinson-Foulds
-distances to DendroPy and to ETE where they are installed.
+nested sets of names; exchanges to every set of four with two names exchanged, and to comparisons of the two trees; views to every
+set of four visible names, and to each other where only hidden tips differ; Robinson-Foulds distances to DendroPy and to ETE where
+they are installed.
 """
 import ctypes
 import dataclasses
@@ -50,6 +51,7 @@ from cases.shapes import (balanced, caterpillar, chained, random_pair, random_ta
 from cases.tables import (LABEL_TROUBLE, NUMBERS, OUTSIDE, PASS_THROUGH, P, Q, R, REFERENCE, THREE, TWO, W, X, Table, damaged,
                           table, tree_refusal)
 from cases.triplets import triplet_table
+from cases.views import topology, view, visible, with_tips
 
 import leskwyn
 from leskwyn import _library, api, copies, counting, exchanges as exchanging, sources, trees, weights
@@ -2083,6 +2085,183 @@ class Exchanges(unittest.TestCase):
                 leskwyn.exchange_tallies(pathlib.Path("absent.nwk"), pairs=pairs)
 
 
+def levelled(*levels: int) -> _library.Levels:
+    return _library.Levels((ctypes.c_uint8 * max(1, len(levels)))(*levels), len(levels))
+
+
+class LibraryViews(unittest.TestCase):
+    """What the library tells a viewer, by a look at every set of four visible labels; the cells, and the order of refusals."""
+
+    FIELDS = ["visible", *CASE_KEYS, "distance", *SPLIT_KEYS]
+
+    def asked(self, t: Table, u: Table, levels: _library.Levels, viewer: int, cells: int) -> tuple[list[int], list[int]]:
+        """All fields of an answer, and the cells, which hold `pattern` before."""
+        lent = (ctypes.c_uint8 * cells)(*pattern(cells))
+        answer = _library.view(_library.words(t), _library.words(u), levels, viewer, lent)
+        return [getattr(answer, field) for field, _ in answer._fields_], list(lent)
+
+    def topology(self, t: Table, levels: _library.Levels, viewer: int, four: typing.Sequence[int]) -> tuple[int, ...]:
+        answer = _library.view_topology(_library.words(t), levels, viewer, four)
+        return tuple(getattr(answer, field) for field, _ in answer._fields_)
+
+    def test_random_trees(self) -> None:
+        """All figures; the cells hold the visible labels beyond both edges, and later cells stay."""
+        rng, seen = random.Random(84), set()
+        for case in range(80):
+            t, u = rng.choice([related_pair, unrelated_pair])(rng, 2 + case % 8)
+            t = randomly_chained(rng, t) if case % 3 == 0 else t
+            levels, viewer = [rng.choice([0, 0, 1, 2, 3]) for _ in range(t[0])], case % 4
+            expected = view(sides_of_table(t), sides_of_table(u), dict(enumerate(levels)), viewer)
+            marks, size = [int(level <= viewer) for level in levels], needed(t, u)
+            answer, cells = self.asked(t, u, levelled(*levels), viewer, size + 2)
+            self.assertEqual(answer, [0, *(expected[key] for key in self.FIELDS)], (t, u, levels, viewer))
+            self.assertEqual(cells, [*kept_crossings(t, u, marks), *pattern(size + 2)[size:]])
+            seen.add((viewer, min(sum(marks), 4), 0 in marks))
+        self.assertGreaterEqual(seen, {(viewer, 4, True) for viewer in range(3)} | {(3, 4, False)})
+
+    def test_topologies(self) -> None:
+        """Of every four labels in any order: the partner of the smallest, or 10 if one is hidden."""
+        rng, seen = random.Random(85), set()
+        for case in range(40):
+            t = random_table(rng, 4 + case % 5)
+            levels, viewer = [rng.choice([0, 0, 1, 2, 3]) for _ in range(t[0])], case % 4
+            for four in itertools.combinations(range(t[0]), 4):
+                pairs = parting(sides_of_table(t), frozenset(four))
+                partner = next((max(pair) for pair in pairs or () if four[0] in pair), 0)
+                hidden = any(levels[label] > viewer for label in four)
+                expected = (10, 0, 0) if hidden else (0, int(pairs is not None), partner)
+                told = self.topology(t, levelled(*levels), viewer, rng.sample(four, 4))
+                self.assertEqual(told, expected, (t, levels, viewer, four))
+                seen.add(expected[:2])
+        self.assertEqual(seen, {(10, 0), (0, 0), (0, 1)})
+
+    def test_refusals(self) -> None:
+        """Those of the pair, then 37, then 9: a refused call answers zeros, and every cell stays."""
+        numbers = set()
+        good = [(levelled(0, 1, 2, 3, 0), 0), (levelled(3, 3, 3, 3, 3), 3), (levelled(0, 0, 0, 0, 0), 0)]
+        wrong = [(levelled(), 1), (levelled(0, 0, 0, 0), 1), (levelled(0, 0, 0, 0, 0, 0), 1), (levelled(0, 0, 0, 0, 4), 1),
+                 (levelled(255, 0, 0, 0, 0), 3), (levelled(0, 0, 0, 0, 0), 4), (levelled(0, 0, 0, 0, 0), 256),
+                 (levelled(0, 0, 0, 0, 0), 65536), (levelled(0, 0, 0, 0, 0), -1)]
+        pairs = [(P, Q, 0), (P, THREE, 8), (P[:-1], Q, 4), (P, Q[:-1], 104), ([], P, 1), (P, [], 101)]
+        for (t, u, number), (levels, viewer), cells in itertools.product(pairs, good + wrong, (1, 41, 42, 43)):
+            expected = number or (37 if (levels, viewer) in wrong else 9 if cells < 42 else 0)
+            answer, left = self.asked(t, u, levels, viewer, cells)
+            self.assertEqual(answer[0], expected, (t, u, levels.count, viewer, cells))
+            if expected:
+                self.assertEqual((set(answer[1:]), left), ({0}, pattern(cells)))
+            numbers.add(expected)
+        self.assertEqual(numbers, {0, 1, 4, 8, 9, 37, 101, 104})
+        for (levels, viewer), (t, number) in itertools.product(wrong, ((P, 37), (P[:-1], 4), ([], 1))):
+            for four in ((0, 1, 2, 3), (5, 1, 2, 3), (1, 1, 2, 3)):
+                self.assertEqual(self.topology(t, levels, viewer, four), (number, 0, 0))
+
+    def test_hidden_labels_come_first(self) -> None:
+        """A hidden label, or one that is n or more, is told before equal ones; of visible labels, equal ones are 11."""
+        for four, number in (((0, 1, 2, 4), 10), ((4, 4, 4, 4), 10), ((0, 0, 1, 4), 10), ((0, 0, 1, 5), 10), ((0, 0, 1, 2), 11),
+                             ((0, 1, 2, X), 10), ((0, 1, 2, 65536), 10), ((0, 1, 2, -1), 10), ((0, 1, 2, 3), 0)):
+            self.assertEqual(self.topology(P, levelled(0, 1, 2, 2, 3), 2, four)[0], number, four)
+
+    def test_levels_that_do_not_fit(self) -> None:
+        """None is taken for what is left of it in a byte."""
+        for level in (256, 257, -1, -256, 1 << 32):
+            levels = _library.levels([0, level, 0])
+            self.assertEqual((levels.cells[:levels.count], levels.count), ([0, 255, 0], 3))
+        self.assertEqual((len(_library.levels([]).cells), _library.levels([]).count), (1, 0))
+
+
+class Views(unittest.TestCase):
+    """What a viewer may see of named trees."""
+
+    LEVELS = {"Azores": 0, "Bute": 0, "Coll": 1, "Foula": 3, "Lundy": 0, "Texel": 2}
+
+    def test_random_trees(self) -> None:
+        """With names of all kinds, in texts of all forms."""
+        rng = random.Random(86)
+        for case in range(40):
+            names = random_names(rng, 3 + case % 6)
+            trees = [random_tree(rng, names, rng.choice([0, 0.3, 0.8])) for _ in range(2)]
+            levels, viewer = {name: rng.choice([0, 0, 1, 2, 3]) for name in names}, rng.randrange(4)
+            with self.subTest(case=case):
+                texts = [written_tree(rng, tree) for tree in trees]
+                found = leskwyn.view(*texts, levels, viewer)
+                self.assertEqual(found.as_dict(), view(*map(sides_of, trees), levels, viewer))
+                self.assertEqual(leskwyn.view("".join(texts), None, levels, viewer), found)
+                for four in itertools.combinations(visible(levels, viewer), 4):
+                    told = leskwyn.view_topology(texts[1], levels, viewer, rng.sample(four, 4))
+                    self.assertEqual(told.as_dict(), topology(sides_of(trees[1]), four))
+
+    def test_what_is_hidden_changes_nothing(self) -> None:
+        """Hidden tips of another number, name and place, other levels and another viewer's: the same View and the same Topology."""
+        rng = random.Random(87)
+        for case in range(30):
+            shown = [f"t{at}" for at in range(4 + case % 4)]
+            trees, told = [random_tree(rng, shown, 0.3) for _ in range(2)], []
+            for sign in "xy":
+                hidden, viewer = [f"{sign}{at}" for at in range(rng.randint(1, 9))], rng.randrange(3)
+                levels = {name: rng.randint(0, viewer) for name in shown} | {name: rng.randint(viewer + 1, 3) for name in hidden}
+                texts = [written_tree(rng, with_tips(rng, tree, hidden)) for tree in trees]
+                told.append((leskwyn.view(*texts, levels, viewer),
+                             [leskwyn.view_topology(texts[0], levels, viewer, four) for four in itertools.combinations(shown, 4)]))
+            self.assertEqual(told[0], told[1], case)
+
+    def test_few_visible(self) -> None:
+        """None, one and three: no set of four and no split."""
+        for seen in ([], ["Coll"], ["Azores", "Coll", "Texel"]):
+            found = leskwyn.view(FEATHERS, WINGS, {name: 0 if name in seen else 1 for name in self.LEVELS}, 0)
+            self.assertEqual((found.visible, found.names, found.sets_of_four, found.first_splits), (len(seen), tuple(seen), 0, 0))
+            self.assertEqual((found.normalised_distance, found.normalised_robinson_foulds), (0.0, 0.0))
+
+    def test_hidden_and_unknown_names(self) -> None:
+        """One sentence for both, which repeats neither."""
+        told = set()
+        for names in (["Foula", "Azores", "Bute", "Coll"], ["Zeist", "Azores", "Bute", "Coll"], ["Foula"] * 4,
+                      ["Bute", "Bute", "Foula", ""]):
+            with self.assertRaises(leskwyn.Refusal) as raised:
+                leskwyn.view_topology(FEATHERS, self.LEVELS, 2, names)
+            told.add((raised.exception.number, raised.exception.reason))
+        self.assertEqual(told, {(10, "not all of the four names are populations that this viewer sees")})
+
+    def test_refusals(self) -> None:
+        def other(**levels: int) -> dict[str, int]:
+            return self.LEVELS | levels
+        four = ["Azores", "Bute", "Coll", "Lundy"]
+        for levels, viewer, words in (
+                (other(Zeist=0), 2, "the list of levels has 'Zeist', not a tip of the trees"),
+                ({name: 0 for name in four}, 2, "the list of levels lacks 'Foula', 'Texel'"),
+                (other(**{"'Foula'": 0}), 2, "the list of levels repeats 'Foula'"),
+                *((other(Foula=level), 2, f"refused 37: the level of 'Foula' is {level}, not 0 to 3")
+                  for level in (4, 256, -1, -256)),
+                *((self.LEVELS, level, f"refused 37: the viewer's level is {level}, not 0 to 3") for level in (4, 65536, -1))):
+            for call in (lambda: leskwyn.view(FEATHERS, WINGS, levels, viewer),
+                         lambda: leskwyn.view_topology(WINGS, levels, viewer, four)):
+                with self.assertRaises(leskwyn.Refusal) as raised:
+                    call()
+                self.assertEqual(str(raised.exception), words)
+        with self.assertRaisesRegex(leskwyn.Refusal, "^the trees have different tips: only the second tree has 'c'$"):
+            leskwyn.view("(a,b);", "(a,b,c);", {"a": 0, "b": 0, "c": 0}, 0)
+        with self.assertRaisesRegex(leskwyn.Refusal, "is a comparison file, without names: "):
+            leskwyn.view(ROOT / "examples" / "p-q.bin", None, self.LEVELS, 0)
+        with self.assertRaisesRegex(leskwyn.Refusal, "^refused 11: 'Bute' stands more than once; four different names are needed$"):
+            leskwyn.view_topology(WINGS, self.LEVELS, 0, ["Bute", "Azores", "'Bute'", "Lundy"])
+
+    def test_wrong_arguments(self) -> None:
+        """Told before a file is read."""
+        absent = pathlib.Path("absent.nwk")
+        for levels, viewer, words in (([("a", 0)], 0, "levels is a list; a dict of names and their levels is needed"),
+                                      ({"a": "0"}, 0, "a level is a str; an int is needed"),
+                                      ({"a": 0.0}, 0, "a level is a float; an int is needed"),
+                                      ({"a": 0}, None, "a level is a NoneType; an int is needed")):
+            for call in (lambda: leskwyn.view(absent, WINGS, levels, viewer),
+                         lambda: leskwyn.view_topology(absent, levels, viewer, list("abcd"))):
+                with self.assertRaisesRegex(TypeError, f"^{words}"):
+                    call()
+        for names in (["a", "b", "c"], list("abcde")):
+            with self.assertRaisesRegex(ValueError, f"^there are {len(names)} names; four are needed$"):
+                leskwyn.view_topology(absent, {"a": 0}, 0, names)
+        with self.assertRaisesRegex(leskwyn.Trouble, "cannot read absent.nwk"):
+            leskwyn.view(absent, WINGS, self.LEVELS, 0)
+
+
 class Weights(unittest.TestCase):
     """The spellings of a weight, and the sentence that turns another one away."""
 
@@ -2162,6 +2341,12 @@ class Answers(unittest.TestCase):
                 setattr(part, field, None)
         self.assertEqual(json.loads(json.dumps(moved.as_dict())), moved.as_dict())
         self.assertEqual(len({moved, leskwyn.exchange_tallies(FEATHERS, pairs=2)}), 1)
+        for call in (lambda: leskwyn.view(FEATHERS, WINGS, Views.LEVELS, 2),
+                     lambda: leskwyn.view_topology(FEATHERS, Views.LEVELS, 2, ["Azores", "Bute", "Coll", "Lundy"])):
+            seen = call()
+            with self.assertRaises(dataclasses.FrozenInstanceError):
+                seen.names = ()
+            self.assertEqual((json.loads(json.dumps(seen.as_dict())), len({seen, call()})), (seen.as_dict(), 1))
 
     def test_errors(self) -> None:
         with tempfile.NamedTemporaryFile() as file:
@@ -2195,7 +2380,7 @@ class Answers(unittest.TestCase):
         for name in leskwyn.__all__:
             self.assertTrue(getattr(leskwyn, name).__doc__, name)
         for answer in (leskwyn.Comparison, leskwyn.Evidence, leskwyn.Witness, leskwyn.Influence, leskwyn.Holding, leskwyn.Dropped,
-                       leskwyn.CanonicalCopy, leskwyn.Exchange, leskwyn.ExchangeTallies):
+                       leskwyn.CanonicalCopy, leskwyn.Exchange, leskwyn.ExchangeTallies, leskwyn.View, leskwyn.Topology):
             for field in dataclasses.fields(answer):
                 self.assertRegex(answer.__doc__, rf"(?m)^ *(\w+, )*{field.name}\b")
 

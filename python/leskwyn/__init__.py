@@ -15,6 +15,10 @@ same(a, b)           whether two trees are the same
 exchange_tallies(a)  how far a tree moves if two populations are mixed up, an ExchangeTallies
 exchange_distance(a, x, y)
                      how far it moves if these two are
+view(a, b, levels, viewer)
+                     what a viewer may see of two trees of which some populations are confidential, a View
+view_topology(a, levels, viewer, names)
+                     how a tree parts four populations that a viewer may see, a Topology
 
 A tree is Newick text, the path of a file, or a tree object of DendroPy or ETE. What is turned away is a Refusal, and what
 cannot be read a Trouble; both are a LeskwynError, with the fields number and reason. docs/COMMANDS.md has the commands
@@ -27,15 +31,16 @@ __version__ = "0.12.0"
 # This file and __main__.py are written so that old Pythons can read them, and say a sentence.
 if sys.version_info >= (3, 10):
     from leskwyn.api import (against, canonical_copy, compare, exchange_distance, exchange_tallies, influence, matrix, same,
-                             why)
+                             view, view_topology, why)
     from leskwyn.copies import CanonicalCopy
     from leskwyn.errors import LeskwynError, Refusal, Trouble
     from leskwyn.evidence import Evidence, Witness
     from leskwyn.exchanges import Exchange, ExchangeTallies
     from leskwyn.figures import Comparison
     from leskwyn.holding import Dropped, Holding, Influence
+    from leskwyn.views import Topology, View
     __all__ = ["CanonicalCopy", "Comparison", "Dropped", "Evidence", "Exchange", "ExchangeTallies", "Holding", "Influence",
-               "LeskwynError", "Refusal", "Trouble", "Witness", "against", "canonical_copy", "compare", "exchange_distance",
-               "exchange_tallies", "influence", "matrix", "same", "why"]
+               "LeskwynError", "Refusal", "Topology", "Trouble", "View", "Witness", "against", "canonical_copy", "compare",
+               "exchange_distance", "exchange_tallies", "influence", "matrix", "same", "view", "view_topology", "why"]
 elif sys.argv[:1] not in (["-m"], ["-c"]):
     raise ImportError("leskwyn needs Python 3.10 or newer; this is Python %d.%d" % sys.version_info[:2])

@@ -16,7 +16,7 @@ TOP = os.path.dirname(os.path.dirname(os.path.dirname(os.path.abspath(__file__))
 WORK_CELLS = 1046529
 # Enough for every canonical copy: 2 + 2m words, where m is 2n - 2 at most and n 256.
 COPY_WORDS = 1022
-MOST_WORD = 65535
+MOST_WORD, MOST_BYTE = 65535, 255
 # How many tallies the exchanges of a tree have.
 TALLIES = 11
 # The work, a byte for each cell.
@@ -64,6 +64,16 @@ class ExchangeDistance(ctypes.Structure):
     _fields_ = [("refusal", ctypes.c_uint16), ("distance", ctypes.c_uint64)]
 
 
+class ViewAnswer(ctypes.Structure):
+    _fields_ = [("refusal", ctypes.c_uint16),
+                *((name, ctypes.c_uint64) for name in ("visible", "a", "b", "c", "d", "e", "distance", "first_splits",
+                                                       "second_splits", "common_splits", "robinson_foulds"))]
+
+
+class TopologyAnswer(ctypes.Structure):
+    _fields_ = [(name, ctypes.c_uint16) for name in ("refusal", "butterfly", "partner")]
+
+
 # A slice is a pointer and a length.
 SLICE_OF_WORDS: list[typing.Any] = [ctypes.POINTER(ctypes.c_uint16), ctypes.c_size_t]
 SLICE_OF_BYTES: list[typing.Any] = [ctypes.POINTER(ctypes.c_uint8), ctypes.c_size_t]
@@ -84,10 +94,12 @@ PAIR_CALLS = {"leskwyn_claim_sums": PairCall(ClaimSums), "leskwyn_quartet_table"
               "leskwyn_evidence": PairCall(Evidence, is_marked=False, has_work=False, besides=[ctypes.c_uint16] * 4),
               "leskwyn_holding": PairCall(FiveCounts, has_work=False, besides=[ctypes.c_uint16]),
               "leskwyn_change_mark": PairCall(FiveCounts, has_work=False, besides=[ctypes.c_uint64] * 5 + [ctypes.c_uint16] * 2)}
-# The calls of one table: what each answers, and what it takes after the table.
-TREE_CALLS = {"leskwyn_canonical_copy": (CopyAnswer, SLICE_OF_BYTES + SLICE_OF_WORDS),
-              "leskwyn_exchange_tallies": (ExchangeTallies, SLICE_OF_BYTES),
-              "leskwyn_exchange_distance": (ExchangeDistance, [ctypes.c_uint16] * 2)}
+# The other calls: what each answers, and what it takes after its first table.
+OTHER_CALLS = {"leskwyn_canonical_copy": (CopyAnswer, SLICE_OF_BYTES + SLICE_OF_WORDS),
+               "leskwyn_exchange_tallies": (ExchangeTallies, SLICE_OF_BYTES),
+               "leskwyn_exchange_distance": (ExchangeDistance, [ctypes.c_uint16] * 2),
+               "leskwyn_view": (ViewAnswer, SLICE_OF_WORDS + SLICE_OF_BYTES + [ctypes.c_uint16] + SLICE_OF_BYTES),
+               "leskwyn_view_topology": (TopologyAnswer, SLICE_OF_BYTES + [ctypes.c_uint16] * 5)}
 
 
 class Words(typing.NamedTuple):
@@ -114,6 +126,21 @@ def marks(tips: int, struck: Collection[int] = ()) -> Marks:
     refuses it."""
     count, held = max([tips, *(label + 1 for label in struck)]), set(struck)
     return Marks((ctypes.c_uint8 * max(1, count))(*(label not in held for label in range(count))), count)
+
+
+class Levels(typing.NamedTuple):
+    """A level for each label, where the library can read them; there is a cell even where there is no level."""
+    cells: ctypes.Array[ctypes.c_uint8]
+    count: int
+
+
+def fitting(number: int, most: int) -> int:
+    """The number if it is from 0 to the largest that fits, else the largest: none is taken for what is left of it."""
+    return number if 0 <= number <= most else most
+
+
+def levels(given: Sequence[int]) -> Levels:
+    return Levels((ctypes.c_uint8 * max(1, len(given)))(*(fitting(level, MOST_BYTE) for level in given)), len(given))
 
 
 def work_cells(first: Words, second: Words) -> int:
@@ -149,9 +176,9 @@ def library() -> ctypes.CDLL:
             call = getattr(found, name)
             call.argtypes = SLICE_OF_WORDS * 2 + SLICE_OF_BYTES * (is_marked + has_work) + besides
             call.restype = answer
-        for name, (tree_answer, after) in TREE_CALLS.items():
+        for name, (other_answer, after) in OTHER_CALLS.items():
             call = getattr(found, name)
-            call.argtypes, call.restype = SLICE_OF_WORDS + after, tree_answer
+            call.argtypes, call.restype = SLICE_OF_WORDS + after, other_answer
         found.leskwyn_version.argtypes, found.leskwyn_version.restype = [], ctypes.c_uint32
     except (OSError, AttributeError) as error:
         raise Trouble(f"cannot load the library {path}: {error}") from None
@@ -227,4 +254,19 @@ def exchange_distance(table: Words, x: int, y: int) -> ExchangeDistance:
     """The distance by which the exchange of two labels moves a tree, or a refusal. It takes no work. A label that does not fit in
     a word is n or more as the largest word is."""
     answer: ExchangeDistance = library().leskwyn_exchange_distance(*table, min(x, MOST_WORD), min(y, MOST_WORD))
+    return answer
+
+
+def view(first: Words, second: Words, given: Levels, viewer: int, lent: Cells) -> ViewAnswer:
+    """How many labels are visible to a viewer of that level, and the five counts, the distance and the split counts of these, or a
+    refusal."""
+    answer: ViewAnswer = library().leskwyn_view(*first, *second, *given, fitting(viewer, MOST_WORD), lent, len(lent))
+    return answer
+
+
+def view_topology(table: Words, given: Levels, viewer: int, labels: Sequence[int]) -> TopologyAnswer:
+    """The topology of four labels that are visible to a viewer of that level, or a refusal. A label that does not fit in a word is
+    n or more as the largest word is."""
+    asked = [fitting(label, MOST_WORD) for label in labels]
+    answer: TopologyAnswer = library().leskwyn_view_topology(*table, *given, fitting(viewer, MOST_WORD), *asked)
     return answer

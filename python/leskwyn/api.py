@@ -1,9 +1,9 @@
-"""What Python callers use: compare, against, matrix, why, influence, canonical_copy, same, exchange_tallies and
-exchange_distance."""
+"""What Python callers use: compare, against, matrix, why, influence, canonical_copy, same, exchange_tallies, exchange_distance,
+view and view_topology."""
 import contextlib
-from collections.abc import Iterable, Iterator, Sequence
+from collections.abc import Iterable, Iterator, Mapping, Sequence
 
-from leskwyn import _library, copies, counting, evidence, exchanges, files, holding
+from leskwyn import _library, copies, counting, evidence, exchanges, files, holding, views
 from leskwyn._library import Words
 from leskwyn.copies import CanonicalCopy, Sameness
 from leskwyn.counting import Number
@@ -12,10 +12,11 @@ from leskwyn.evidence import Evidence
 from leskwyn.exchanges import ExchangeTallies
 from leskwyn.figures import Comparison
 from leskwyn.holding import Influence
-from leskwyn.labels import labels_given, labels_of_tips, labels_struck, outgroup_first, tips_struck
+from leskwyn.labels import labels_given, labels_of_tips, labels_struck, levels_of_tips, outgroup_first, tips_struck
 from leskwyn.sources import ComparisonFile, Given, is_comparison_file, named_file, trees_given, trees_of_bytes
 from leskwyn.tables import tables_of_file
 from leskwyn.trees import Placed, check_same_names, checked, labels_of_names, pruned, table_of
+from leskwyn.views import Topology, View
 from leskwyn.weights import GivenWeight, Weight, weight_of
 
 
@@ -210,6 +211,45 @@ def exchange_distance(tree: Given, x: str, y: str) -> int:
     return exchanges.distance(table, *labels_of_tips([x, y], names, "the tree", "two"))
 
 
+def view(a: Given, b: Given, levels: Mapping[str, int], viewer: int) -> View:
+    """What a viewer may see of two trees of which some populations are confidential, as a View: the figures of the visible tips, as
+    if the hidden ones were cut off both trees.
+
+    The trees are given as to compare, but are no comparison file; with None for `b`, `a` holds both. `levels` has the level of each
+    name, 0 to 3, and `viewer` is the level of the viewer. Tips above it are hidden, the others visible.
+
+    Two pairs of trees with the same visible names, of which the first trees part every four alike and the second ones too, give the
+    same View, whatever is hidden. What is raised is for the desk that has the files: it may name any tip.
+
+    Raises Refusal and Trouble as compare does, and Refusal for a name without a level, for a level of no tip, and for a level that
+    is not 0 to 3.
+
+        >>> levels = {"a": 0, "b": 0, "c": 1, "d": 0, "e": 2}
+        >>> found = leskwyn.view("((a,b),(c,(d,e)));", "((a,b),(d,(c,e)));", levels, 1)
+        >>> found.visible, found.names, found.same, found.distance
+        (4, ('a', 'b', 'c', 'd'), 1, 0)
+    """
+    listed = levels_given(levels, viewer)
+    if b is None:
+        return view_trees(*trees_given(a, "the text", 2), listed, viewer)
+    return view_trees(*trees_given(a, "the first tree", 1), *trees_given(b, "the second tree", 1), listed, viewer)
+
+
+def view_topology(tree: Given, levels: Mapping[str, int], viewer: int, names: Iterable[str]) -> Topology:
+    """How a tree parts four populations that a viewer may see, as a Topology: two and two, or not at all.
+
+    The tree, `levels` and `viewer` are given as to view. `names` are four visible tips in any order.
+
+    Raises what view does, ValueError if there are not four names, and Refusal, with the number 10, for a name that is hidden or no
+    tip: the reason is the same for both and repeats no name. A name that stands twice has the number 11.
+
+        >>> leskwyn.view_topology("((a,b),(c,(d,e)));", {"a": 0, "b": 0, "c": 0, "d": 1, "e": 3}, 1, ["d", "a", "c", "b"]).pairs
+        (('a', 'b'), ('c', 'd'))
+    """
+    listed, four = levels_given(levels, viewer), four_words(names)
+    return view_tree(*trees_given(tree, "the tree", 1), listed, viewer, four)
+
+
 # ---- what these share with the commands
 
 def pair_given(a: Given, b: Given, outgroup: str | None) -> list[Placed] | ComparisonFile:
@@ -357,6 +397,33 @@ def table_and_names(placed: Placed) -> tuple[Words, list[str]]:
 
 def exchange_tree(placed: Placed, pairs: int | None = None) -> ExchangeTallies:
     return exchanges.of_table(placed.place, *table_and_names(placed), pairs)
+
+
+Listed = Sequence[tuple[str, int]]
+LEVELS = "the list of levels"
+
+
+def levels_given(levels: Mapping[str, int], viewer: int) -> Listed:
+    """The levels with their names. The library judges whether there are such levels."""
+    if not isinstance(levels, Mapping):
+        raise TypeError(f"levels is a {type(levels).__name__}; a dict of names and their levels is needed")
+    for level in (*levels.values(), viewer):
+        if not isinstance(level, int):
+            raise TypeError(f"a level is a {type(level).__name__}; an int is needed")
+    return list(levels.items())
+
+
+def view_trees(first: Placed, second: Placed, levels: Listed, viewer: int, place: str = LEVELS) -> View:
+    """`place` tells in a message where the levels stand."""
+    names = checked([first, second], hint="")
+    labels = labels_of_names(names)
+    tables = [_library.words(table_of(placed.tree, labels)) for placed in (first, second)]
+    return views.of_tables(tables[0], tables[1], names, levels_of_tips(levels, names, place), viewer)
+
+
+def view_tree(placed: Placed, levels: Listed, viewer: int, four: Sequence[str], place: str = LEVELS) -> Topology:
+    table, names = table_and_names(placed)
+    return views.topology(table, names, levels_of_tips(levels, names, place), viewer, four)
 
 
 def all_trees(trees: Iterable[Given]) -> list[Placed]:

@@ -1,29 +1,31 @@
-"""The commands compare, why, influence, copy, same, exchange, matrix and against, and the way from the command line to each
-command.
+"""The commands compare, why, influence, copy, same, exchange, view, view-topology, matrix and against, and the way from the command
+line to each command.
 
     leskwyn COMMAND [OPTION...] [FILE...]
 
 Exit status: 0 done; 1 the trees are refused; 2 wrong usage, a file that cannot be read or written, or no library. Of same: 0 the
-trees are the same; 1 they differ; 2 all else.
+trees are the same; 1 they differ; 2 all else. Of view and view-topology: 1 names that are asked about are refused; 2 all else.
 """
 import argparse
+import contextlib
 import os
 import sys
 import typing
-from collections.abc import Callable
+from collections.abc import Callable, Iterator
 
 from leskwyn import __version__, counting, files, text
 from leskwyn._library import TOP
 from leskwyn.api import (compare_file, compare_trees, copy_tree, exchange_tree, influence_file, influence_trees, optional_struck,
-                         same_file, same_trees, why_file, why_trees)
+                         same_file, same_trees, view_tree, view_trees, why_file, why_trees)
 from leskwyn.copies import Sameness
 from leskwyn.errors import LeskwynError, Refusal, Trouble, counted, quoted
 from leskwyn.figures import Comparison
-from leskwyn.labels import outgroup_first
-from leskwyn.sources import ComparisonFile, is_comparison_file, trees_of_bytes, trees_of_path
+from leskwyn.labels import levels_listed, outgroup_first
+from leskwyn.sources import ComparisonFile, is_comparison_file, trees_of_bytes, trees_of_path, two_trees
 from leskwyn.trees import MOST_TIPS, Placed, checked, labels_of_names, table_of
-from leskwyn.usage import (Parser, ProgressLine, Usage, add_common, add_jobs, add_outgroup, add_strike, add_weight, number_of,
-                           struck_names, with_common)
+from leskwyn.usage import (Parser, ProgressLine, Usage, add_common, add_jobs, add_levels, add_outgroup, add_strike, add_weight,
+                           number_of, struck_names, with_common)
+from leskwyn.views import NOT_DIFFERENT, NOT_SEEN
 
 HELP = """\
 usage: leskwyn COMMAND [OPTION...] [FILE...]
@@ -38,6 +40,10 @@ Counts population trees against each other, four populations at a time, by a lib
   leskwyn same A B                 two trees: whether they are the same
   leskwyn copy FILE                one tree, in the form that all trees with its splits have
   leskwyn exchange FILE            one tree: how far it moves if two populations are mixed up
+  leskwyn view A B --levels FILE --viewer K
+                                   two trees: what a viewer may see of them
+  leskwyn view-topology FILE NAME NAME NAME NAME --levels FILE --viewer K
+                                   four populations: how a tree parts them, if a viewer may see them
   leskwyn against REF FILE...      one tree against many, a row for each
   leskwyn matrix FILE...           all pairs of trees, a square of distances
   leskwyn table A B -o PAIR        two trees as one comparison file
@@ -48,6 +54,7 @@ Each command has its own --help. Trees are Newick text, with 2 to 256 tips; - st
 
 exit status: 0 done; 1 the trees are refused; 2 wrong usage, a file that cannot be read or written, or no library;
              of same: 0 the same; 1 different; 2 all else
+             of view and view-topology: 0 done; 1 names that are asked about are refused; 2 all else
 """
 EXAMPLES = ("examples/feathers.nwk", "examples/wings.nwk")
 INTERRUPTED = 130
@@ -334,6 +341,97 @@ def exchange_command(options: argparse.Namespace) -> int:
     return 0
 
 
+# ---- view and view-topology
+
+VIEW_STATUS = """
+What is printed tells of visible populations alone, and so does status 1. Status 2 is the desk's: its line may name any
+population or file, and nothing is printed.
+
+exit status: 0 done; 1 names that are asked about are refused; 2 refused files, wrong usage, a file that cannot be read or
+             written, or no library"""
+
+
+@contextlib.contextmanager
+def for_the_desk() -> Iterator[None]:
+    """What is wrong with the desk's files is trouble: the status of a refusal is for the names that a viewer asks about."""
+    try:
+        yield
+    except Refusal as refusal:
+        if refusal.number in (NOT_SEEN, NOT_DIFFERENT):
+            raise
+        raise Trouble(refusal.reason, refusal.number) from None
+
+
+def check_levels(parser: Parser, options: argparse.Namespace) -> None:
+    if len(options.levels) != 1:
+        parser.error(f"{counted(len(options.levels), 'file')} of levels; one is needed")
+    parser.check_files([*options.trees, *options.levels])
+
+
+def levels_read(options: argparse.Namespace) -> tuple[list[tuple[str, int]], int, str]:
+    """The levels with their names, the viewer's, and the words that tell in a message where they stand."""
+    path, = options.levels
+    return levels_listed(path), options.viewer, f"{files.shown_path(path)}: the list"
+
+
+def view_parser() -> Parser:
+    parser = Parser("view", usage="leskwyn view A [B] --levels FILE --viewer K [--format text|tsv|json]",
+                    description="Compares two trees for a viewer: populations above the viewer's level are hidden, and the figures "
+                                "are those of\nthe others.",
+                    epilog="docs/COMMANDS.md has the keys of tsv and json.\n" + VIEW_STATUS)
+    parser.add_argument("trees", nargs="*", metavar="FILE", help="Newick files; - is standard input")
+    add_levels(parser)
+    parser.add_argument("--format", choices=list(text.VIEW_FORMATS), default="text", help="for people, or for programs")
+    return parser
+
+
+def view_options(arguments: list[str]) -> argparse.Namespace:
+    parser = view_parser()
+    options = parser.parsed_words(arguments, "trees")
+    if len(options.trees) not in (1, 2):
+        parser.error(f"{counted(len(options.trees), 'file')}; one or two are needed")
+    check_levels(parser, options)
+    return options
+
+
+def view_command(options: argparse.Namespace) -> int:
+    with for_the_desk():
+        found = view_trees(*two_trees(options.trees), *levels_read(options))
+    files.print_text(text.VIEW_FORMATS[options.format](found))
+    return 0
+
+
+def view_topology_parser() -> Parser:
+    parser = Parser("view-topology", usage="leskwyn view-topology FILE NAME NAME NAME NAME --levels FILE --viewer K "
+                                           "[--format text|tsv|json]",
+                    description="Tells a viewer how a tree parts four populations: two and two, or not at all. Populations above "
+                                "the viewer's level\nare hidden, and get the answer of names that are no population.",
+                    epilog="docs/COMMANDS.md has the columns of tsv and the keys of json.\n" + VIEW_STATUS)
+    parser.add_argument("words", nargs="*", metavar="FILE, NAME", help="a Newick file of one tree, then four names; - is standard "
+                                                                       "input")
+    add_levels(parser)
+    parser.add_argument("--format", choices=list(text.TOPOLOGY_FORMATS), default="text", help="for people, or for programs")
+    return parser
+
+
+def view_topology_options(arguments: list[str]) -> argparse.Namespace:
+    parser = view_topology_parser()
+    options = parser.parsed_words(arguments, "words")
+    options.trees, options.names = options.words[:1], options.words[1:]
+    if len(options.words) != 5:
+        parser.error(f"{counted(len(options.words), 'word')}; a file and four names are needed")
+    check_levels(parser, options)
+    return options
+
+
+def view_topology_command(options: argparse.Namespace) -> int:
+    with for_the_desk():
+        levels, viewer, place = levels_read(options)
+        found = view_tree(*trees_of_path(options.trees[0], 1), levels, viewer, options.names, place)
+    files.print_text(text.TOPOLOGY_FORMATS[options.format](found))
+    return 0
+
+
 # ---- many trees
 
 def read_all(paths: list[str]) -> list[Placed]:
@@ -458,13 +556,14 @@ class Counting(typing.NamedTuple):
 COUNTING = {"compare": Counting(compare_options, compare_command), "matrix": Counting(matrix_options, matrix_command),
             "against": Counting(against_options, against_command), "why": Counting(why_options, why_command),
             "influence": Counting(influence_options, influence_command), "copy": Counting(copy_options, copy_command),
-            "same": Counting(same_options, same_command), "exchange": Counting(exchange_options, exchange_command)}
+            "same": Counting(same_options, same_command), "exchange": Counting(exchange_options, exchange_command),
+            "view": Counting(view_options, view_command), "view-topology": Counting(view_topology_options, view_topology_command)}
 OTHERS = {"table": table_command, "show": show_command}
 
 
 def counted_later(options: argparse.Namespace) -> int:
     """In the place of a command that has no library yet: a file that is not there is told."""
-    for path in [*options.trees, *getattr(options, "strike_file", [])]:
+    for path in [*options.trees, *getattr(options, "strike_file", []), *getattr(options, "levels", [])]:
         files.check_there(path)
     return LIBRARY_WANTED
 

@@ -5,7 +5,7 @@ import typing
 from collections.abc import Sequence
 
 from leskwyn import _library, counting
-from leskwyn._library import FiveCounts, Marks, QuartetTable, Words
+from leskwyn._library import FiveCounts, Marks, QuartetTable, ViewAnswer, Words
 from leskwyn.figures import normalised
 
 # LESKWYN_STRUCK of the header.
@@ -118,7 +118,7 @@ def under(keys: Sequence[str], counted: Counted) -> dict[str, typing.Any]:
 
 # ---- the library's answers
 
-def cases(answer: QuartetTable | FiveCounts) -> dict[str, int]:
+def cases(answer: QuartetTable | FiveCounts | ViewAnswer) -> dict[str, int]:
     """A to E under their names."""
     return dict(zip(CASES, (answer.a, answer.b, answer.c, answer.d, answer.e)))
 

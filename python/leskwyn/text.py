@@ -1,5 +1,5 @@
 """Figures as text: for people, as TSV, as JSON, and squares of distances; the evidence for four tips; the influence of each;
-whether two trees are the same; how far exchanges of two tips move a tree."""
+whether two trees are the same; how far exchanges of two tips move a tree; what a viewer may see."""
 from collections.abc import Iterable, Sequence
 
 from leskwyn.copies import Sameness
@@ -10,6 +10,7 @@ from leskwyn.exchanges import EXCHANGE_KEYS, Bounds, Exchange, ExchangeTallies
 from leskwyn.figures import KEYS, Comparison, keys_of
 from leskwyn.holding import DROPPED_KEYS, HOLDING_KEYS, Counted, Influence
 from leskwyn.tables import written_name
+from leskwyn.views import KEYS as VIEW_KEYS, Topology, View
 from leskwyn.weights import told_fraction
 
 CASES = [("A", "parted alike by both trees"), ("B", "parted differently"), ("C", "parted by the first tree only"),
@@ -32,7 +33,7 @@ def case_rows(counts: Sequence[int]) -> str:
                    for (letter, name), count in zip(CASES, counts, strict=True))
 
 
-def quartets_for_people(c: Comparison | Influence) -> str:
+def quartets_for_people(c: Comparison | Influence | View) -> str:
     return (row("sets of four", str(c.sets_of_four))
             + case_rows([c.same, c.different, c.first_only, c.second_only, c.neither])
             + row("distance", str(c.distance), "B + C + D")
@@ -54,7 +55,7 @@ def weighted_for_people(c: Comparison) -> str:
                   "weighted distance / sets of four" if c.sets_of_four else "there are no sets of four"))
 
 
-def splits_for_people(c: Comparison) -> str:
+def splits_for_people(c: Comparison | View) -> str:
     return (row("splits of the first tree", str(c.first_splits)) + row("splits of the second tree", str(c.second_splits))
             + row("splits of both", str(c.common_splits))
             + row("Robinson-Foulds distance", str(c.robinson_foulds), "splits of one tree only")
@@ -129,7 +130,7 @@ def as_tsv(comparisons: Sequence[Comparison]) -> str:
     return rows_tsv([key for key in keys if key != "names"], comparisons)
 
 
-def line_json(answer: Comparison | Evidence | Influence | ExchangeTallies) -> str:
+def line_json(answer: Comparison | Evidence | Influence | ExchangeTallies | View | Topology) -> str:
     """One object on one line."""
     import json
     return json.dumps(answer.as_dict(), ensure_ascii=False) + "\n"
@@ -306,3 +307,33 @@ def exchanges_tsv(e: ExchangeTallies) -> str:
 
 
 EXCHANGE_FORMATS = {"text": exchanges_for_people, "tsv": exchanges_tsv, "json": line_json}
+
+
+# ---- what a viewer may see
+
+def view_for_people(v: View) -> str:
+    """The figures of the visible populations. Where the trees come from is not told: a path could name a hidden one."""
+    return row("visible populations", str(v.visible)) + quartets_for_people(v) + "\n" + splits_for_people(v)
+
+
+def view_tsv(v: View) -> str:
+    """The columns are the keys but the names."""
+    return rows_tsv([key for key in VIEW_KEYS if key != "names"], [v])
+
+
+VIEW_FORMATS = {"text": view_for_people, "tsv": view_tsv, "json": line_json}
+
+
+def topology_for_people(t: Topology) -> str:
+    """A line for each pair, or for each population that is left open."""
+    told = "leaves them open:" if t.pairs is None else "parts them two and two:"
+    parts = [(name,) for name in t.names] if t.pairs is None else t.pairs
+    return f"{told}\n" + "".join(f"  {' + '.join(map(told_name, part))}\n" for part in parts)
+
+
+def topology_tsv(t: Topology) -> str:
+    """The pairs have a column each, and are empty for a star."""
+    return lines_tsv([["names", "topology", "first_pair", "second_pair"], [t.names, t.topology, *(t.pairs or ("", ""))]])
+
+
+TOPOLOGY_FORMATS = {"text": topology_for_people, "tsv": topology_tsv, "json": line_json}

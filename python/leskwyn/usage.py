@@ -10,10 +10,12 @@ from leskwyn.counting import Progress
 from leskwyn.errors import counted, quoted
 from leskwyn.labels import names_struck
 from leskwyn.trees import Placed, pruned
+from leskwyn.views import MOST_LEVEL
 from leskwyn.weights import SPELLINGS, Weight, weight_of
 
 # How long work runs before a terminal sees how far it is, and how often it does, in seconds.
 SHOWN_AFTER, SHOWN_EVERY = 1.0, 0.2
+LEVELS = [str(level) for level in range(MOST_LEVEL + 1)]
 
 
 class Usage(Exception):
@@ -104,6 +106,19 @@ def number_of(what: str, most: int | None = None) -> Callable[[str], int]:
         return int(text)
 
     return number
+
+
+def level(text: str) -> int:
+    if text not in LEVELS:
+        raise argparse.ArgumentTypeError(f"{quoted(text)} is not a level from {LEVELS[0]} to {LEVELS[-1]}")
+    return int(text)
+
+
+def add_levels(parser: Parser) -> None:
+    parser.add_argument("--levels", action="append", required=True, metavar="FILE",
+                        help="the level of each population, 0 to 3: a line of its name, a TAB and its level; - is standard input")
+    parser.add_argument("--viewer", type=level, required=True, metavar="K",
+                        help="the level of the viewer, 0 to 3: populations above it are hidden")
 
 
 def add_jobs(parser: Parser) -> None:
