@@ -116,3 +116,21 @@ pub struct ExchangeDistanceAnswer {
     pub refusal: u16,
     pub distance: u64,
 }
+
+// The number; how many labels are visible; A to E and B + C + D over them; and their splits: of the first tree, of the second, of
+// both, and the Robinson-Foulds distance.
+#[repr(C)]
+pub struct ViewAnswer {
+    pub refusal: u16,
+    pub visible: u64,
+    pub a: u64,
+    pub b: u64,
+    pub c: u64,
+    pub d: u64,
+    pub e: u64,
+    pub distance: u64,
+    pub first_splits: u64,
+    pub second_splits: u64,
+    pub common_splits: u64,
+    pub robinson_foulds: u64,
+}

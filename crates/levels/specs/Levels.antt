@@ -1,10 +1,9 @@
 -- The levels of labels: which of them a viewer sees, and the rule that the levels of a call are held to
 -- (docs/SPECIFICATION.md, 'Levels').
 -- Assumes nothing.
-use mathlib.Core.Path.{_≡_}
 use mathlib.Core.Bool.{Bool, not, _&&_}
 use mathlib.Core.List.{List, [], _∷_}
-use Prim.Native.Nat.{ℕ, _≤_, _<_}
+use Prim.Native.Nat.{ℕ}
 use lib.Dec.{eqb, ltb, leb}
 use lib.ListN.{length}
 use Rattle.sums.specs.Counts.{count}
@@ -28,12 +27,6 @@ levelsOrder levels viewer n =
     ∷ (37, some n (λ x. ltb levelMost (word levels x)))
     ∷ (37, ltb levelMost viewer)
     ∷ []
-
--- n levels, each 0 to 3, and such a level of the viewer
-pub record AreLevels (levels : List ℕ) (viewer n : ℕ) : Type 0 where
-  pub long : length levels ≡ n
-  pub low : (x : ℕ) → x < n → word levels x ≤ levelMost
-  pub viewer-low : viewer ≤ levelMost
 
 -- the number, and how many labels are visible; none by refused levels
 unfoldable pub checkedLevels : List ℕ → ℕ → ℕ → CheckedLevels

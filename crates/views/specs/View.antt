@@ -3,22 +3,21 @@
 use mathlib.Core.List.{List, _++_}
 use Prim.Native.Nat.{ℕ}
 use lib.ListN.{length}
-use Rattle.sums.specs.Counts.{count}
 use Rattle.tree_check.specs.Table.{Table, tips}
 use Rattle.tree_check.specs.Refusals.{Rule, refusal, ifAccepted}
 use Rattle.counting.specs.Labels.{Labels}
-use Rattle.counting.specs.Kept.{keptAt}
+use Rattle.counting.specs.Kept.{passing}
 use Rattle.counting.specs.declared.Case.the-variants.{A, B, C, D, E}
 use Rattle.counting.specs.Cases.{quartets, distance}
 use Rattle.counting.specs.SplitCounts.{splits, commonSplits, robinsonFoulds}
-use Rattle.pair_check.specs.PairOrder.{tablesOrder, workOrder, PairWithCells}
+use Rattle.pair_check.specs.PairOrder.{tablesOrder, workOrder}
 use Rattle.tree_pairs.specs.Crossings.{crossed}
-use Rattle.levels.specs.Levels.{isVisible, levelsOrder, AreLevels}
+use Rattle.levels.specs.Levels.{isVisible, levelsOrder}
 use Rattle.views.specs.declared.pairs.ViewAnswer.{ViewAnswer}
 
 -- those of n labels that a viewer sees, by rank
 abbrev pub visible : List ℕ → ℕ → ℕ → Labels
-visible levels viewer n = record { number = count n (isVisible levels viewer); at = keptAt (isVisible levels viewer) n }
+visible levels viewer n = passing (isVisible levels viewer) n
 
 -- the order of two tables, then 37, then 9
 unfoldable pub viewOrder : Table → Table → List ℕ → ℕ → ℕ → List Rule
@@ -68,8 +67,3 @@ viewAnswer t u levels viewer cells =
 unfoldable pub afterView : Table → Table → List ℕ → ℕ → List ℕ → List ℕ
 afterView t u levels viewer work =
     ifAccepted (refusal (viewOrder t u levels viewer (length work))) (crossed (visible levels viewer (tips t)) t u work) work
-
--- two tree tables with the same n, levels of their labels, and cells enough
-pub record LevelledPair (t u : Table) (levels : List ℕ) (viewer cells : ℕ) : Type 0 where
-  pub with-cells : PairWithCells t u cells
-  pub levelled : AreLevels levels viewer (tips t)

@@ -16,8 +16,8 @@ use Rattle.tree_check.specs.Table.{Table, word, tips}
 use Rattle.tree_check.specs.Refusals.{refusal}
 use Rattle.tree_check.specs.theorems.RefusalLaws.{refusal-none, refusal-here, refusal-next, if-accepted, if-refused}
 use Rattle.levels.specs.declared.levels.CheckedLevels.{CheckedLevels}
-use Rattle.levels.specs.Levels.{levelMost, isVisible, levelsOrder, AreLevels, checkedLevels}
-use Rattle.levels.specs.theorems.LevelsCheck.{visible-iff, none-past, levels-check}
+use Rattle.levels.specs.Levels.{levelMost, isVisible, levelsOrder, checkedLevels}
+use Rattle.levels.specs.theorems.LevelsCheck.{AreLevels, visible-iff, none-past, levels-check}
 
 abbrev told : ℕ → ℕ → CheckedLevels
 told number visible = record { refusal = number; visible = visible }

@@ -23,9 +23,9 @@ use Rattle.trees.specs.Topology.{topology, topologyUnder, topologyAnswer}
 use Rattle.trees.specs.lemmas.TopologyOutcomes.{told-under}
 use Rattle.trees.specs.declared.quartet.Topology.the-variants.{Star}
 use Rattle.trees.specs.declared.quartet.TopologyAnswer.{TopologyAnswer}
-use Rattle.levels.specs.Levels.{isVisible, levelsOrder, AreLevels}
+use Rattle.levels.specs.Levels.{isVisible, levelsOrder}
 use Rattle.levels.specs.ViewTopology.{levelledOrder, hiddenOrder, viewLabelOrder, viewTopology, ViewTold}
-use Rattle.levels.specs.theorems.LevelsCheck.{visible-iff, levels-kept}
+use Rattle.levels.specs.theorems.LevelsCheck.{AreLevels, visible-iff, levels-kept}
 
 -- the answer, and what it tells
 abbrev pub Viewed : Table → List ℕ → ℕ → ℕ → ℕ → ℕ → ℕ → TopologyAnswer → Type 0

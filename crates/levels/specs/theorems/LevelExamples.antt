@@ -1,4 +1,4 @@
--- The topology for a viewer, computed from the definitions: of P with the labels 0 and 2 hidden, and of P with all visible.
+-- The topology for a viewer, computed from the definitions: of P with the labels 0 and 2 hidden, and with 0 alone.
 -- Assumes nothing.
 use mathlib.Core.Path.{_≡_, refl}
 use mathlib.Core.List.{List, [], _∷_}
@@ -21,8 +21,8 @@ use Rattle.levels.specs.ViewTopology.{levelledOrder, hiddenOrder, viewLa
 abbrev numbers : TopologyAnswer → List ℕ
 numbers r = r .refusal ∷ butterflyOf (r .topology) ∷ partnerOf (r .topology) ∷ []
 
--- a hidden label answers as 5, which does not exist, also where it stands twice; a visible one that stands twice answers 11; all
--- visible, 1 2 3 4 are the butterfly 12|34
+-- a hidden label answers as 5, which does not exist, also where it stands twice; a visible one that stands twice answers 11; with
+-- 2 visible, 1 2 3 4 are the butterfly 12|34
 pub viewed :
     numbers (viewTopology P (3 ∷ 1 ∷ 2 ∷ 0 ∷ 1 ∷ []) 1 1 2 3 4)
     ∷ numbers (viewTopology P (3 ∷ 1 ∷ 2 ∷ 0 ∷ 1 ∷ []) 1 1 5 3 4)

@@ -15,7 +15,7 @@ use Rattle.tree_check.specs.Refusals.{refusal}
 use Rattle.tree_check.specs.IsTree.{IsTree}
 use Rattle.tree_check.specs.theorems.RefusalLaws.{Kept, Numbered, accepted}
 use Rattle.walks.specs.theorems.WalkOrderLaws.{after-tree}
-use Rattle.levels.specs.Levels.{levelMost, isVisible, levelsOrder, AreLevels}
+use Rattle.levels.specs.Levels.{levelMost, isVisible, levelsOrder}
 use Rattle.levels.specs.ViewTopology.{levelledOrder}
 
 -- a label is visible exactly if it has a level, and that is not above the viewer's
@@ -33,6 +33,12 @@ pub none-past : (levels : List ℕ) (viewer x : ℕ) → length levels ≤ x →
 none-past levels viewer x l = T-false (isVisible levels viewer x) (λ v. omega (arith, l, visible-iff levels viewer x .0 v .0))
 
 -- ---- 37
+
+-- n levels, each 0 to 3, and such a level of the viewer
+pub record AreLevels (levels : List ℕ) (viewer n : ℕ) : Type 0 where
+  pub long : length levels ≡ n
+  pub low : (x : ℕ) → x < n → word levels x ≤ levelMost
+  pub viewer-low : viewer ≤ levelMost
 
 pub levels-numbered : (levels : List ℕ) (viewer n : ℕ) → Numbered (levelsOrder levels viewer n)
 unfolding levelsOrder

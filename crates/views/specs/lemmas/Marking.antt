@@ -3,7 +3,7 @@
 use mathlib.Core.Path.{_≡_, refl, sym, _∙_, ap, fun-ext}
 use mathlib.Core.Bool.{Bool, true, false}
 use mathlib.Core.List.{List}
-use Prim.Native.Nat.{ℕ, _≤_, _<_}
+use Prim.Native.Nat.{ℕ, _≤_}
 use native.Mathlib.Decide.{decLt}
 use native.Mathlib.Omega.{arith}
 use lib.Dec.{eqb}
@@ -16,7 +16,6 @@ use Rattle.sums.specs.theorems.ListLaws.{in-order-length, in-order-at, in-front
 use Rattle.table_words.specs.Sizes.{tipsMost}
 use Rattle.tree_check.specs.Table.{word}
 use Rattle.marks.specs.Marks.{isKept, AreMarks}
-use Rattle.counting.specs.Labels.{Labels}
 use Rattle.counting.specs.Kept.{passing, kept}
 use Rattle.levels.specs.Levels.{isVisible}
 use Rattle.levels.specs.theorems.LevelsCheck.{none-past}
@@ -74,3 +73,15 @@ module _ (levels : List ℕ) (viewer n : ℕ) (e : length levels ≡ n) where
         ∙ ap (λ (x : List ℕ). word x i) here
         ∙ in-front-at n (λ y. bit (isVisible levels viewer y)) (replicate tipsMost 0) i (omega (arith, long, m))
         ∙ sym (in-order-at n (λ y. bit (isVisible levels viewer y)) i (omega (arith, long, m))))
+
+-- .. as it is lent on
+module _ (levels : List ℕ) (viewer n : ℕ) (e : length levels ≡ n) (few : n ≤ tipsMost) (marks : List ℕ)
+    (h : marks ≡ inFront (length levels) (λ x. bit (isVisible levels viewer x)) (replicate tipsMost 0)) (k : ℕ) (ek : k ≡ n) where
+  pub marks-fit : k ≤ length marks
+  marks-fit = omega (arith, marks-long levels viewer n e few marks h)
+
+  pub marks-part : k ≡ length (take k marks)
+  marks-part = sym (length-take-le k marks marks-fit)
+
+  pub marks-are : take k marks ≡ marksOf levels viewer n
+  marks-are = ap (λ (j : ℕ). take j marks) ek ∙ marks-taken levels viewer n e few marks h

@@ -1,16 +1,14 @@
 -- What a viewer is told, as code finds it.
 -- Assumes nothing.
-use mathlib.Core.Path.{_≡_, refl, sym, _∙_, ap, ap₂}
+use mathlib.Core.Path.{_≡_, refl, sym, _∙_, ap}
 use mathlib.Core.Logic.{_≢_}
 use mathlib.Core.List.{List, _++_}
-use Prim.Native.Nat.{ℕ, _≤_, _<_}
-use native.Mathlib.Omega.{arith}
+use Prim.Native.Nat.{ℕ, _≤_}
 use lib.ListN.{length}
 use Rattle.sums.specs.Counts.{count}
-use Rattle.sums.specs.Lists.{inFront}
 use Rattle.sums.specs.theorems.ListLaws.{in-front-length, in-front-again}
 use Rattle.tree_check.specs.Table.{Table, tips}
-use Rattle.tree_check.specs.Refusals.{refusal, ifAccepted}
+use Rattle.tree_check.specs.Refusals.{refusal}
 use Rattle.tree_check.specs.theorems.RefusalLaws.{refusal-first, refusal-kept, if-accepted, if-refused}
 use Rattle.marks.specs.Marks.{marksOrder}
 use Rattle.marks.specs.theorems.MarksCheck.{marks-kept}
@@ -20,11 +18,11 @@ use Rattle.pair_check.specs.PairOrder.{cellsNeeded, tablesOrder, workOrder, pai
 use Rattle.pair_check.specs.theorems.PairCheck.{tables-kept, pair-check}
 use Rattle.tree_pairs.specs.Crossings.{cellOf, crossed, afterCrossings}
 use Rattle.splits.specs.declared.counts.SplitCounts.{SplitCounts}
-use Rattle.splits.specs.SplitAnswer.{splitsAmong, refusedSplits, splitAnswer}
+use Rattle.splits.specs.SplitAnswer.{splitsAmong, splitAnswer}
 use Rattle.quartets.specs.declared.tables.QuartetTable.{QuartetTable}
-use Rattle.quartets.specs.QuartetAnswer.{casesOver, refusedTable, quartetAnswer}
-use Rattle.levels.specs.Levels.{isVisible, levelsOrder, AreLevels, checkedLevels}
-use Rattle.levels.specs.theorems.LevelsCheck.{levels-kept, levels-check}
+use Rattle.quartets.specs.QuartetAnswer.{casesOver, quartetAnswer}
+use Rattle.levels.specs.Levels.{isVisible, levelsOrder}
+use Rattle.levels.specs.theorems.LevelsCheck.{AreLevels, levels-kept}
 use Rattle.views.specs.declared.pairs.ViewAnswer.{ViewAnswer}
 use Rattle.views.specs.View.{visible, viewOrder, viewOver, refusedView, viewAnswer, afterView}
 use Rattle.views.specs.lemmas.Marking.{marksOf, kept-visible, levels-mark}
@@ -128,10 +126,19 @@ module _ (t u : Table) (levels : List ℕ) (viewer : ℕ) (work : List ℕ) wher
               number-here = sym (same-number (length work)) ∙ number-0
 
               table-is : table ≡ casesOver (visible levels viewer (tips t)) t u
-              table-is = et ∙ (unfold quartetAnswer in if-accepted _ _ _ number-0) ∙ ap (λ (m : Labels). casesOver m t u) seen
+              table-is = et ∙ counted ∙ ap (λ (m : Labels). casesOver m t u) seen
+                where
+                  counted : quartetAnswer t u marks (length work) ≡ casesOver (kept marks (tips t)) t u
+                  counted = unfold quartetAnswer in if-accepted _ _ _ number-0
 
               splits-are : splits ≡ splitsAmong (visible levels viewer (tips t)) t u
-              splits-are = es ∙ (unfold splitAnswer in if-accepted _ _ _ again) ∙ ap (λ (m : Labels). splitsAmong m t u) seen
+              splits-are = es ∙ counted ∙ ap (λ (m : Labels). splitsAmong m t u) seen
+                where
+                  counted : splitAnswer t u marks (length cells) ≡ splitsAmong (kept marks (tips t)) t u
+                  counted = unfold splitAnswer in if-accepted _ _ _ again
+
+              told : viewAnswer t u levels viewer (length work) ≡ viewOver (visible levels viewer (tips t)) t u
+              told = unfold viewAnswer in if-accepted _ _ _ number-here
 
               answer-is : asView v table f s c d ≡ viewAnswer t u levels viewer (length work)
               answer-is =
@@ -143,12 +150,22 @@ module _ (t u : Table) (levels : List ℕ) (viewer : ℕ) (work : List ℕ) wher
                     ec' ∙ ap (λ (x : SplitCounts). x .common) splits-are,
                     ed ∙ ap (λ (x : SplitCounts). x .distance) splits-are,
                   ) refl
-                  ∙ sym (unfold viewAnswer in if-accepted _ (viewOver (visible levels viewer (tips t)) t u) _ number-here)
+                  ∙ sym told
+
+              crossed-again : new ≡ crossed (kept marks (tips t)) t u cells
+              crossed-again = en ∙ (unfold afterCrossings in if-accepted _ _ _ again)
+
+              no-change : crossed (kept marks (tips t)) t u (crossed (kept marks (tips t)) t u work)
+                  ≡ crossed (kept marks (tips t)) t u work
+              no-change = unfold crossed in in-front-again (cellsNeeded t u) (cellOf (kept marks (tips t)) t u) work room
+
+              after : afterView t u levels viewer work ≡ crossed (visible levels viewer (tips t)) t u work
+              after = unfold afterView in if-accepted _ _ work number-here
 
               cells-are : new ≡ afterView t u levels viewer work
               cells-are =
-                  en ∙ (unfold afterCrossings in if-accepted _ _ _ again)
+                  crossed-again
                   ∙ ap (crossed (kept marks (tips t)) t u) crossed-once
-                  ∙ (unfold crossed in in-front-again (cellsNeeded t u) (cellOf (kept marks (tips t)) t u) work room)
-                  ∙ ap (λ (m : Labels). inFront (cellsNeeded t u) (cellOf m t u) work) seen
-                  ∙ sym (unfold afterView crossed in if-accepted _ _ work number-here)
+                  ∙ no-change
+                  ∙ ap (λ (m : Labels). crossed m t u work) seen
+                  ∙ sym after

@@ -1,5 +1,6 @@
 -- A viewer can find out the visible labels and their topologies by asking, so the calls tell exactly these.
 -- Assumes nothing.
+use Rattle.levels.specs.theorems.LevelsCheck.{AreLevels}
 use mathlib.Core.Path.{_≡_, refl, sym, _∙_, ap, subst}
 use mathlib.Core.Bool.{Bool, true, false, not}
 use mathlib.Core.Logic.{_↔_}
@@ -8,20 +9,19 @@ use Prim.Native.Nat.{ℕ, zero, suc, _<_}
 use native.Mathlib.Omega.{arith}
 use borrow.Author.Tests.{eq-eqb}
 use lib.Dec.{T, eqb}
-use lib.ListN.{length}
 use Rattle.sums.specs.Tests.{some}
 use Rattle.sums.specs.theorems.TestLaws.{some-true, not-some-iff, not-not}
 use Rattle.tree_check.specs.Table.{Table, word, tips}
-use Rattle.tree_check.specs.Refusals.{refusal, ifAccepted}
+use Rattle.tree_check.specs.Refusals.{refusal}
 use Rattle.tree_check.specs.IsTree.{IsTree}
 use Rattle.tree_check.specs.theorems.RefusalLaws.{accepted, refusal-here, refusal-next, if-accepted}
 use Rattle.trees.specs.LabelOrder.{twoEqual}
 use Rattle.trees.specs.theorems.LabelOrderLaws.{Different, different-iff}
 use Rattle.trees.specs.Topology.{topology}
 use Rattle.trees.specs.Topology.{topologyUnder}
-use Rattle.levels.specs.Levels.{isVisible, AreLevels}
+use Rattle.levels.specs.Levels.{isVisible}
 use Rattle.levels.specs.ViewTopology.{hiddenOrder, viewTopology}
-use Rattle.views.specs.theorems.SameView.{Inputs, Accepted, Sees, SeesFour, SameView, ToldTheSame}
+use Rattle.views.specs.theorems.SameView.{Inputs, Accepted, SeesFour, SameView, ToldTheSame}
 use Rattle.views.specs.theorems.Noninterference.{asked-alone, noninterference}
 use Rattle.trees.specs.declared.quartet.TopologyAnswer.{TopologyAnswer}
 

@@ -1,25 +1,23 @@
 -- What a viewer is told depends on the visible labels and on their topologies in each tree, and on nothing else.
 -- Assumes nothing.
-use mathlib.Core.Path.{_≡_, refl, sym, _∙_, ap, ap₂, subst, fun-ext}
-use mathlib.Core.Bool.{Bool, true, false, not}
+use mathlib.Core.Path.{_≡_, refl, sym, _∙_, ap, subst, fun-ext}
+use mathlib.Core.Bool.{Bool, false, not}
 use mathlib.Core.Logic.{_≢_}
-use mathlib.Core.List.{List, [], _∷_, _++_}
-use Prim.Native.Nat.{ℕ, zero, suc, _+_, _≤_, _<_}
+use mathlib.Core.List.{List, [], _∷_}
+use Prim.Native.Nat.{ℕ, zero, suc, _≤_, _<_}
 use native.Mathlib.Decide.{decLt}
 use native.Mathlib.Omega.{arith}
 use lib.Dec.{T}
 use lib.ListN.{length}
-use Rattle.sums.specs.Bits.{bit}
 use Rattle.sums.specs.Counts.{count}
 use Rattle.sums.specs.Tests.{some}
 use Rattle.sums.specs.theorems.BitLaws.{T-bit, bit-T}
 use Rattle.sums.specs.theorems.TestLaws.{not-some-iff, not-not}
-use Rattle.shapes.specs.theorems.FourLabels.{Four}
 use Rattle.tree_check.specs.Table.{Table, word, tips}
 use Rattle.tree_check.specs.Refusals.{refusal, ifAccepted}
 use Rattle.tree_check.specs.IsTree.{IsTree}
 use Rattle.tree_check.specs.TreeOrder.{treeOrder}
-use Rattle.tree_check.specs.theorems.RefusalLaws.{Kept, Numbered, accepted, kept-append, refusal-kept, if-accepted}
+use Rattle.tree_check.specs.theorems.RefusalLaws.{Kept, accepted, kept-append, refusal-kept, if-accepted}
 use Rattle.tree_check.specs.theorems.TreeCheck.{tree-kept}
 use Rattle.trees.specs.LabelOrder.{twoEqual}
 use Rattle.trees.specs.theorems.LabelOrderLaws.{Different, different-iff}
@@ -34,11 +32,11 @@ use Rattle.counting.specs.declared.Case.the-variants.{A, B, C, D, E}
 use Rattle.counting.specs.Cases.{topologyAt}
 use Rattle.counting.specs.theorems.KeptLaws.{ranked, rank-of, passing-rising, same-passing}
 use Rattle.pair_check.specs.PairOrder.{IsPair}
-use Rattle.levels.specs.Levels.{isVisible, levelsOrder, AreLevels}
+use Rattle.levels.specs.Levels.{isVisible, levelsOrder}
 use Rattle.levels.specs.ViewTopology.{levelledOrder, hiddenOrder, viewLabelOrder, viewTopology}
-use Rattle.levels.specs.theorems.LevelsCheck.{none-past, levels-kept}
+use Rattle.levels.specs.theorems.LevelsCheck.{AreLevels, none-past, levels-kept}
 use Rattle.views.specs.View.{visible, viewOver, viewAnswer}
-use Rattle.views.specs.theorems.SameView.{Inputs, Accepted, Sees, SeesFour, SameView, ToldTheSame}
+use Rattle.views.specs.theorems.SameView.{Inputs, Accepted, Sees, SameView, ToldTheSame}
 use Rattle.views.specs.theorems.ViewCheck.{view-check}
 use Rattle.views.specs.theorems.SameTopologies.{SameSets, SameSeen, same-in-any-order, same-seen}
 

@@ -1,19 +1,16 @@
 -- Two tree tables, whose n may differ, with the same topologies of each set of four of some labels: they have the same splits
 -- among these labels, the same topologies in any order, and the same figures.
 -- Assumes nothing.
-use mathlib.Core.Path.{_≡_, refl, sym, _∙_, ap, ap₂}
-use mathlib.Core.Logic.{Ne·symm, _↔_}
-use Prim.Native.Nat.{ℕ, _+_, _<_}
+use mathlib.Core.Path.{_≡_, sym, _∙_, ap, ap₂}
+use Prim.Native.Nat.{ℕ, _<_}
 use native.Mathlib.Omega.{arith}
 use Rattle.sums.specs.Bits.{bit}
 use Rattle.sums.specs.theorems.SetLaws.{sets4-ext}
 use Rattle.shapes.specs.theorems.FourLabels.{Four}
-use Rattle.shapes.specs.theorems.SameFours.{same-fours-iff}
 use Rattle.shapes.specs.theorems.SameSplits.{same-splits-refl}
-use Rattle.shapes.specs.theorems.ZeroRule.{zero-rule}
 use Rattle.trees.specs.declared.quartet.Topology.{Topology}
-use Rattle.trees.specs.Topology.{butterfly, topology}
-use Rattle.tree_check.specs.Table.{Table, tips, beyond}
+use Rattle.trees.specs.Topology.{topology}
+use Rattle.tree_check.specs.Table.{Table, tips}
 use Rattle.tree_check.specs.IsTree.{IsTree}
 use Rattle.counting.specs.Labels.{Labels}
 use Rattle.counting.specs.theorems.LabelLaws.{Rising}
@@ -22,9 +19,7 @@ use Rattle.counting.specs.theorems.TipLabels.{same-topologies}
 use Rattle.counting.specs.declared.Case.{Case}
 use Rattle.counting.specs.declared.Case.the-variants.{B, C, D}
 use Rattle.counting.specs.Cases.{caseOf, isCase, topologyAt, quartets}
-use Rattle.counting.specs.SplitCounts.{beyondAt, splits, commonSplits, robinsonFoulds, HaveSameSplits}
-use Rattle.counting.specs.theorems.TreeShape.{shapeOf}
-use Rattle.counting.specs.theorems.CasesInShapes.{quartets-in-shapes}
+use Rattle.counting.specs.SplitCounts.{splits, commonSplits, robinsonFoulds, HaveSameSplits}
 use Rattle.counting.specs.theorems.TreeSplits.{common-from-either, same-splits-as-many, same-splits-in-common}
 
 -- each set of four of the labels has the same topology in both

@@ -9,7 +9,8 @@ use Rattle.tree_check.specs.Table.{Table}
 use Rattle.trees.specs.Topology.{topology}
 use Rattle.levels.specs.Levels.{isVisible}
 use Rattle.levels.specs.ViewTopology.{viewTopology}
-use Rattle.views.specs.View.{viewAnswer, LevelledPair}
+use Rattle.views.specs.View.{viewAnswer}
+use Rattle.views.specs.theorems.ViewCheck.{LevelledPair}
 
 -- what a viewer's calls are made with: the two tables, the levels, the viewer's level, and how many cells are lent
 pub record Inputs : Type 0 where

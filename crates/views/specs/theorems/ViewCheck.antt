@@ -9,11 +9,16 @@ use Rattle.sums.specs.theorems.TestLaws.{not-lt-iff}
 use Rattle.tree_check.specs.Table.{Table, tips}
 use Rattle.tree_check.specs.Refusals.{refusal}
 use Rattle.tree_check.specs.theorems.RefusalLaws.{Kept, Numbered, accepted, kept-append, numbered-append}
-use Rattle.pair_check.specs.PairOrder.{cellsNeeded, tablesOrder, workOrder}
+use Rattle.pair_check.specs.PairOrder.{cellsNeeded, tablesOrder, workOrder, PairWithCells}
 use Rattle.pair_check.specs.theorems.PairCheck.{tables-numbered, tables-kept}
 use Rattle.levels.specs.Levels.{levelsOrder}
-use Rattle.levels.specs.theorems.LevelsCheck.{levels-numbered, levels-kept}
-use Rattle.views.specs.View.{viewOrder, LevelledPair}
+use Rattle.levels.specs.theorems.LevelsCheck.{AreLevels, levels-numbered, levels-kept}
+use Rattle.views.specs.View.{viewOrder}
+
+-- two tree tables with the same n, levels of their labels, and cells enough
+pub record LevelledPair (t u : Table) (levels : List ℕ) (viewer cells : ℕ) : Type 0 where
+  pub with-cells : PairWithCells t u cells
+  pub levelled : AreLevels levels viewer (tips t)
 
 work-iff : (t u : Table) (cells : ℕ) → Kept (workOrder t u cells) ↔ (cellsNeeded t u ≤ cells)
 unfolding workOrder

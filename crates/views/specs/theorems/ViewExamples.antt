@@ -42,7 +42,7 @@ Passed6 = 6 ∷ 8 ∷ 0 ∷ 0 ∷ 1 ∷ 1 ∷ 1 ∷ 1 ∷ 1 ∷ 6 ∷ 0 ∷ X �
 abbrev numbers : ViewAnswer → List ℕ
 numbers r =
     r .refusal ∷ r .visible ∷ r .a ∷ r .b ∷ r .c ∷ r .d ∷ r .e ∷ r .distance
-    ∷ r .first-splits ∷ r .second-splits ∷ r .common-splits ∷ r .robinson-foulds ∷ []
+    ∷ r .«first_splits» ∷ r .«second_splits» ∷ r .«common_splits» ∷ r .«robinson_foulds» ∷ []
 
 -- 1, 3, 4 and 5 are visible: a butterfly in the first trees, a star in the second ones
 pub two-runs :

@@ -5,9 +5,10 @@ use Rattle.tree_check.specs.Table.{tips, nodes}
 use Rattle.tree_check.specs.Refusals.{refusal}
 use Rattle.tree_check.specs.IsTree.{IsTree}
 use Rattle.tree_check.specs.theorems.CheckLaws.{checked-accepted, refusal-passed}
-use Rattle.levels.specs.Levels.{levelsOrder, AreLevels}
+use Rattle.levels.specs.Levels.{levelsOrder}
 use Rattle.levels.specs.lemmas.LevelOutcomes.{levels-say}
 use Rattle.levels.specs.lemmas.ViewOutcomes.{tree-away, levels-away, hidden-away, topology-passed}
+use Rattle.levels.specs.theorems.LevelsCheck.{AreLevels}
 use borrow.Author.Needs.{needs}
 use Rattle.levels.proofs.topologies.view_topology.Statement.{statement}
 use Rattle.levels.proofs.topologies.view_topology.Tie as tie
