@@ -44,9 +44,11 @@ loop-less c = search needs
 loop-again : tie.Need-loop-again Inv-loop μ-loop
 loop-again c =
     let k = turn c in
-    let l = k .before .loop in
-    (omega (arith, k .loop-test .taken), ap (λ (m : List ℕ). set m (l .x) (c .mark-of .result)) (l .inv .1)
-    ∙ in-front-next (l .x) _ _ _ (omega (arith, k .loop-test .taken, start k .pre, length-replicate {A = ℕ} tipsMost 0)) (c .mark-of .ensures))
+    let l = k .before .loop in (
+      omega (arith, k .loop-test .taken),
+      ap (λ (m : List ℕ). set m (l .x) (c .mark-of .result)) (l .inv .1)
+          ∙ in-front-next (l .x) _ _ _ (omega (arith, k .loop-test .taken, start k .pre, length-replicate {A = ℕ} tipsMost 0)) (c .mark-of .ensures),
+    )
 
 returns : tie.Need-returns Inv-loop μ-loop
 returns c =
