@@ -36,7 +36,7 @@ use Rattle.levels.specs.Levels.{isVisible, levelsOrder}
 use Rattle.levels.specs.ViewTopology.{levelledOrder, hiddenOrder, viewLabelOrder, viewTopology}
 use Rattle.levels.specs.theorems.LevelsCheck.{AreLevels, none-past, levels-kept}
 use Rattle.views.specs.View.{visible, viewOver, viewAnswer}
-use Rattle.views.specs.theorems.SameView.{Inputs, Accepted, Sees, SameView, ToldTheSame}
+use Rattle.views.specs.theorems.SameView.{Inputs, Accepted, Sees, SeesFour, SameView, ToldTheSame}
 use Rattle.views.specs.theorems.ViewCheck.{view-check}
 use Rattle.views.specs.theorems.SameTopologies.{SameSets, SameSeen, same-in-any-order, same-seen}
 
@@ -234,3 +234,13 @@ module _ (k k' : Inputs) (a : Accepted k) (a' : Accepted k') (v : SameView k k')
     topology-second = same-topology-told (k .second) (k' .second) (pair .second) (pair' .second) (k .levels) (k' .levels)
         (k .viewer) (k' .viewer) later later' (v .labels) seconds;
   }
+
+-- of one pair: the trees may change around the hidden labels, with the levels, the viewer and the cells as they are
+pub one-pair : (t u t' u' : Table) (levels : List ℕ) (viewer cells : ℕ)
+    → let k : Inputs = record { first = t; second = u; levels = levels; viewer = viewer; cells = cells } in
+    let k' : Inputs = record { first = t'; second = u'; levels = levels; viewer = viewer; cells = cells } in
+    Accepted k → Accepted k'
+    → ((a b c d : ℕ) → SeesFour k a b c d → topology t a b c d ≡ topology t' a b c d)
+    → ((a b c d : ℕ) → SeesFour k a b c d → topology u a b c d ≡ topology u' a b c d)
+    → ToldTheSame k k'
+one-pair t u t' u' levels viewer cells a a' f s = noninterference _ _ a a' (record { labels = λ x. refl; first = f; second = s })
