@@ -1,7 +1,8 @@
--- The five cases of a set of four, read from its two topologies, how many sets are in each, and the quartet distance.
+-- The five cases of a set of four, read from its two topologies, how many sets are in each, the quartet distance, and the
+-- weighted distance.
 -- Assumes nothing.
 use mathlib.Core.Bool.{Bool, true, false}
-use Prim.Native.Nat.{ℕ, _+_}
+use Prim.Native.Nat.{ℕ, _+_, _*_}
 use lib.Dec.{eqb}
 use Rattle.sums.specs.Bits.{bit}
 use Rattle.sums.specs.SetsOfFour.{sets4}
@@ -43,3 +44,7 @@ quartets l t u k = sets4 (l .number) (λ w x y z. bit (isCase (caseOf (topologyA
 -- the quartet distance: how many sets of four are in the cases B, C and D
 abbrev pub distance : Labels → Table → Table → ℕ
 distance l t u = quartets l t u B + quartets l t u C + quartets l t u D
+
+-- 256 times the weighted distance with the weight k/256 for a star against a butterfly
+abbrev pub weighted : ℕ → Labels → Table → Table → ℕ
+weighted k l t u = 256 * quartets l t u B + k * (quartets l t u C + quartets l t u D)

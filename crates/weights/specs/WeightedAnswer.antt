@@ -4,7 +4,7 @@
 use mathlib.Core.Path.{_≡_}
 use mathlib.Core.Logic.{_≢_, _↔_}
 use mathlib.Core.List.{List, [], _∷_, _++_}
-use Prim.Native.Nat.{ℕ, _+_, _*_, _≤_}
+use Prim.Native.Nat.{ℕ, _≤_}
 use lib.Dec.{eqb}
 use lib.IntN.{pos}
 use lib.ListN.{length}
@@ -15,8 +15,7 @@ use Rattle.tree_check.specs.Table.{Table, tips}
 use Rattle.tree_check.specs.Refusals.{Rule, refusal, ifAccepted}
 use Rattle.counting.specs.Labels.{Labels}
 use Rattle.counting.specs.Kept.{kept}
-use Rattle.counting.specs.declared.Case.the-variants.{B, C, D}
-use Rattle.counting.specs.Cases.{quartets}
+use Rattle.counting.specs.Cases.{weighted}
 use Rattle.pair_check.specs.PairOrder.{pairOrder, MarkedPair}
 use Rattle.tree_pairs.specs.Crossings.{crossedKept}
 use Rattle.weights.specs.declared.weight.Weight.{Weight}
@@ -35,7 +34,7 @@ weightedOrder t u marks cells w = pairOrder t u marks cells ++ fractionOrder (pO
 abbrev pub weightedOver : Labels → Table → Table → Weight → WeightedDistance
 weightedOver l t u w = record {
   refusal = 0;
-  distance = over256 (256 * quartets l t u B + numeratorOf (pOf w) * (quartets l t u C + quartets l t u D));
+  distance = over256 (weighted (numeratorOf (pOf w)) l t u);
 }
 
 -- the number of a refused call, with zero
@@ -60,6 +59,6 @@ pub record WeightTold (t u : Table) (marks : List ℕ) (cells : ℕ) (w : Weight
   pub accepted : (r .refusal ≡ 0) ↔ (MarkedPair t u marks cells × (k : ℕ) × (k ≤ 256) × IsFraction (pOf w) k)
   -- 256 times the answer is 256 · B + k · (C + D), exactly, and the answer is never minus zero
   pub exact : MarkedPair t u marks cells → (k : ℕ) → k ≤ 256 → IsFraction (pOf w) k → (let l = kept marks (tips t) in
-      HasValue (r .distance) false (256 * quartets l t u B + k * (quartets l t u C + quartets l t u D)) 256)
+      HasValue (r .distance) false (weighted k l t u) 256)
   -- a refusal answers zero, with the sign plus
   pub refused : r .refusal ≢ 0 → r .distance ≡ fin false 0 (pos 0)

@@ -2,10 +2,10 @@
 -- Assumes nothing.
 use mathlib.Core.Path.{_≡_, refl, _∙_, ap, fun-ext}
 use mathlib.Core.Logic.{_↔_}
-use Prim.Native.Nat.{ℕ, zero, suc, _+_, _*_, _<_}
+use Prim.Native.Nat.{ℕ, zero, suc, _+_, _*_, _≤_, _<_}
 use native.Mathlib.Omega.{arith}
 use Rattle.sums.specs.Sum.{sum}
-use Rattle.sums.specs.theorems.SumLaws.{sum-suc, sum-first, sum-ext, sum-cong, sum-add, sum-none, sum-ge, sum-swap}
+use Rattle.sums.specs.theorems.SumLaws.{sum-suc, sum-first, sum-ext, sum-cong, sum-add, sum-none, sum-ge, sum-mono, sum-mul-left, sum-swap}
 use Rattle.sums.specs.SetsOfFour.{sets2, sets3, sets4}
 
 -- ---- tuples, whose members need not differ
@@ -68,6 +68,12 @@ sets4-none n f = (
     zeros : (n : ℕ) (f : ℕ → ℕ) → sum n f ≡ 0 → (i : ℕ) → i < n → f i ≡ 0
     zeros n f e i l = omega (arith, sum-ge n f i l)
 
+-- terms that are at most others
+pub sets4-mono : (n : ℕ) (f g : ℕ → ℕ → ℕ → ℕ → ℕ) → ((w x y z : ℕ) → f w x y z ≤ g w x y z) → sets4 n f ≤ sets4 n g
+unfolding sets4 sets3 sets2
+sets4-mono n f g h =
+    sum-mono n _ _ (λ z lz. sum-mono z _ _ (λ y ly. sum-mono y _ _ (λ x lx. sum-mono x _ _ (λ w lw. h w x y z))))
+
 -- ---- sums of sums, and members in another order
 
 pub tuples4-add : (n : ℕ) (f g : ℕ → ℕ → ℕ → ℕ → ℕ)
@@ -79,6 +85,10 @@ pub sets4-add : (n : ℕ) (f g : ℕ → ℕ → ℕ → ℕ → ℕ)
     → sets4 n (λ w x y z. f w x y z + g w x y z) ≡ sets4 n f + sets4 n g
 unfolding sets4 sets3 sets2
 sets4-add n f g = simp sum-add
+
+pub sets4-mul : (n c : ℕ) (f : ℕ → ℕ → ℕ → ℕ → ℕ) → sets4 n (λ w x y z. c * f w x y z) ≡ c * sets4 n f
+unfolding sets4 sets3 sets2
+sets4-mul n c f = simp sum-mul-left
 
 pub sets3-add : (n : ℕ) (f g : ℕ → ℕ → ℕ → ℕ) → sets3 n (λ x y z. f x y z + g x y z) ≡ sets3 n f + sets3 n g
 unfolding sets3 sets2

@@ -69,7 +69,7 @@ cross x dx y dy a b c d h k =
     omega (arith, ap (λ (z : ℕ). z * (dy * d)) h, ap (λ (z : ℕ). z * (dx * c)) k)
 
 -- a sum of two values that are not negative
-add-value : (x y : Float) (a c b d : ℕ) → 0 < c → 0 < d → HasValue x false a c → HasValue y false b d
+pub add-value : (x y : Float) (a c b d : ℕ) → 0 < c → 0 < d → HasValue x false a c → HasValue y false b d
     → add binary64 x y ≡ round binary64 false (a * d + b * c) (c * d)
 unfolding add sum
 add-value nan y a c b d C D h k = absurd h

@@ -23,7 +23,7 @@ use Rattle.tree_check.specs.theorems.RefusalLaws.{if-accepted, if-refused}
 use Rattle.counting.specs.Labels.{Labels}
 use Rattle.counting.specs.theorems.LabelLaws.{Rising}
 use Rattle.counting.specs.declared.Case.the-variants.{B, C, D}
-use Rattle.counting.specs.Cases.{quartets, distance}
+use Rattle.counting.specs.Cases.{quartets, distance, weighted}
 use Rattle.counting.specs.Kept.{kept}
 use Rattle.counting.specs.theorems.KeptLaws.{kept-rising}
 use Rattle.counting.specs.theorems.QuartetTheorem.{quartet-theorem}
@@ -105,8 +105,7 @@ module _ (l : Labels) (t u : Table) (p : IsPair t u) (r : Rising (tips t) l) (w 
       (q .count-most B, omega (arith, q .total, q .all-most, q .C-counts, q .D-counts))
 
   -- 256 times the answer is 256 · B + k · (C + D), and its sign is plus
-  pub weighted-exact : HasValue (weightedOver l t u w .distance) false
-      (256 * quartets l t u B + numeratorOf (pOf w) * (quartets l t u C + quartets l t u D)) 256
+  pub weighted-exact : HasValue (weightedOver l t u w .distance) false (weighted (numeratorOf (pOf w)) l t u) 256
   weighted-exact = over-256-exact _ (lt-of-lt-of-le (low _ (mul-le-mul-right (quartets l t u C + quartets l t u D) m)) (lit≤ tt))
     where
       low : (x : ℕ) → x ≤ 256 * (quartets l t u C + quartets l t u D) → 256 * quartets l t u B + x < 89493831681
@@ -177,8 +176,7 @@ module _ (t u : Table) (marks : List ℕ) (cells : ℕ) (w : Weight) where
         rw (if-accepted order-number (weightedOver (kept marks (tips t)) t u w) (refusedWeight order-number)
         (weighted-check t u marks cells w .1 (p, m)))
         (subst (λ (j : ℕ). HasValue (weightedOver (kept marks (tips t)) t u w .distance) false
-        (256 * quartets (kept marks (tips t)) t u B
-        + j * (quartets (kept marks (tips t)) t u C + quartets (kept marks (tips t)) t u D)) 256) e
+        (weighted j (kept marks (tips t)) t u) 256) e
         (weighted-exact (kept marks (tips t)) t u (p .with-cells .pair) (kept-rising marks (tips t)) w m));
     refused = λ n. rw (if-refused order-number (weightedOver (kept marks (tips t)) t u w) (refusedWeight order-number)
         (λ z. n (number-at order-number ∙ z))) refl;
