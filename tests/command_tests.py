@@ -1,5 +1,5 @@
 #!/usr/bin/env python3
-"""Tests of the commands compare, why, influence, copy, same, exchange, view, view-topology, matrix and against, of
+"""Tests of the commands compare, why, influence, copy, same, exchange, view, view-topology, three, matrix and against, of
 docs/COMMANDS.md, and of what the commands say where things fail.
 
     python3 tests/command_tests.py
@@ -10,6 +10,7 @@ examples of the pages are run.
 import contextlib
 import dataclasses
 import doctest
+import fractions
 import importlib.util
 import io
 import itertools
@@ -40,6 +41,7 @@ from cases.newick import Tree, random_names, random_tree, sides_of, star_text, w
 from cases.pairs import pair_refusal, split_counts
 from cases.shapes import balanced, caterpillar
 from cases.tables import LABEL_TROUBLE, P, Q, THREE, W, X, damaged
+from cases.three import rows as three_rows, three
 from cases.triplets import triplet_table
 from cases.views import topology, view, visible, with_tips
 
@@ -1606,6 +1608,225 @@ class View(TreesTest):
         self.assertEqual(re.findall(r"(?m)^\| `(\w+)` \|", asked), list(expected))
 
 
+class Three(TreesTest):
+    """Three trees side by side, by a look at every set of four of each two."""
+
+    SONG = "(Azores,(Bute,(Coll,Foula)),(Lundy,Texel));\n"
+    FILES = ["feathers.nwk", "wings.nwk", "song.nwk"]
+    PLACES = dict(zip(["first", "second", "third"], FILES))
+    # docs/COMMANDS.md, 'three': what each tree keeps together.
+    SIDES = [[frozenset(part.split()) for part in parts] for parts in (
+        ["Bute Coll", "Lundy Texel"], ["Coll Foula", "Lundy Texel"], ["Coll Foula", "Bute Coll Foula", "Lundy Texel"])]
+    NOTE = ("with a weight below 1/2 the way through a third tree can be shorter than the direct one: the triangle inequality "
+            "holds only from 1/2 on")
+    CASE_NAMES = ["A parted alike by both", "B parted differently", "C parted by the first of the two only",
+                  "D parted by the second of the two only", "E left open by both"]
+
+    def setUp(self) -> None:
+        super().setUp()
+        self.file("song.nwk", self.SONG)
+
+    def three(self, *arguments: str, stdin: bytes | str = b"") -> Done:
+        return self.here("three", *arguments, stdin=stdin)
+
+    def closest(self, told: dict[str, object]) -> str:
+        """The line that tells which are closest."""
+        key = "weighted_distance" if "weight" in told else "distance"
+        least = min(pair[key] for pair in told["pairs"])
+        distance = f"the {key.replace('_', ' ')} {str(least).removesuffix('.0')}"
+        one, *others = [f"the {first} and the {second} tree" for first, second in told["closest"]]
+        if len(others) == 2:
+            return f"no two are closest: all three pairs have {distance}"
+        return f"closest: {one}{', and as close ' + others[0] if others else ''}, with {distance}"
+
+    def words(self, told: dict[str, object]) -> list[str]:
+        """The text of all that is told, squeezed."""
+        whole = "{} / sets of four" if told["sets_of_four"] else "there are no sets of four"
+        def line(name: str, key: str, note: str = "", form: str = "") -> str:
+            cells = [format(pair[key], form) for pair in told["pairs"]]
+            return " ".join([name, *(cell.removesuffix(".0") for cell in cells), note]).strip()
+        lines = [f"{which} tree: {told[which]}" for which in self.PLACES]
+        lines += [f"struck: {', '.join(told['struck'])}"] if told.get("struck") else []
+        lines += ["", f"populations {told['tips']}"]
+        lines += [f"kept {told['kept']} of {told['tips']}; sets of four count these alone"] if "kept" in told else []
+        lines += [f"sets of four {told['sets_of_four']}", "", "trees first, second first, third second, third"]
+        lines += [line(name, key) for name, key in zip(self.CASE_NAMES, CASES, strict=True)]
+        lines += [line("distance", "distance", "B + C + D"),
+                  line("normalised distance", "normalised_distance", whole.format("distance"), ".4f")]
+        if "weight" in told:
+            weight = fractions.Fraction(told["weight"])
+            lines += [line("weighted distance", "weighted_distance", f"B + p (C + D), p = {weight}"),
+                      line("normalised weighted distance", "normalised_weighted_distance", whole.format("weighted distance"),
+                           ".4f")]
+        return [*lines, "", self.closest(told), *([self.NOTE] if told.get("weight", 1) < 1 / 2 else []), ""]
+
+    def assert_three(self, expected: dict[str, object], *arguments: str, stdin: str = "") -> None:
+        """All three formats; standard error has the note on small weights where the text has none."""
+        note = f"leskwyn: note: {self.NOTE}\n" if expected.get("weight", 1) < 1 / 2 else ""
+        text, tsv, told = (self.three(*arguments, "--format", one, stdin=stdin) for one in ("text", "tsv", "json"))
+        self.assertEqual([(done.returncode, done.stderr.decode()) for done in (text, tsv, told)], [(0, ""), (0, note), (0, note)])
+        self.assertEqual(squeezed(text.stdout.decode()), self.words(expected))
+        rows = three_rows(expected)
+        self.assertEqual([line.split("\t") for line in tsv.stdout.decode().removesuffix("\n").split("\n")],
+                         [list(rows[0]), *([",".join(cell) if isinstance(cell, list) else str(cell) for cell in row.values()]
+                                           for row in rows)])
+        found = json.loads(told.stdout)
+        self.assertEqual((found, told.stdout.count(b"\n")), (expected, 1))
+        self.assertEqual((list(found), list(found["pairs"][0])), (list(expected), list(expected["pairs"][0])))
+
+    def test_by_hand(self) -> None:
+        """docs/COMMANDS.md, 'three'."""
+        done = self.three(*self.FILES)
+        self.assertEqual((done.returncode, done.stderr), (0, b""))
+        self.assertEqual(squeezed(done.stdout.decode()), [
+            "first tree: feathers.nwk", "second tree: wings.nwk", "third tree: song.nwk", "", "populations 6", "sets of four 15",
+            "", "trees first, second first, third second, third", "A parted alike by both 6 8 11", "B parted differently 3 3 0",
+            "C parted by the first of the two only 2 0 0", "D parted by the second of the two only 2 4 4",
+            "E left open by both 2 0 0", "distance 7 7 4 B + C + D",
+            "normalised distance 0.4667 0.4667 0.2667 distance / sets of four", "",
+            "closest: the second and the third tree, with the distance 4", ""])
+        self.assertEqual(done.stdout, run_leskwyn("three", *self.FILES, cwd=self.folder).stdout)
+        # without Coll feathers and wings are the same, and song parts Bute and Foula from Azores and Lundy or Texel
+        told = json.loads(self.three(*self.FILES, "--strike", "Coll", "--format", "json").stdout)
+        self.assertEqual([[pair[key] for key in CASES] for pair in told["pairs"]],
+                         [[3, 0, 0, 0, 2], [3, 0, 0, 2, 0], [3, 0, 0, 2, 0]])
+        self.assertEqual((told["closest"], told["kept"], told["struck"]), ([["first", "second"]], 5, ["Coll"]))
+
+    def test_weights_and_struck_names(self) -> None:
+        """In every format, with none, one, few and all struck."""
+        for spelling, p in ((None, None), ("none", 0), ("full", 1), ("1/2", 1 / 2), ("127/256", 127 / 256), ("0.25", 1 / 4)):
+            for struck in (None, [], ["Coll"], ["Texel", "Azores"], ["Bute", "Coll", "Foula"], NAMES):
+                self.file("struck.txt", "".join(f"{name}\n" for name in struck or ()))
+                options = [*([] if p is None else ["--weight", spelling]),
+                           *([] if struck is None else ["--strike-file", "struck.txt"])]
+                weight = None if p is None else fractions.Fraction(p)
+                with self.subTest(options=options, struck=struck):
+                    self.assert_three(self.PLACES | three(self.SIDES, NAMES, weight, struck), *self.FILES, *options)
+
+    def test_random_trees(self) -> None:
+        rng, ties = random.Random(96), set()
+        for case in range(48):
+            names = sorted(f"t{at}" for at in range(3 + case % 7))
+            trees = [random_tree(rng, names, rng.choice([0, 0.3, 0.8])) for _ in range(3)]
+            trees[2] = trees[case % 3] if case % 5 == 0 else trees[2]
+            for name, tree in zip(self.FILES, trees):
+                self.file(name, written_tree(rng, with_pass_through(rng, tree, rng.randint(1, 9)) if case % 2 else tree))
+            struck = rng.sample(names, case % 3) if case % 3 else None
+            weight = fractions.Fraction(rng.randint(0, 256), 256) if case % 4 else None
+            expected = three([sides_of(tree) for tree in trees], names, weight, struck)
+            options = [*(f"--strike={name}" for name in struck or ()), *([] if weight is None else [f"--weight={weight}"])]
+            with self.subTest(case=case, options=options):
+                self.assert_three(self.PLACES | expected, *self.FILES, *options)
+            ties.add(len(expected["closest"]))
+        self.assertEqual(ties, {1, 2, 3})
+
+    def test_ties(self) -> None:
+        """Of two pairs, of all three with a distance, and of three equal trees."""
+        butterfly, other, fan = "((a,b),(c,d));", "((a,c),(b,d));", "(a,b,c,d);"
+        for trees, options, line in (
+                ([butterfly, other, fan], [], "no two are closest: all three pairs have the distance 1"),
+                ([butterfly] * 3, [], "no two are closest: all three pairs have the distance 0"),
+                ([butterfly, fan, other], ["--weight=3/4"], "closest: the first and the second tree, and as close the second and "
+                                                            "the third tree, with the weighted distance 0.75"),
+                ([fan, fan, butterfly], ["--weight=1"], "closest: the first and the second tree, with the weighted distance 0"),
+                ([butterfly, fan, butterfly], [], "closest: the first and the third tree, with the distance 0"),
+                ([butterfly, other, fan], ["--strike=d"], "no two are closest: all three pairs have the distance 0")):
+            done = self.three("-", *options, stdin="".join(trees))
+            self.assertEqual((done.returncode, done.stdout.decode().split("\n")[-2:]), (0, [line, ""]), trees)
+
+    def test_columns(self) -> None:
+        """Figures end in their columns, whatever the widths, and no line ends with a blank."""
+        names = [f"t{i}" for i in range(64)]
+        trees = ["".join(f"({name}," for name in names[:-1]) + names[-1] + ")" * 63 + ";", star_text(names)]
+        for stdin in ("".join([*trees, trees[0]]), "(a,b);" * 3):
+            lines = self.three("-", "--weight=1/256", stdin=stdin).stdout.decode().split("\n")
+            at = next(at for at, line in enumerate(lines) if line.startswith("trees "))
+            ends = [[cell.end() for cell in re.finditer(r"\S+(?: {1,2}\S+)*", line)][1:4] for line in lines[at:at + 10]]
+            self.assertEqual(ends, [ends[0]] * 10)
+            self.assertEqual([line for line in lines if line != line.rstrip()], [])
+
+    def test_every_way_of_giving_three_trees(self) -> None:
+        every = FEATHERS + WINGS + self.SONG
+        self.file("all.nwk", every)
+        expected = three(self.SIDES, NAMES)
+        for trees, stdin, places in (
+                (["all.nwk"], "", [f"all.nwk, {which} tree" for which in self.PLACES]),
+                (["-"], every, [f"standard input, {which} tree" for which in self.PLACES]),
+                (["feathers.nwk", "-", "song.nwk"], WINGS, ["feathers.nwk", "standard input", "song.nwk"]),
+                (["--common", "--", *self.FILES], "", self.FILES)):
+            done = self.three("--format", "json", *trees, stdin=stdin)
+            self.assertEqual(json.loads(done.stdout), dict(zip(self.PLACES, places)) | expected)
+        done = self.three("feathers.nwk", "feathers.nwk", "wings.nwk")
+        self.assertEqual((done.returncode, done.stdout.decode().split("\n")[-2]),
+                         (0, "closest: the first and the second tree, with the distance 0"))
+
+    def test_common(self) -> None:
+        self.file("more.nwk", "((Azores,Zeist),(Bute,(Coll,Foula)),(Lundy,Texel));")
+        self.assert_message(self.three("feathers.nwk", "wings.nwk", "more.nwk"), 1, "only more.nwk has 'Zeist'; --common")
+        done = self.three("feathers.nwk", "wings.nwk", "more.nwk", "--common", "--format", "json")
+        self.assertEqual((done.returncode, done.stderr), (0, b"leskwyn: left out of more.nwk: 'Zeist'\n"))
+        self.assertEqual(json.loads(done.stdout), self.PLACES | {"third": "more.nwk"} | three(self.SIDES, NAMES))
+
+    def test_names_as_they_are_written(self) -> None:
+        """A struck name that could be read as several stands in quotes, and no field has a line break."""
+        self.file("names.nwk", "(('a, b',Parus_major),('c + d','e\nf'),g);" * 3)
+        struck = ["--strike=a, b", "--strike=Parus_major", "--strike=e\nf"]
+        self.assertEqual(self.three("names.nwk", *struck).stdout.decode().split("\n")[3], "struck: Parus major, 'a, b', e\\nf")
+        tsv = self.three("names.nwk", *struck, "--format=tsv").stdout.decode().splitlines()
+        self.assertEqual([line.split("\t")[-1] for line in tsv[1:]], ["'Parus major','a, b','e\\nf'"] * 3)
+
+    def test_refused_as_compared(self) -> None:
+        """The status and the words of matrix and, of two trees, of compare."""
+        self.file("other.nwk", "(Azores,Bute,Zeist);")
+        self.file("twice.nwk", "(A,B,A);")
+        self.file("open.nwk", "(A,(B,C);")
+        self.file("pair.bin", packed(P, Q))
+        for third, *options in (["other.nwk"], ["twice.nwk"], ["open.nwk"], ["pair.bin"], ["song.nwk", "--strike", "Zeist"],
+                                ["song.nwk", "--strike", "Coll", "--strike", "Mull", "--strike", "Rum"]):
+            for at in range(3):
+                trees = [*self.FILES[:2]]
+                trees.insert(at, third)
+                done, square = (self.here(command, *trees, *options) for command in ("three", "matrix"))
+                self.assertEqual((done.returncode, done.stdout, done.stderr), (1, b"", square.stderr))
+                self.assert_message(done, 1)
+            done = self.three("feathers.nwk", "wings.nwk", third, *options)
+            compared = self.here("compare", "feathers.nwk", third, *options)
+            self.assertEqual((done.returncode, done.stderr), (compared.returncode, compared.stderr))
+        self.assert_message(self.three("both.nwk"), 1, "both.nwk: 2 trees in the file; three trees are needed")
+        self.assert_message(self.three("both.nwk", "wings.nwk", "song.nwk"), 1, "2 trees in the file; one tree is needed here")
+        self.assert_message(self.three("-", stdin="(A,B);(A,B);(A,B"), 1, "standard input, line 1: a ( without its )")
+
+    def test_wrong_usage(self) -> None:
+        for arguments, words in (([], "0 files; one or three are needed"), (["a", "b"], "2 files; one or three are needed"),
+                                 (["a", "b", "c", "d"], "4 files; one or three are needed"),
+                                 (["-", "-", "a"], "standard input can be read only once"),
+                                 (["-", "--strike-file", "-"], "standard input can be read only once"),
+                                 (["", "a", "b"], "an empty file name"), (["a", "--format", "phylip"], "invalid choice: 'phylip'"),
+                                 (["a", "--tables"], "unrecognized arguments: --tables"),
+                                 (["a", "--listing"], "unrecognized arguments: --listing"),
+                                 (["a", "--outgroup", "b"], "unrecognized arguments: --outgroup")):
+            self.assert_message(self.three(*arguments), 2, words, "leskwyn three --help tells the usage")
+        self.assert_message(self.three("feathers.nwk", "wings.nwk", "absent"), 2, "cannot read absent: No such file")
+
+    def test_the_page(self) -> None:
+        """The examples of docs/COMMANDS.md tell what a look at every set of four tells, and the keys are those of json."""
+        self.assertEqual((ROOT / "examples" / "song.nwk").read_text(), self.SONG)
+        page = (ROOT / "docs" / "COMMANDS.md").read_text(encoding="utf-8").split("## three\n")[1].split("\n## ")[0]
+        self.assertIn(f"`{self.SONG.rstrip()}`", page)
+        text, tsv, told = re.findall(r"(?ms)^```\n(.*?)^```$", page)
+        places = {which: f"examples/{name}" for which, name in self.PLACES.items()}
+        self.assertEqual(squeezed(text), self.words(places | three(self.SIDES, NAMES)))
+        rows = three_rows(places | three(self.SIDES, NAMES, None, ["Coll"]))
+        self.assertEqual([line.split("\t") for line in tsv.splitlines()],
+                         [list(rows[0]), *([*map(str, row.values())][:-1] + ["Coll"] for row in rows)])
+        expected = places | three(self.SIDES, NAMES, fractions.Fraction(1, 2))
+        self.assertEqual(json.loads(told), expected)
+        keys = re.findall(r"`(\w+)`", " ".join(re.findall(r"(?m)^\| (`.*?) \|", page)))
+        self.assertEqual(keys, list(expected | three(self.SIDES, NAMES, fractions.Fraction(1, 2), [])))
+        row = next(line for line in page.splitlines() if line.startswith("| `pairs` "))
+        self.assertLessEqual(set(expected["pairs"][0]), set(re.findall(r"`(\w+)`", row)))
+
+
 class Many(TreesTest):
     TREES = [FEATHERS, WINGS, "(Azores,Bute,Coll,Foula,Lundy,Texel);\n", FEATHERS]
 
@@ -1731,7 +1952,7 @@ class Usage(TreesTest):
         self.assert_message(self.here("compare", "both.nwk", "--weight", "1/2", "--listing"), 2, "--listing and --weight exclude")
         self.assert_message(self.here("matrix", "both.nwk", "--weight", "1/2"), 2, "only 'weighted' takes a weight")
         self.assert_message(self.here("matrix", "both.nwk", "--measure", "weighted"), 2, "the weighted distance needs a weight")
-        commands = "compare, matrix, against, why, influence, copy, same, exchange, view, view-topology, table, show"
+        commands = "compare, matrix, against, why, influence, copy, same, exchange, view, view-topology, three, table, show"
         self.assert_message(self.here("comprae"), 2, f"no command 'comprae'; the commands are {commands} (")
 
     def test_wrong_weights(self) -> None:
@@ -1745,7 +1966,7 @@ class Usage(TreesTest):
                                        "128/256"),
                               ("a\nb", "'a\\nb' is no weight")):
             for command, *arguments in (["compare", "absent"], ["against", "absent", "absent"],
-                                        ["matrix", "absent", "--measure", "weighted"]):
+                                        ["matrix", "absent", "--measure", "weighted"], ["three", "absent"]):
                 done = self.here(command, *arguments, f"--weight={weight}")
                 self.assert_message(done, 2, words, f"leskwyn {command} --help tells the usage")
         self.assert_message(self.here("compare", "both.nwk", "--weight", "-0.5"), 2, "0/256 (0.0) and 1/256 (0.00390625)")
@@ -1776,7 +1997,7 @@ class Usage(TreesTest):
         version = f"leskwyn (Leskwyn) {leskwyn.__version__}\n".encode()
         self.assertEqual(run_leskwyn("--version").stdout, version)
         for command in ("compare", "matrix", "against", "why", "influence", "copy", "same", "exchange", "view", "view-topology",
-                        "table", "show"):
+                        "three", "table", "show"):
             for arguments, word in ((["--version"], version), (["--help"], b"usage: leskwyn " + command.encode())):
                 done = run_leskwyn(command, *arguments)
                 self.assertEqual((done.returncode, done.stderr), (0, b""))
@@ -1983,7 +2204,7 @@ class Pages(unittest.TestCase):
         modules = [("docs/COMMANDS.md", blocks), ("leskwyn", leskwyn.__doc__),
                    *((name, getattr(leskwyn, name).__doc__)
                      for name in ("compare", "matrix", "why", "influence", "canonical_copy", "same", "exchange_tallies",
-                                  "exchange_distance", "view", "view_topology"))]
+                                  "exchange_distance", "view", "view_topology", "three_trees"))]
         runner = doctest.DocTestRunner(verbose=False)
         with inside(ROOT), contextlib.redirect_stdout(io.StringIO()) as said:
             for name, content in modules:

@@ -9,8 +9,8 @@ to a brute force over sets of four that looks at the edges of named trees, and t
 lowest common ancestors; where names are struck, over sets of four of trees that are cut down here; the evidence for four tips to a
 search over all edges and all nodes; the influence of each tip to a look at every set of four that holds it; canonical copies to
 nested sets of names; exchanges to every set of four with two names exchanged, and to comparisons of the two trees; views to every
-set of four visible names, and to each other where only hidden tips differ; Robinson-Foulds distances to DendroPy and to ETE where
-they are installed.
+set of four visible names, and to each other where only hidden tips differ; three trees side by side to every set of four of each
+two; Robinson-Foulds distances to DendroPy and to ETE where they are installed.
 """
 import ctypes
 import dataclasses
@@ -50,6 +50,7 @@ from cases.shapes import (balanced, caterpillar, chained, random_pair, random_ta
                           shuffled, star, unrelated_pair, with_labels_exchanged)
 from cases.tables import (LABEL_TROUBLE, NUMBERS, OUTSIDE, PASS_THROUGH, P, Q, R, REFERENCE, THREE, TWO, W, X, Table, damaged,
                           table, tree_refusal)
+from cases.three import three
 from cases.triplets import triplet_table
 from cases.views import topology, view, visible, with_tips
 
@@ -2262,6 +2263,195 @@ class Views(unittest.TestCase):
             leskwyn.view(absent, WINGS, self.LEVELS, 0)
 
 
+class Three(unittest.TestCase):
+    """Three trees side by side, by a look at every set of four kept names."""
+
+    PLACES = {"first": "the first tree", "second": "the second tree", "third": "the third tree"}
+    # Two butterflies of four tips, and a star.
+    FOUR = ["((a,b),(c,d));", "((a,c),(b,d));", "(a,b,c,d);"]
+
+    def assert_told(self, found: leskwyn.ThreeTrees, expected: dict[str, typing.Any]) -> None:
+        """Everything, and in its order."""
+        told, expected = found.as_dict(), self.PLACES | expected
+        self.assertEqual(told, expected)
+        self.assertEqual((list(told), [list(pair) for pair in told["pairs"]]),
+                         (list(expected), [list(pair) for pair in expected["pairs"]]))
+
+    def test_random_trees(self) -> None:
+        """In texts and in objects, with pass-through nodes or without; with none, some, or nearly all tips struck, and with a
+        weight or none. Ties of two and of three pairs are met, and weights that make other trees the closest."""
+        rng, ties, moved = random.Random(91), set(), 0
+        for case in range(60):
+            plain = random_named_trees(rng, 3 + case % 8, 3)
+            plain[2] = plain[case % 3] if case % 5 == 0 else plain[2]
+            trees = [with_pass_through(rng, tree, rng.randint(1, 8)) if case % 3 == 0 else tree for tree in plain]
+            texts, names = [written_tree(rng, tree) for tree in trees], sorted(plain[0].name.values())
+            sides = [sides_of(tree) for tree in plain]
+            for struck, k in ((None, None), ([], 0), (rng.sample(names, 1), 128), (rng.sample(names, 2) * 2, rng.randint(1, 255)),
+                              (None, 256), (rng.sample(names, len(names) - 3), 64), (names, 127)):
+                weight = None if k is None else fractions.Fraction(k, 256)
+                with self.subTest(case=case, struck=struck, weight=weight, texts=texts):
+                    found, expected = leskwyn.three_trees(*texts, weight=weight, struck=struck), three(sides, names, weight, struck)
+                    self.assert_told(found, expected)
+                    in_objects = leskwyn.three_trees(*map(in_nodes, trees), weight=weight, struck=struck and iter(struck))
+                    self.assertEqual(in_objects, found)
+                    whole = leskwyn.three_trees("".join(texts), weight=weight, struck=struck)
+                    self.assertEqual(whole.first, "the text, first tree")
+                    self.assertEqual(dataclasses.replace(whole, **self.PLACES), found)
+                    if found.sets_of_four:
+                        ties.add(len(found.closest))
+                        moved += expected["closest"] != three(sides, names, None, struck)["closest"]
+        self.assertEqual(ties, {1, 2, 3})
+        self.assertGreater(moved, 20)
+
+    def test_as_compared(self) -> None:
+        """Each pair has the figures that compare tells of it."""
+        rng = random.Random(92)
+        for case in range(8):
+            texts = [written_tree(rng, tree) for tree in random_named_trees(rng, 20 + case, 3)]
+            names = leskwyn.compare(*texts[:2]).names
+            options = {"weight": case / 8, "struck": rng.sample(names, case)}
+            found = leskwyn.three_trees(*texts, **options)
+            for pair, two in zip(found.pairs, itertools.combinations(texts, 2), strict=True):
+                fresh = leskwyn.compare(*two, **options)
+                for key in (*COUNTED_KEYS, *WEIGHTED_KEYS[1:]):
+                    self.assertEqual(getattr(pair, key), getattr(fresh, key), key)
+
+    def test_sides_of_a_triangle(self) -> None:
+        """No distance is above the sum of the other two, and no weighted one with a weight of 1/2 or more; a smaller weight has
+        trees for which it is."""
+        rng = random.Random(93)
+        for case in range(60):
+            texts = [written_tree(rng, tree) for tree in random_named_trees(rng, 5 + case % 6, 3)]
+            for k in (128, 129, rng.randint(130, 255), 256):
+                found = leskwyn.three_trees(*texts, weight=k / 256)
+                for key in ("distance", "weighted_distance"):
+                    far, *others = sorted((getattr(one, key) for one in found.pairs), reverse=True)
+                    self.assertLessEqual(far, sum(others))
+        for k in (0, 64, 127, 128):
+            direct, *others = leskwyn.three_trees(*self.FOUR, weight=k / 256).pairs
+            self.assertEqual((direct.weighted_distance, sum(one.weighted_distance for one in others)), (1, 2 * k / 256))
+
+    def test_order(self) -> None:
+        """Two trees in the other order: C and D are exchanged, and nothing else."""
+        rng, seen = random.Random(94), 0
+        for case in range(30):
+            texts = [written_tree(rng, tree) for tree in random_named_trees(rng, 5 + case % 6, 3)]
+            struck = leskwyn.compare(*texts[:2]).names[:case % 3]
+            found = {frozenset(order): [] for order in itertools.combinations(range(3), 2)}
+            for order in itertools.permutations(range(3)):
+                told = leskwyn.three_trees(*(texts[at] for at in order), weight="1/2", struck=struck)
+                for one, (i, j) in zip(told.pairs, itertools.combinations(order, 2), strict=True):
+                    c, d = (one.first_only, one.second_only) if i < j else (one.second_only, one.first_only)
+                    found[frozenset([i, j])].append((one.same, one.different, c, d, one.neither, one.weighted_distance))
+                    seen += c != d
+            self.assertEqual([len(set(told)) for told in found.values()], [1, 1, 1])
+        self.assertGreater(seen, 100)
+
+    def test_same_kept_splits(self) -> None:
+        """Struck tips in other places, another root and another order of branches: the same counts."""
+        rng = random.Random(95)
+        for case in range(30):
+            shown, hidden = [f"t{at}" for at in range(4 + case % 5)], [f"x{at}" for at in range(1 + case % 4)]
+            trees = [random_tree(rng, shown, 0.3) for _ in range(3)]
+            told = [leskwyn.three_trees(*(written_tree(rng, with_tips(rng, tree, hidden)) for tree in trees), weight="1/4",
+                                        struck=hidden) for _ in range(2)]
+            self.assertEqual(told[0], told[1], case)
+            self.assertEqual(told[0].pairs, leskwyn.three_trees(*(written_tree(rng, tree) for tree in trees), weight="1/4").pairs)
+
+    def test_closest(self) -> None:
+        """By hand: two butterflies and a star of four tips are 1 from each other; a star is p from each butterfly."""
+        every = (("first", "second"), ("first", "third"), ("second", "third"))
+        for weight, closest in ((None, every), ("full", every), ("1/2", every[1:]), ("none", every[1:]), ("255/256", every[1:])):
+            self.assertEqual(leskwyn.three_trees(*self.FOUR, weight=weight).closest, closest)
+        butterfly, other, fan = self.FOUR
+        for trees, closest in (([butterfly] * 3, every), ([butterfly, butterfly, fan], every[:1]), ([fan, other, fan], every[1:2]),
+                               ([fan, butterfly, butterfly], every[2:])):
+            for weight in (None, "1/2"):
+                self.assertEqual(leskwyn.three_trees(*trees, weight=weight).closest, closest)
+        # Five tips. The second parts c, d and e with a or b otherwise than the first: B is 2. The third leaves these open: with the
+        # first C is 2, and so it is with the second.
+        five = ["((a,b),(c,(d,e)));", "((a,b),(d,(c,e)));", "((a,b),c,d,e);"]
+        self.assertEqual([(one.different, one.first_only, one.distance) for one in leskwyn.three_trees(*five).pairs],
+                         [(2, 0, 2), (0, 2, 2), (0, 2, 2)])
+        # A star of five: the others part all five sets, and are 5 from it. With a weight of 1/4 that is less than their 2.
+        for weight, closest in ((None, every[:1]), ("1/4", every[1:])):
+            self.assertEqual(leskwyn.three_trees(*five[:2], "(a,b,c,d,e);", weight=weight).closest, closest)
+
+    def test_fewer_than_four(self) -> None:
+        """All counts are 0, and all pairs as close."""
+        for texts, struck in ((["(a,b);"] * 3, None), (["(a,(b,c));"] * 3, []), (self.FOUR, ["d"]), (self.FOUR, list("abc")),
+                              (self.FOUR, list("abcd"))):
+            for weight in (None, "none", "1/2"):
+                found = leskwyn.three_trees(*texts, weight=weight, struck=struck)
+                self.assertEqual({(one.same, one.distance, one.neither, one.normalised_distance, one.weighted_distance,
+                                   one.normalised_weighted_distance) for one in found.pairs},
+                                 {(0, 0, 0, 0.0, *([None] * 2 if weight is None else [0.0] * 2))})
+                self.assertEqual((found.sets_of_four, len(found.closest)), (0, 3))
+
+    def test_each_pair_is_counted_once(self) -> None:
+        for weight, weighted in ((None, 0), ("1/2", 3)):
+            calls = {name: unittest.mock.patch.object(_library, name, wraps=getattr(_library, name))
+                     for name in ("quartet_table", "weighted_distance", "ask")}
+            with calls["quartet_table"] as table, calls["weighted_distance"] as distance, calls["ask"] as ask:
+                leskwyn.three_trees(*self.FOUR, weight=weight)
+            self.assertEqual((table.call_count, distance.call_count, ask.call_count), (3, weighted, 3 + weighted))
+
+    def test_256_tips(self) -> None:
+        """A caterpillar, one with a tip moved from one end to the other, and a star."""
+        others = [f"t{i:03}" for i in range(255)]
+        worms = ["".join(f"({name}," for name in order[:-1]) + order[-1] + ")" * 255 + ";"
+                 for order in ([*others, "x"], ["x", *others])]
+        found = leskwyn.three_trees(*worms, star_text([*others, "x"]), weight="1/2")
+        every, moved = math.comb(256, 4), math.comb(255, 3)
+        self.assertEqual([(one.same, one.different, one.first_only, one.second_only) for one in found.pairs],
+                         [(every - moved, moved, 0, 0), (0, 0, every, 0), (0, 0, every, 0)])
+        self.assertEqual([one.weighted_distance for one in found.pairs], [moved, every / 2, every / 2])
+        self.assertEqual(found.closest, (("first", "second"),))
+
+    def test_common(self) -> None:
+        trees = ["((a,b),(c,d,x));", "((a,c),(b,d),(y,z));", "(a,b,c,d,x);"]
+        with self.assertRaisesRegex(leskwyn.Refusal, "^the trees have different tips: only the first tree has 'x'; only the s"):
+            leskwyn.three_trees(*trees)
+        found = leskwyn.three_trees(*trees, common=True)
+        self.assertEqual((found.tips, [one.distance for one in found.pairs]), (4, [1, 1, 1]))
+
+    def test_refusals(self) -> None:
+        """As compare and matrix refuse them, with the same words."""
+        for given, options in ((["(a,b);", "(a,b);", "(a,c);"], {}), (["(a,b);", "(a,c);", "(a,b);"], {}),
+                               (["(a,b);", "(a,b);", "(a,(b);"], {}), (["(a,b,a);"] * 3, {}), ([FEATHERS, WINGS, "(a,b);"], {}),
+                               ([FEATHERS, WINGS, FEATHERS], {"struck": ["Zeist"]}), ([FEATHERS, WINGS, WINGS], {"struck": [5]}),
+                               ([FEATHERS, ROOT / "examples" / "p-q.bin", WINGS], {})):
+            told = []
+            for call in (lambda: leskwyn.matrix(given, **options), lambda: leskwyn.three_trees(*given, **options)):
+                with self.assertRaises(leskwyn.Refusal) as raised:
+                    call()
+                reason = raised.exception.reason
+                for number, ordinal in enumerate(self.PLACES, 1):
+                    reason = reason.replace(f"tree {number}", f"the {ordinal} tree")
+                told.append((raised.exception.number, reason))
+            self.assertEqual(told[0], told[1])
+        for given, words in ((["(a,b);" * 2], "the text: 2 trees in the file; three trees are needed"),
+                             ([FEATHERS], f"{FEATHERS}: one tree in the file; three trees are needed"),
+                             (["(a,b);" * 2, "(a,b);", "(a,b);"], "the first tree: 2 trees in the file; one tree is needed here")):
+            with self.assertRaises(leskwyn.Refusal) as raised:
+                leskwyn.three_trees(*given)
+            self.assertEqual(raised.exception.reason, words)
+
+    def test_wrong_arguments(self) -> None:
+        """Told before a file is read, but for a tree that is missing."""
+        absent = pathlib.Path("absent.nwk")
+        with self.assertRaisesRegex(ValueError, "the nearest two are 76/256"):
+            leskwyn.three_trees(absent, WINGS, WINGS, weight=0.3)
+        with self.assertRaisesRegex(TypeError, "^struck is a str; names are needed, as a list$"):
+            leskwyn.three_trees(absent, WINGS, WINGS, struck="Coll")
+        with self.assertRaisesRegex(leskwyn.Trouble, "cannot read absent.nwk"):
+            leskwyn.three_trees(FEATHERS, WINGS, absent)
+        for given in ([FEATHERS, WINGS], [FEATHERS, None, WINGS]):
+            with self.assertRaisesRegex(TypeError, "^the (second|third) tree: a tree is Newick text, a path, .*, not NoneType$"):
+                leskwyn.three_trees(*given)
+
+
 class Weights(unittest.TestCase):
     """The spellings of a weight, and the sentence that turns another one away."""
 
@@ -2347,6 +2537,12 @@ class Answers(unittest.TestCase):
             with self.assertRaises(dataclasses.FrozenInstanceError):
                 seen.names = ()
             self.assertEqual((json.loads(json.dumps(seen.as_dict())), len({seen, call()})), (seen.as_dict(), 1))
+        beside = leskwyn.three_trees(FEATHERS, WINGS, FEATHERS, weight="1/2", struck=["Foula"])
+        for part, field in ((beside, "pairs"), (beside.pairs[0], "same")):
+            with self.assertRaises(dataclasses.FrozenInstanceError):
+                setattr(part, field, None)
+        self.assertEqual(json.loads(json.dumps(beside.as_dict())), beside.as_dict())
+        self.assertEqual(len({beside, leskwyn.three_trees(FEATHERS, WINGS, FEATHERS, weight=0.5, struck=["Foula"])}), 1)
 
     def test_errors(self) -> None:
         with tempfile.NamedTemporaryFile() as file:
@@ -2380,7 +2576,8 @@ class Answers(unittest.TestCase):
         for name in leskwyn.__all__:
             self.assertTrue(getattr(leskwyn, name).__doc__, name)
         for answer in (leskwyn.Comparison, leskwyn.Evidence, leskwyn.Witness, leskwyn.Influence, leskwyn.Holding, leskwyn.Dropped,
-                       leskwyn.CanonicalCopy, leskwyn.Exchange, leskwyn.ExchangeTallies, leskwyn.View, leskwyn.Topology):
+                       leskwyn.CanonicalCopy, leskwyn.Exchange, leskwyn.ExchangeTallies, leskwyn.View, leskwyn.Topology,
+                       leskwyn.ThreeTrees, leskwyn.TreePair):
             for field in dataclasses.fields(answer):
                 self.assertRegex(answer.__doc__, rf"(?m)^ *(\w+, )*{field.name}\b")
 

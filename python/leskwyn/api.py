@@ -1,9 +1,9 @@
-"""What Python callers use: compare, against, matrix, why, influence, canonical_copy, same, exchange_tallies, exchange_distance,
-view and view_topology."""
+"""What Python callers use: compare, against, matrix, three_trees, why, influence, canonical_copy, same, exchange_tallies,
+exchange_distance, view and view_topology."""
 import contextlib
 from collections.abc import Iterable, Iterator, Mapping, Sequence
 
-from leskwyn import _library, copies, counting, evidence, exchanges, files, holding, views
+from leskwyn import _library, copies, counting, evidence, exchanges, files, holding, three, views
 from leskwyn._library import Words
 from leskwyn.copies import CanonicalCopy, Sameness
 from leskwyn.counting import Number
@@ -14,7 +14,8 @@ from leskwyn.figures import Comparison
 from leskwyn.holding import Influence
 from leskwyn.labels import labels_given, labels_of_tips, labels_struck, levels_of_tips, outgroup_first, tips_struck
 from leskwyn.sources import ComparisonFile, Given, is_comparison_file, named_file, trees_given, trees_of_bytes
-from leskwyn.tables import tables_of_file
+from leskwyn.tables import ORDINALS, tables_of_file
+from leskwyn.three import ThreeTrees
 from leskwyn.trees import Placed, check_same_names, checked, labels_of_names, pruned, table_of
 from leskwyn.views import Topology, View
 from leskwyn.weights import GivenWeight, Weight, weight_of
@@ -92,6 +93,34 @@ def matrix(trees: Iterable[Given], *, measure: str = "quartet", normalised: bool
     labels = labels_of_names(names)
     tables = [table_of(tree.tree, labels) for tree in held]
     return counting.distances(tables, measure, normalised, threads(jobs), weight=given, struck=optional_struck(words, names))
+
+
+def three_trees(a: Given, b: Given = None, c: Given = None, *, common: bool = False, weight: GivenWeight = None,
+                struck: Iterable[str | int] | None = None) -> ThreeTrees:
+    """Three trees side by side, as a ThreeTrees: for each two of them the sets of four by the cases A to E and the distance, and
+    which two are closest.
+
+    The trees are given as to compare, but are no comparison file; without `b` and `c`, `a` holds all three. `common` and `struck`
+    are as there, for all three trees. With a `weight` p each two have their weighted distance too, and the closest are those with
+    the least weighted one. Of equal distances all pairs are told.
+
+    The distance of two trees is at most the sum of their distances to the third. So is the weighted one with a weight of 1/2 or
+    more; with a smaller weight the way through the third tree can be shorter.
+
+    Raises what compare raises.
+
+        >>> found = leskwyn.three_trees("((a,b),(c,d));", "((a,c),(b,d));", "(a,b,c,d);", weight="1/2")
+        >>> [(one.pair, one.distance, one.weighted_distance) for one in found.pairs]
+        [(('first', 'second'), 1, 1.0), (('first', 'third'), 1, 0.5), (('second', 'third'), 1, 0.5)]
+        >>> found.closest
+        (('first', 'third'), ('second', 'third'))
+    """
+    given, words = optional_weight(weight), struck_words(struck)
+    if b is None and c is None:
+        held = trees_given(a, "the text", 3)
+    else:
+        held = [placed for one, ordinal in zip((a, b, c), ORDINALS) for placed in trees_given(one, f"the {ordinal} tree", 1)]
+    return compare_three(held, common=common, weight=given, struck=words)
 
 
 def why(a: Given, b: Given, names: Iterable[str | int], *, common: bool = False, outgroup: str | None = None) -> Evidence:
@@ -314,6 +343,14 @@ def compare_file(place: str, content: bytes, weight: Weight | None = None, struc
     first, second = map(_library.words, tables_of_file(place, content))
     with refusals_of(place):
         return counting.compared(places_in(place), first, second, (), weight, optional_labels(struck))
+
+
+def compare_three(trees: Sequence[Placed], *, common: bool = False, weight: Weight | None = None,
+                  struck: Sequence[str] | None = None) -> ThreeTrees:
+    held, names = same_names(trees, common, None)
+    labels = labels_of_names(names)
+    tables = [_library.words(table_of(placed.tree, labels)) for placed in held]
+    return three.of_tables([placed.place for placed in held], tables, names, weight, optional_struck(struck, names))
 
 
 def four_words(names: Iterable[str | int]) -> list[str]:

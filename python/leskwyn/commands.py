@@ -1,5 +1,5 @@
-"""The commands compare, why, influence, copy, same, exchange, view, view-topology, matrix and against, and the way from the command
-line to each command.
+"""The commands compare, why, influence, copy, same, exchange, view, view-topology, three, matrix and against, and the way from the
+command line to each command.
 
     leskwyn COMMAND [OPTION...] [FILE...]
 
@@ -15,13 +15,13 @@ from collections.abc import Callable, Iterator
 
 from leskwyn import __version__, counting, files, text
 from leskwyn._library import TOP
-from leskwyn.api import (compare_file, compare_trees, copy_tree, exchange_tree, influence_file, influence_trees, optional_struck,
-                         same_file, same_trees, view_tree, view_trees, why_file, why_trees)
+from leskwyn.api import (compare_file, compare_three, compare_trees, copy_tree, exchange_tree, influence_file, influence_trees,
+                         optional_struck, same_file, same_trees, view_tree, view_trees, why_file, why_trees)
 from leskwyn.copies import Sameness
 from leskwyn.errors import LeskwynError, Refusal, Trouble, counted, quoted
 from leskwyn.figures import Comparison
 from leskwyn.labels import levels_listed, outgroup_first
-from leskwyn.sources import ComparisonFile, is_comparison_file, trees_of_bytes, trees_of_path, two_trees
+from leskwyn.sources import ComparisonFile, is_comparison_file, several_trees, trees_of_bytes, trees_of_path
 from leskwyn.trees import MOST_TIPS, Placed, checked, labels_of_names, table_of
 from leskwyn.usage import (Parser, ProgressLine, Usage, add_common, add_jobs, add_levels, add_outgroup, add_strike, add_weight,
                            number_of, struck_names, with_common)
@@ -44,6 +44,7 @@ Counts population trees against each other, four populations at a time, by a lib
                                    two trees: what a viewer may see of them
   leskwyn view-topology FILE NAME NAME NAME NAME --levels FILE --viewer K
                                    four populations: how a tree parts them, if a viewer may see them
+  leskwyn three A B C              three trees side by side: each two of them, and which are closest
   leskwyn against REF FILE...      one tree against many, a row for each
   leskwyn matrix FILE...           all pairs of trees, a square of distances
   leskwyn table A B -o PAIR        two trees as one comparison file
@@ -396,7 +397,7 @@ def view_options(arguments: list[str]) -> argparse.Namespace:
 
 def view_command(options: argparse.Namespace) -> int:
     with for_the_desk():
-        found = view_trees(*two_trees(options.trees), *levels_read(options))
+        found = view_trees(*several_trees(options.trees, 2), *levels_read(options))
     files.print_text(text.VIEW_FORMATS[options.format](found))
     return 0
 
@@ -429,6 +430,40 @@ def view_topology_command(options: argparse.Namespace) -> int:
         levels, viewer, place = levels_read(options)
         found = view_tree(*trees_of_path(options.trees[0], 1), levels, viewer, options.names, place)
     files.print_text(text.TOPOLOGY_FORMATS[options.format](found))
+    return 0
+
+
+# ---- three
+
+def three_parser() -> Parser:
+    parser = Parser("three", usage="leskwyn three A [B C] [--format text|tsv|json] [--weight W] [--strike NAME]... "
+                                   "[--strike-file FILE]... [--common]",
+                    description="Sets three trees side by side, each in a Newick file or all in one: the sets of four of each two, "
+                                "their distances,\nand which two are closest.",
+                    epilog="With --weight the closest are those with the least weighted distance. docs/COMMANDS.md has the columns "
+                           "of tsv\nand the keys of json.\n" + STATUS)
+    parser.add_argument("trees", nargs="*", metavar="FILE", help="Newick files; - is standard input")
+    parser.add_argument("--format", choices=list(text.THREE_FORMATS), default="text", help="for people, or for programs")
+    add_weight(parser)
+    add_strike(parser)
+    add_common(parser)
+    return parser
+
+
+def three_options(arguments: list[str]) -> argparse.Namespace:
+    parser = three_parser()
+    options = parser.parsed(arguments, "trees", "strike_file")
+    if len(options.trees) not in (1, 3):
+        parser.error(f"{counted(len(options.trees), 'file')}; one or three are needed")
+    return options
+
+
+def three_command(options: argparse.Namespace) -> int:
+    trees = with_common(several_trees(options.trees, 3), options.common)
+    found = compare_three(trees, weight=options.weight, struck=struck_names(options))
+    files.print_text(text.THREE_FORMATS[options.format](found))
+    if options.format != "text" and text.told_triangle(found):
+        files.say_line(f"note: {text.told_triangle(found)}")
     return 0
 
 
@@ -557,7 +592,8 @@ COUNTING = {"compare": Counting(compare_options, compare_command), "matrix": Cou
             "against": Counting(against_options, against_command), "why": Counting(why_options, why_command),
             "influence": Counting(influence_options, influence_command), "copy": Counting(copy_options, copy_command),
             "same": Counting(same_options, same_command), "exchange": Counting(exchange_options, exchange_command),
-            "view": Counting(view_options, view_command), "view-topology": Counting(view_topology_options, view_topology_command)}
+            "view": Counting(view_options, view_command), "view-topology": Counting(view_topology_options, view_topology_command),
+            "three": Counting(three_options, three_command)}
 OTHERS = {"table": table_command, "show": show_command}
 
 

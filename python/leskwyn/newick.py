@@ -258,5 +258,6 @@ def check_number(place: str, found: int, wanted: int | None) -> None:
     if found == wanted or wanted is None and found > 0:
         return
     held = {0: "no tree", 1: "one tree"}.get(found, counted(found, "tree"))
-    needed = {None: "one or more are needed", 1: "one tree is needed here"}.get(wanted, "two trees are needed")
+    needed = {None: "one or more are needed", 1: "one tree is needed here", 2: "two trees are needed",
+              3: "three trees are needed"}[wanted]
     raise Refusal(f"{place}: {held} in the file; {needed}")

@@ -83,7 +83,7 @@ def trees_of_text(place: str, text: str, wanted: int | None) -> list[Placed]:
         trees = read_trees(source, wanted)
     if len(trees) == 1:
         return [Placed(place, trees[0])]
-    told = [f", {ordinal} tree" for ordinal in ORDINALS] if wanted == 2 else [f"#{at + 1}" for at in range(len(trees))]
+    told = [f"#{at + 1}" for at in range(len(trees))] if wanted is None else [f", {ordinal} tree" for ordinal in ORDINALS]
     return [Placed(place + one, tree) for one, tree in zip(told, trees)]
 
 
@@ -98,10 +98,10 @@ def trees_of_path(path: str, wanted: int | None) -> list[Placed]:
     return trees_of_bytes(files.shown_path(path), files.read_bytes(path), wanted)
 
 
-def two_trees(paths: list[str]) -> list[Placed]:
-    """Those of two files with one tree each, or of one with both."""
+def several_trees(paths: list[str], wanted: int) -> list[Placed]:
+    """So many trees: those of as many files with one tree each, or of one with all."""
     if len(paths) == 1:
-        return trees_of_path(paths[0], 2)
+        return trees_of_path(paths[0], wanted)
     return [placed for path in paths for placed in trees_of_path(path, 1)]
 
 

@@ -11,7 +11,7 @@ from leskwyn.errors import NAMED_AT_MOST, Refusal, counted
 from leskwyn.trees import FEWEST_TIPS, INNER, MOST_TIPS, NODES_FOR_A_TIP, Table
 
 COMPARE_BYTES = 1016
-ORDINALS = ("first", "second")
+ORDINALS = ("first", "second", "third")
 
 
 def file_bytes(words: Table) -> bytes:

@@ -7,7 +7,7 @@ import stat
 from leskwyn import files
 from leskwyn.errors import Refusal, counted, one_line, some_of
 from leskwyn.labels import label_list, names_in_order, order_of_tips, outgroup_first
-from leskwyn.sources import two_trees
+from leskwyn.sources import several_trees
 from leskwyn.tables import (COMPARE_BYTES, ORDINALS, Broken, broken_rule, cut, file_bytes, file_words, labels_not_once,
                             newick_text)
 from leskwyn.trees import INNER, Placed, Table, checked, labels_of_names, table_of, written
@@ -117,7 +117,7 @@ def table_command(arguments: list[str]) -> int:
     fault = wrong_usage(options)
     if fault:
         parser.error(fault)
-    trees = with_common(two_trees(options.trees), options.common)
+    trees = with_common(several_trees(options.trees, 2), options.common)
     names = outgroup_first(checked(trees), options.outgroup)
     if options.names is not None:
         names = order_of_tips(options.names, names)

@@ -1,5 +1,5 @@
 """Figures as text: for people, as TSV, as JSON, and squares of distances; the evidence for four tips; the influence of each;
-whether two trees are the same; how far exchanges of two tips move a tree; what a viewer may see."""
+whether two trees are the same; how far exchanges of two tips move a tree; what a viewer may see; three trees side by side."""
 from collections.abc import Iterable, Sequence
 
 from leskwyn.copies import Sameness
@@ -7,9 +7,10 @@ from leskwyn.counting import Number
 from leskwyn.errors import one_line
 from leskwyn.evidence import Evidence, Witness
 from leskwyn.exchanges import EXCHANGE_KEYS, Bounds, Exchange, ExchangeTallies
-from leskwyn.figures import KEYS, Comparison, keys_of
-from leskwyn.holding import DROPPED_KEYS, HOLDING_KEYS, Counted, Influence
-from leskwyn.tables import written_name
+from leskwyn.figures import KEYS, STRUCK_KEYS, WEIGHTED_KEYS, Comparison, keys_of
+from leskwyn.holding import CASES as CASE_KEYS, DROPPED_KEYS, HOLDING_KEYS, Counted, Influence
+from leskwyn.tables import ORDINALS, written_name
+from leskwyn.three import TRIANGLE_WEIGHT, ThreeTrees, length
 from leskwyn.views import KEYS as VIEW_KEYS, Topology, View
 from leskwyn.weights import told_fraction
 
@@ -93,9 +94,9 @@ def told_struck(names: Sequence[str], tips: int) -> str:
             + (f"; struck: {told_names(names, len(names))}" if names else ""))
 
 
-def trees_for_people(c: Comparison | Influence, of_kept: str) -> str:
-    """The trees, and how many populations they have; if some are struck, what counts only the kept ones."""
-    return (f"first tree: {one_line(c.first)}\nsecond tree: {one_line(c.second)}\n"
+def trees_for_people(c: Comparison | Influence | ThreeTrees, places: Sequence[str], of_kept: str) -> str:
+    """Where the trees come from, and how many populations they have; if some are struck, what counts only the kept ones."""
+    return ("".join(f"{ordinal} tree: {one_line(place)}\n" for ordinal, place in zip(ORDINALS, places))
             + (f"struck: {told_names(c.struck, len(c.struck))}\n" if c.struck else "") + "\n"
             + row("populations", str(c.tips))
             + (row("kept", str(c.kept), f"of {c.tips}; {of_kept} count these alone") if c.struck is not None else ""))
@@ -103,7 +104,7 @@ def trees_for_people(c: Comparison | Influence, of_kept: str) -> str:
 
 def for_people(c: Comparison) -> str:
     """The figures with their names, one a line."""
-    return (trees_for_people(c, "sets of four and splits")
+    return (trees_for_people(c, [c.first, c.second], "sets of four and splits")
             + "\n".join([quartets_for_people(c) + weighted_for_people(c), splits_for_people(c), triplets_for_people(c)]))
 
 
@@ -130,7 +131,7 @@ def as_tsv(comparisons: Sequence[Comparison]) -> str:
     return rows_tsv([key for key in keys if key != "names"], comparisons)
 
 
-def line_json(answer: Comparison | Evidence | Influence | ExchangeTallies | View | Topology) -> str:
+def line_json(answer: Comparison | Evidence | Influence | ExchangeTallies | View | Topology | ThreeTrees) -> str:
     """One object on one line."""
     import json
     return json.dumps(answer.as_dict(), ensure_ascii=False) + "\n"
@@ -237,7 +238,7 @@ def told_end(i: Influence) -> str:
 def influence_for_people(i: Influence) -> str:
     """The figures of all sets of four, then a row for each population, and one for each that is dropped."""
     heads = [*"ABCDE", "distance", "normalised"]
-    parts = [trees_for_people(i, "sets of four") + quartets_for_people(i)]
+    parts = [trees_for_people(i, [i.first, i.second], "sets of four") + quartets_for_people(i)]
     if i.populations:
         parts.append(columns(["population", "sets that hold it", *heads],
                              [[told_name(one.name), *counted_cells(one)] for one in i.populations]))
@@ -337,3 +338,71 @@ def topology_tsv(t: Topology) -> str:
 
 
 TOPOLOGY_FORMATS = {"text": topology_for_people, "tsv": topology_tsv, "json": line_json}
+
+
+# ---- three trees side by side
+
+PAIR_CASES = ["A  parted alike by both", "B  parted differently", "C  parted by the first of the two only",
+              "D  parted by the second of the two only", "E  left open by both"]
+THREE_COLUMNS = ("pair", "first", "second", "tips", "sets_of_four", *CASE_KEYS, "distance", "normalised_distance", "closest")
+
+
+def told_pair(pair: Sequence[str]) -> str:
+    return f"the {pair[0]} and the {pair[1]} tree"
+
+
+def told_closest(t: ThreeTrees) -> str:
+    """Which two trees are closest; of equal distances all pairs."""
+    least = min(map(length, t.pairs))
+    distance = f"the distance {least}" if t.weight is None else f"the weighted distance {exactly(least)}"
+    if len(t.closest) == len(t.pairs):
+        return f"no two are closest: all three pairs have {distance}"
+    return f"closest: {', and as close '.join(map(told_pair, t.closest))}, with {distance}"
+
+
+def told_triangle(t: ThreeTrees) -> str:
+    """What a small weight does to distances, or an empty text."""
+    if t.weight is None or t.weight >= TRIANGLE_WEIGHT:
+        return ""
+    return ("with a weight below 1/2 the way through a third tree can be shorter than the direct one: the triangle inequality "
+            "holds only from 1/2 on")
+
+
+def with_notes(table: str, notes: Sequence[str]) -> str:
+    """The lines of a table, each with its note if it has one."""
+    return "".join(line + (f"   {note}" if note else "") + "\n" for line, note in zip(table.splitlines(), notes, strict=True))
+
+
+def pairs_for_people(t: ThreeTrees) -> str:
+    """A column for each pair: the five cases and the distances."""
+    over = "{} / sets of four" if t.sets_of_four else "there are no sets of four"
+    rows = [(name, [str(getattr(one, key)) for one in t.pairs], "") for name, key in zip(PAIR_CASES, CASE_KEYS, strict=True)]
+    rows += [("distance", [str(one.distance) for one in t.pairs], "B + C + D"),
+             ("normalised distance", [f"{one.normalised_distance:.4f}" for one in t.pairs], over.format("distance"))]
+    if t.weight is not None:
+        rows += [("weighted distance", [exactly(length(one)) for one in t.pairs], f"B + p (C + D), p = {told_fraction(t.weight)}"),
+                 ("normalised weighted distance", [f"{one.normalised_weighted_distance:.4f}" for one in t.pairs],
+                  over.format("weighted distance"))]
+    table = columns(["trees", *(", ".join(one.pair) for one in t.pairs)], [[name, *cells] for name, cells, _ in rows])
+    return with_notes(table, ["", *(note for *_, note in rows)])
+
+
+def three_for_people(t: ThreeTrees) -> str:
+    last = "".join(f"{line}\n" for line in (told_closest(t), told_triangle(t)) if line)
+    head = trees_for_people(t, [t.first, t.second, t.third], "sets of four") + row("sets of four", str(t.sets_of_four))
+    return "\n".join([head, pairs_for_people(t), last])
+
+
+def three_tsv(t: ThreeTrees) -> str:
+    """A row for each pair, with where its two trees come from and whether no pair is closer."""
+    keys = THREE_COLUMNS + WEIGHTED_KEYS * (t.weight is not None) + STRUCK_KEYS * (t.struck is not None)
+    rows = []
+    for one in t.pairs:
+        first, second = (getattr(t, ordinal) for ordinal in one.pair)
+        told = t.as_dict() | one.as_dict() | {"pair": one.pair, "first": first, "second": second, "struck": t.struck,
+                                              "closest": "yes" if one.pair in t.closest else "no"}
+        rows.append([told[key] for key in keys])
+    return lines_tsv([keys, *rows])
+
+
+THREE_FORMATS = {"text": three_for_people, "tsv": three_tsv, "json": line_json}
