@@ -251,7 +251,7 @@ impl Graph {
     }
 
     /// Some inner edge, if there is one, becomes a node.
-    fn contract(&mut self, random: &mut Random) {
+    pub fn contract(&mut self, random: &mut Random) {
         let is_inner = |node: usize| self.near[node].len() >= 3;
         let inner: Vec<_> = self.edges().into_iter().filter(|&(a, b)| is_inner(a) && is_inner(b)).collect();
         if inner.is_empty() {
