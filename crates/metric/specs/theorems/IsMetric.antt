@@ -5,7 +5,7 @@ use mathlib.Core.Logic.{_↔_}
 use Prim.Native.Nat.{ℕ, _+_, _*_, _≤_}
 use native.Mathlib.Nat.{mul-le-mul-right}
 use native.Mathlib.Omega.{arith}
-use Rattle.shapes.specs.Splits.{SameSides}
+use Rattle.shapes.specs.theorems.SameSplits.{same-splits-refl}
 use Rattle.tree_check.specs.Table.{Table, tips}
 use Rattle.tree_check.specs.IsTree.{IsTree}
 use Rattle.counting.specs.Labels.{Labels}
@@ -42,7 +42,7 @@ module _ (n : ℕ) (l : Labels) (r : Rising n l) where
       (λ z. q .distance-zero .0 (q .distance-counts ∙ z), λ s. sym (q .distance-counts) ∙ q .distance-zero .1 s)
 
   same-as-itself : (t : Tree n) → SameTree l t t
-  same-as-itself t = record { there = λ i s. (i, s, SameSides.same (λ x m. refl)); back = λ i s. (i, s, SameSides.same (λ x m. refl)) }
+  same-as-itself t = same-splits-refl _ _ _
 
   pub distance-metric : IsMetric (Tree n) (SameTree l) (λ t u. distance l (t .table) (u .table))
   distance-metric = record {
