@@ -1,7 +1,7 @@
 # Sourced by bin/leskwyn and bin/compare. What they run is proved and built on first use, and again when a source is newer than
 # its last proof. The script that sources this sets `me`, its name.
 
-version=0.14.0
+version=0.15.0
 root=$(dirname "$(dirname "$(readlink -f "${BASH_SOURCE[0]}")")")
 mark=$root/target/$me.mark # as old as the start of the last proof that succeeded
 log=$root/target/$me.log

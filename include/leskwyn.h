@@ -88,7 +88,7 @@ extern "C" {
 #endif
 
 /* The version of this header as one number: major * 1000000 + minor * 1000 + patch. */
-#define LESKWYN_VERSION 14000
+#define LESKWYN_VERSION 15000
 
 /* The label word of an inner node. */
 #define LESKWYN_INNER 65535

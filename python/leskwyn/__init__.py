@@ -27,7 +27,7 @@ cannot be read a Trouble; both are a LeskwynError, with the fields number and re
 """
 import sys
 
-__version__ = "0.14.0"
+__version__ = "0.15.0"
 
 # This file and __main__.py are written so that old Pythons can read them, and say a sentence.
 if sys.version_info >= (3, 10):

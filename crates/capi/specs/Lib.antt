@@ -2,6 +2,7 @@ pub mod PlainAnswers
 pub mod PlainLabels
 pub mod PlainTables
 pub mod PlainExchanges
+pub mod PlainLists
 pub mod PlainViews
 pub mod Version
 pub mod theorems

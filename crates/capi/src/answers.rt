@@ -117,6 +117,14 @@ pub struct ExchangeDistanceAnswer {
     pub distance: u64,
 }
 
+// The number; the position of the tree nearest to all, from 0; its summed distance.
+#[repr(C)]
+pub struct NearestAnswer {
+    pub refusal: u16,
+    pub position: u16,
+    pub sum: u64,
+}
+
 // The number; how many labels are visible; A to E and B + C + D over them; and their splits: of the first tree, of the second, of
 // both, and the Robinson-Foulds distance.
 #[repr(C)]

@@ -5,5 +5,6 @@ mod exports; // exports.rt: the exported functions
 mod labels; // labels.rt: those for one label: a tree re-rooted at it, the sets that hold it, and its mark changed
 mod tables; // tables.rt: those that write a table of one tree: its canonical copy
 mod tallies; // tallies.rt: those for one tree with two labels exchanged
+mod lists; // lists.rt: the one for a list of trees
 mod viewing; // viewing.rt: those for viewers, by levels of the labels
 mod version; // version.rt: the release that the library is of

@@ -1,0 +1,4 @@
+pub mod Least
+pub mod Nearest
+pub mod theorems
+pub mod lemmas

@@ -1,0 +1,124 @@
+-- The median tree: no tree of the list has a smaller sum, every earlier one has a larger, and the sums fit.
+-- Assumes nothing.
+use mathlib.Core.Path.{_≡_, refl, sym, _∙_, ap, subst}
+use mathlib.Core.Logic.{_≢_, _↔_}
+use mathlib.Core.List.{List, [], _∷_}
+use Prim.Native.Nat.{ℕ, zero, suc, _+_, _*_, _≤_, _<_}
+use native.Mathlib.Decide.{decLt, ℕ-discrete}
+use native.Mathlib.Omega.{arith}
+use borrow.Author.Tests.{lt-ltb, le-ltb}
+use lib.Dec.{ltb}
+use Rattle.sums.specs.theorems.SumLaws.{sum-mono, sum-const}
+use Rattle.shapes.specs.theorems.SameSplits.{same-splits-refl}
+use Rattle.tree_check.specs.Table.{tips}
+use Rattle.tree_check.specs.Refusals.{refusal, ifAccepted}
+use Rattle.tree_check.specs.theorems.RefusalLaws.{refusal-none, refusal-here, refusal-next, refusal-first, refusal-kept, accepted, if-accepted}
+use Rattle.tree_lists.specs.TreeLists.{treesMost, treesOf, treeAt, listOrder, IsTreeList}
+use Rattle.tree_lists.specs.theorems.ListCheck.{list-check, list-kept}
+use Rattle.counting.specs.Labels.{all}
+use Rattle.counting.specs.theorems.LabelLaws.{all-of}
+use Rattle.counting.specs.theorems.QuartetTheorem.{QuartetTheorem, quartet-theorem}
+use Rattle.metric.specs.theorems.TreesExchanged.{trees-exchanged}
+use Rattle.median_tree.specs.declared.median.NearestAnswer.{NearestAnswer}
+use Rattle.median_tree.specs.Least.{firstLeast}
+use Rattle.median_tree.specs.Nearest.{apart, sumTo, listCells, nearestOrder, nearestOf, refusedNearest, nearestAnswer}
+use Rattle.median_tree.specs.theorems.LeastLaws.{IsFirstLeast, is-first-least}
+
+-- ---- distances and sums
+
+-- from either of two trees the distance is the same
+pub apart-either : (list : List ℕ) (i j : ℕ) → apart list i j ≡ apart list j i
+unfolding apart
+apart-either list i j = trees-exchanged (all (tips (treeAt list 0))) (treeAt list j) (treeAt list i) .distance-stays
+
+module _ (list : List ℕ) (s : IsTreeList list) where
+  theorem : (i j : ℕ) → i < treesOf list → j < treesOf list
+      → QuartetTheorem (all (tips (treeAt list 0))) (treeAt list i) (treeAt list j)
+  theorem i j li lj = quartet-theorem (all (tips (treeAt list 0))) (treeAt list i) (treeAt list j) (s .tree i li) (s .tree j lj)
+      (s .same-tips i li ∙ sym (s .same-tips j lj)) (all-of (tips (treeAt list 0)) (tips (treeAt list i)) (s .same-tips i li))
+
+  -- a tree is at distance 0 from itself
+  pub apart-self : (i : ℕ) → i < treesOf list → apart list i i ≡ 0
+  unfolding apart
+  apart-self i l =
+      let q = theorem i i l l in
+      sym (q .distance-counts) ∙ q .distance-zero .1 (same-splits-refl _ _ _)
+
+  pub apart-most : (i j : ℕ) → i < treesOf list → j < treesOf list → apart list i j ≤ 174792640
+  unfolding apart
+  apart-most i j li lj =
+      let q = theorem i j li lj in
+      omega (arith, q .total, q .all-most, q .B-counts, q .C-counts, q .D-counts)
+
+  -- 16 · 174792640
+  pub sum-most : (i : ℕ) → i < treesOf list → sumTo list i ≤ 2796682240
+  unfolding sumTo
+  sum-most i l = omega (
+    arith,
+    sum-mono (treesOf list) (apart list i) (λ j. 174792640) (λ j m. apart-most i j l m),
+    sum-const (treesOf list) 174792640,
+    s .few-trees,
+  )
+
+  least-sum : IsFirstLeast (sumTo list) (treesOf list) (firstLeast (sumTo list) (treesOf list))
+  least-sum = go (treesOf list) (s .some-trees)
+    where
+      go : (k : ℕ) → 2 ≤ k → IsFirstLeast (sumTo list) k (firstLeast (sumTo list) k)
+      go zero l = absurd (omega arith)
+      go (suc k) l = is-first-least (sumTo list) k
+
+-- ---- the order
+
+module _ (list : List ℕ) (cells : ℕ) where
+  pub list-away : refusal (listOrder list) ≢ 0 → refusal (nearestOrder list cells) ≡ refusal (listOrder list)
+  unfolding nearestOrder
+  list-away d = refusal-first (listOrder list) _ d
+
+  then-cells : IsTreeList list → refusal (nearestOrder list cells) ≡ refusal ((9, ltb cells (listCells list)) ∷ [])
+  unfolding nearestOrder
+  then-cells s = refusal-kept (listOrder list) _ (list-kept list .1 s)
+
+  pub few-cells : IsTreeList list → cells < listCells list → refusal (nearestOrder list cells) ≡ 9
+  few-cells s l = then-cells s ∙ refusal-here 9 _ [] (lt-ltb cells (listCells list) l)
+
+  pub cells-enough : IsTreeList list → listCells list ≤ cells → refusal (nearestOrder list cells) ≡ 0
+  cells-enough s l = then-cells s ∙ refusal-next 9 _ [] (le-ltb cells (listCells list) l) ∙ refusal-none
+
+  -- accepted exactly if the list is one of 2 to 16 tree tables with the same n, and there are cells for the largest against itself
+  pub nearest-check : (refusal (nearestOrder list cells) ≡ 0) ↔ (IsTreeList list × (listCells list ≤ cells))
+  nearest-check = (
+    λ e. elim (ℕ-discrete (refusal (listOrder list)) 0) [
+      | yes z ↦ (let s = list-check list .0 z in (s, enough s e))
+      | no d ↦ absurd (d (sym (list-away d) ∙ e))
+    ],
+    λ h. cells-enough (h .0) (h .1),
+  )
+    where
+      enough : IsTreeList list → refusal (nearestOrder list cells) ≡ 0 → listCells list ≤ cells
+      enough s e = elim (decLt cells (listCells list)) [
+        | yes l ↦ absurd (omega (arith, few-cells s l, e))
+        | no n ↦ omega arith
+      ]
+
+  pub nearest-told : IsTreeList list → listCells list ≤ cells → nearestAnswer list cells ≡ nearestOf list
+  unfolding nearestAnswer
+  nearest-told s l = if-accepted _ _ _ (cells-enough s l)
+
+  -- ---- the tree that is told
+
+  own-number : (k : ℕ) → ifAccepted k (nearestOf list) (refusedNearest k) .refusal ≡ k
+  unfolding ifAccepted
+  own-number zero = refl
+  own-number (suc k) = refl
+
+  pub number-told : nearestAnswer list cells .refusal ≡ refusal (nearestOrder list cells)
+  unfolding nearestAnswer
+  number-told = own-number (refusal (nearestOrder list cells))
+
+  -- no tree of the list has a smaller sum, every earlier one has a larger, and the sum told is its own
+  pub none-nearer : nearestAnswer list cells .refusal ≡ 0 → (let r = nearestAnswer list cells in
+      IsFirstLeast (sumTo list) (treesOf list) (r .position) × (r .sum ≡ sumTo list (r .position)) × (r .sum ≤ 2796682240))
+  none-nearer e =
+      let h = nearest-check .0 (sym number-told ∙ e) in
+      let least = least-sum list (h .0) in
+      rw (nearest-told (h .0) (h .1)) (least, refl, sum-most list (h .0) _ (least .position))

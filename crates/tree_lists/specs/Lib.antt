@@ -1,0 +1,4 @@
+pub mod TreeLists
+pub mod CheckedList
+pub mod theorems
+pub mod lemmas
