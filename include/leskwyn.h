@@ -9,12 +9,12 @@
  * is aligned for its elements and not null, even where the number is 0. Nothing is kept after a call returns: a slice
  * has to live only as long as the call.
  *
- * Overlap. Tables and levels are only read, so the two of a pair may be one slice, or share words; and so are marks,
- * but for those of leskwyn_change_mark. The lent cells (`walk`, `out`, `copy`, `work`, and those marks) must not
- * overlap a table, marks or levels.
+ * Overlap. Tables, shelves and levels are only read, so the two of a pair may be one slice, or share words; and so are
+ * marks, but for those of leskwyn_change_mark. The lent cells (`walk`, `out`, `copy`, `work`, and those marks) must not
+ * overlap a table, a shelf, marks or levels.
  *
  * Threads. No globals, no allocation, no input or output. Calls from several threads at once need no lock, as long as
- * no two of them lend the same cells and nobody writes to a table, marks or levels that are being read.
+ * no two of them lend the same cells and nobody writes to a table, a shelf, marks or levels that are being read.
  * leskwyn_claim_sums, leskwyn_quartet_table, leskwyn_weighted_distance and leskwyn_view take up to 240 kB of stack,
  * leskwyn_triplet_table, leskwyn_holding, leskwyn_change_mark, leskwyn_canonical_copy, leskwyn_exchange_tallies and
  * leskwyn_exchange_distance up to 64 kB, the others up to 40 kB.
@@ -28,18 +28,23 @@
  *     and a table with it taken out has the same counts and distances.
  * Edge i (1 to m - 1) joins node i to its parent; the labels beyond it are those on node i's side, away from tip 0.
  *
+ * A shelf. 16-bit words: the number of trees, 2 to 16; then so many tables with the same n, end to end. Each takes
+ * 2 + 2m words by its own m, or all that remain if fewer. leskwyn_nearest takes a shelf.
+ *
  * Work. A call that counts two trees is lent cells of one byte each, one for each edge of the first tree with each edge
  * of the second: how many labels lie beyond both edges. They are 255 at most, since tip 0 lies beyond no edge.
  * leskwyn_evidence, leskwyn_holding and leskwyn_change_mark take no work. leskwyn_exchange_tallies takes no pair: it is
  * lent a cell for each edge of its tree with each edge of the same tree, and leaves 0 in all of them.
+ * leskwyn_nearest is lent as many for the largest tree of its shelf, and leaves 0 in all of them too.
  * leskwyn_exchange_distance takes neither a pair nor work.
  *
  * Marks. n bytes, one for each label from 0 on: LESKWYN_KEPT, 1, or LESKWYN_STRUCK, 0. A call that takes marks counts
  * kept labels only, in its cells too: its figures are those of the two trees cut down to the kept labels. Any labels
  * may be struck, tip 0 and even all of them; fewer than four kept labels give zero counts. With all marks 1 all labels
  * count. leskwyn_holding counts one label besides, kept or struck. leskwyn_triplet_table, leskwyn_evidence,
- * leskwyn_exchange_tallies and leskwyn_exchange_distance take no marks and know all labels. leskwyn_canonical_copy
- * counts nothing: it writes one tree cut down to its kept labels, of which there are to be two or more.
+ * leskwyn_exchange_tallies, leskwyn_exchange_distance and leskwyn_nearest take no marks and know all labels.
+ * leskwyn_canonical_copy counts nothing: it writes one tree cut down to its kept labels, of which there are to be two
+ * or more.
  *
  * Levels. n bytes, one for each label from 0 on, each 0 to 3; and a viewer has a level of 0 to 3. A label is visible
  * if its level is not above the viewer's, else it is hidden. leskwyn_view and leskwyn_view_topology are for viewers
@@ -70,6 +75,9 @@
  *               37   there are not n levels, or a level or the viewer's is above 3, where the call takes levels
  *                9   the work has fewer than (m - 1)(m' - 1) cells, m' being the second table's m
  *   of exchanges 9   the work has fewer than (m - 1)(m - 1) cells
+ *   of a shelf  38   there is no word 0, or it is not 2 to 16
+ *               39   a table is refused, the n differ, or words are left over
+ *                9   the work has fewer than (m - 1)(m - 1) cells, with the largest m
  *   of a weight 30   the kind is not 0 to 2, or the fraction of a part is not k/256 with a k from 0 to 256
  *   of a change 33   the label already is as wished
  *               34   the given counts do not add up to the number of sets of four kept labels, or a strike would take
@@ -139,6 +147,9 @@ typedef struct {
     uint16_t refusal;
     uint64_t visible, a, b, c, d, e, distance, first_splits, second_splits, common_splits, robinson_foulds;
 } leskwyn_view_answer;
+
+/* The refusal, or 0; the position of a tree on its shelf, from 0; the sum of its quartet distances to all. */
+typedef struct { uint16_t refusal, position; uint64_t sum; } leskwyn_nearest_answer;
 
 /* The refusal, or 0; how many sets of four of some kind are in each of these five cases. */
 typedef struct { uint16_t refusal; uint64_t a, b, c, d, e; } leskwyn_five_answer;
@@ -350,6 +361,14 @@ leskwyn_view_answer leskwyn_view(const uint16_t *first, size_t first_words,
 leskwyn_topology_answer leskwyn_view_topology(const uint16_t *table, size_t words,
                                               const uint8_t *levels, size_t levels_count, uint16_t viewer,
                                               uint16_t a, uint16_t b, uint16_t c, uint16_t d);
+
+/*
+ * The tree of a shelf that is nearest to all: the position, from 0, of the tree with the least sum of quartet distances
+ * to all trees of the shelf, and that sum. Of trees with equal sums it is the earliest. All labels count. Afterwards
+ * the first (m - 1)(m - 1) cells of the work, with the largest m of the shelf, are 0; later cells stay. What the cells
+ * held before plays no part. LESKWYN_WORK_CELLS are enough for every shelf. Refuses by 38, 39 and 9.
+ */
+leskwyn_nearest_answer leskwyn_nearest(const uint16_t *shelf, size_t words, uint8_t *work, size_t cells);
 
 #ifdef __cplusplus
 }

@@ -20,10 +20,13 @@
 //! What a viewer is told depends only on the visible labels and their topologies in each tree, as long as the tables, the
 //! levels and the work are accepted: a hidden label is like one that does not exist.
 //!
+//! [`nearest`] takes a *shelf*: the number of trees, 2 to 16, then their tables end to end. It tells the one with the least
+//! sum of quartet distances to all, over all labels.
+//!
 //! A call that counts two trees is lent *work*: cells of one byte each, one for each edge of the first tree with each edge
 //! of the second. They hold how many labels lie beyond both edges, 255 at most, since tip 0 lies beyond no edge.
 //! [`work_cells`] tells how many cells a pair takes. [`holding`] and [`change_mark`] take none. [`exchange_tallies`] is
-//! lent as many as its tree takes with itself, and leaves 0 in them.
+//! lent as many as its tree takes with itself, and [`nearest`] as many as its largest tree does; both leave 0 in them.
 //!
 //! Any words in slices of any length may be passed. The answer is the whole answer or a [`Refusal`]; a refused call
 //! changes no lent cell. No call allocates, keeps a slice, or touches anything global, so all may be made from several
@@ -301,6 +304,15 @@ pub struct View {
     pub common_splits: u64,
     /// The Robinson-Foulds distance, first + second - 2 common.
     pub robinson_foulds: u64,
+}
+
+/// The tree of a shelf that is nearest to all.
+#[derive(Clone, Copy, Debug, PartialEq, Eq, Hash)]
+pub struct Nearest {
+    /// Its position on the shelf, from 0.
+    pub position: u16,
+    /// The sum of its quartet distances to all trees of the shelf.
+    pub sum: u64,
 }
 
 /// Checks a tree table.
@@ -924,4 +936,36 @@ pub fn view_topology(table: &[u16], levels: &[u8], viewer: u16, [a, b, c, d]: [u
         raw::leskwyn_view_topology(table.as_ptr(), table.len(), levels.as_ptr(), levels.len(), viewer, a, b, c, d)
     };
     Topology::of(answer)
+}
+
+/// The tree of a shelf with the least sum of quartet distances to all trees of the shelf; of trees with equal sums the
+/// earliest.
+///
+/// The shelf's word 0 is the number of trees, 2 to 16. Their tables follow end to end, each of 2 + 2m words by its own m.
+/// All labels count. The first (m - 1)(m - 1) cells of the work, with the largest m, are 0 afterwards; later cells stay.
+/// [`WORK_CELLS`] are enough for every shelf.
+///
+/// ```
+/// use leskwyn::{nearest, Nearest, INNER as X};
+/// // Below tip 0: (1,(2,3,4)), (1,(2,(3,4))) and (2,(1,(3,4))). The second lies at 2 from either of the others.
+/// let q = [5, 7, 0, 0, 1, 1, 3, 3, 3, 0, X, 1, X, 2, 3, 4];
+/// let p = [5, 8, 0, 0, 1, 1, 3, 3, 5, 5, 0, X, 1, X, 2, X, 3, 4];
+/// let r = [5, 8, 0, 0, 1, 1, 3, 3, 5, 5, 0, X, 2, X, 1, X, 3, 4];
+/// let shelf = [&[3][..], &q, &p, &r].concat();
+/// let mut work = [9; 50];
+/// assert_eq!(nearest(&shelf, &mut work), Ok(Nearest { position: 1, sum: 4 }));
+/// assert_eq!((&work[..49], work[49]), (&[0; 49][..], 9));
+/// assert_eq!(nearest(&shelf, &mut work[..48]).unwrap_err().number(), 9);
+/// assert_eq!(nearest(&shelf[..50], &mut work).unwrap_err().number(), 39);
+/// assert_eq!(nearest(&[1, 2, 2, 0, 0, 0, 1], &mut work).unwrap_err().number(), 38);
+/// ```
+///
+/// # Errors
+///
+/// 38, 39 and 9, in this order.
+pub fn nearest(shelf: &[u16], work: &mut [u8]) -> Result<Nearest, Refusal> {
+    // SAFETY: each pointer and length are those of one live slice, and `work` is borrowed alone.
+    let answer = unsafe { raw::leskwyn_nearest(shelf.as_ptr(), shelf.len(), work.as_mut_ptr(), work.len()) };
+    let raw::NearestAnswer { refusal, position, sum } = answer;
+    Refusal::or(refusal, Nearest { position, sum })
 }

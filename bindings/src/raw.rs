@@ -162,6 +162,15 @@ pub struct ViewAnswer {
     pub robinson_foulds: u64,
 }
 
+/// The refusal, or 0; the position of the nearest tree on its shelf, and the sum of its quartet distances.
+#[repr(C)]
+#[derive(Clone, Copy, Debug, PartialEq, Eq)]
+pub struct NearestAnswer {
+    pub refusal: u16,
+    pub position: u16,
+    pub sum: u64,
+}
+
 /// A function of two tables, the marks and the work: each as a pointer and a number of elements.
 pub type PairFunction<T> =
     unsafe extern "C" fn(*const u16, usize, *const u16, usize, *const u8, usize, *mut u8, usize) -> T;
@@ -322,4 +331,6 @@ extern "C" {
         c: u16,
         d: u16,
     ) -> TopologyAnswer;
+
+    pub fn leskwyn_nearest(shelf: *const u16, words: usize, work: *mut u8, cells: usize) -> NearestAnswer;
 }

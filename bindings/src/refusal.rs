@@ -32,8 +32,9 @@ impl Refusal {
     }
 
     /// The number: 1 to 7 or 31 of a table or of the first of two; 101 to 107 or 131 of the second; 8 to 13; 15 of a file;
-    /// 30 of a weight; 32 of marks; 33 or 34 of a changed mark; 35 or 36 of a copy; 37 of levels. Where several rules are
-    /// broken, 31 stands between 6 and 7, 131 between 106 and 107, and 32 or 37 between 8 and 9.
+    /// 30 of a weight; 32 of marks; 33 or 34 of a changed mark; 35 or 36 of a copy; 37 of levels; 38 or 39 of a shelf.
+    /// Where several rules are broken, 31 stands between 6 and 7, 131 between 106 and 107, 32 or 37 between 8 and 9, and
+    /// 38 and 39 before 9.
     #[must_use]
     pub fn number(self) -> u16 {
         self.0.get()
@@ -65,6 +66,8 @@ impl Refusal {
             35 => "fewer than two labels are kept",
             36 => "the cells are fewer than the canonical copy has words",
             37 => "there are not n levels, or a level or the viewer's is above 3",
+            38 => "the shelf has no word 0, or it is not 2 to 16",
+            39 => "a tree of the shelf is refused, the n differ, or words are left over",
             _ => "a rule is broken",
         }
     }
