@@ -4,6 +4,7 @@
 mod copies;
 mod exchanges;
 mod one_label;
+mod shelves;
 mod views;
 
 use std::fmt::Debug;
@@ -26,6 +27,7 @@ use crate::{common_ancestors, cubic, pruned};
 pub use copies::copy_agrees;
 pub use exchanges::{exchange_agrees, tallies_agree};
 pub use one_label::{change_agrees, holding_agrees, reroot_agrees};
+pub use shelves::nearest_agrees;
 pub use views::{view_agrees, view_topology_agrees};
 
 /// Pairs of claims that are summed one by one; for more, S2 and S3 are read from the cases.

@@ -5,8 +5,9 @@
 //! edge and every node, `weights` has the weighted distance in whole numbers, `one_label` says what comes of a label
 //! that is struck or restored, `rerooted` hangs a tree from another tip, `pass_through` takes pass-through nodes out,
 //! `pruned` the tips of struck labels, `copied` makes a canonical copy from sets of labels, `exchanged` looks at every
-//! set of four of a tree with two labels exchanged, and `viewed` has what a viewer is told of visible labels. Nothing in
-//! these, in `cubic` and `expanded`, which follow document 001, or in `common_ancestors` comes from the library.
+//! set of four of a tree with two labels exchanged, `viewed` has what a viewer is told of visible labels, and `nearest` cuts
+//! a shelf and sums its distances. Nothing in these, in `cubic` and `expanded`, which follow document 001, or in
+//! `common_ancestors` comes from the library.
 //! `straight` is the library's own algorithm as a Rust programmer would write it, and is there to be timed.
 
 pub mod agree;
@@ -19,6 +20,7 @@ pub mod evidence;
 pub mod exchanged;
 pub mod expanded;
 pub mod generate;
+pub mod nearest;
 pub mod one_label;
 pub mod pass_through;
 pub mod pruned;
