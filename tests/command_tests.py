@@ -1,5 +1,5 @@
 #!/usr/bin/env python3
-"""Tests of the commands compare, why, influence, copy, same, exchange, view, view-topology, three, matrix and against, of
+"""Tests of the commands compare, why, influence, copy, same, exchange, view, view-topology, three, matrix, nearest and against, of
 docs/COMMANDS.md, and of what the commands say where things fail.
 
     python3 tests/command_tests.py
@@ -37,6 +37,7 @@ from cases.copies import copy_table, copy_text, kept_splits
 from cases.evidence import evidence
 from cases.exchanges import REFERENCE_TALLIES, exchanges
 from cases.influence import CASES, influence
+from cases.nearest import nearest, table_rows as nearest_rows
 from cases.newick import Tree, random_names, random_tree, sides_of, star_text, with_pass_through, written_tree
 from cases.pairs import pair_refusal, split_counts
 from cases.shapes import balanced, caterpillar
@@ -1940,6 +1941,175 @@ class Many(TreesTest):
             self.assertIsNone(progress)
 
 
+class Nearest(TreesTest):
+    """The tree nearest to all of several, by a look at every set of four of each two."""
+
+    FILES, SIDES = Three.FILES, Three.SIDES
+    CALL, MANY, STRUCK = ("counted by leskwyn_nearest, and pair by pair",
+                          "counted pair by pair: leskwyn_nearest takes 2 to 16 trees",
+                          "counted pair by pair: leskwyn_nearest strikes no populations")
+
+    def setUp(self) -> None:
+        super().setUp()
+        self.file("song.nwk", Three.SONG)
+
+    def nearest(self, *arguments: str, stdin: bytes | str = b"") -> Done:
+        return self.here("nearest", *arguments, stdin=stdin)
+
+    def words(self, told: dict[str, object]) -> list[str]:
+        """The text of all that is told, squeezed."""
+        others = len(told["rows"]) - 1
+        near = [told["rows"][at]["tree"] for at in told["as_near"]]
+        more = f" and {len(near) - 10} more" if len(near) > 10 else ""
+        lines = [f"struck: {', '.join(told['struck'])}", ""] if told.get("struck") else []
+        lines += [f"trees {others + 1}", f"populations {told['tips']}"]
+        lines += [f"kept {told['kept']} of {told['tips']}; sets of four count these alone"] if "kept" in told else []
+        lines += [f"sets of four {told['sets_of_four']}", "", f"nearest to all: {told['tree']}",
+                  f"summed distance {told['sum']} to {others} other tree{'s' * (others > 1)}",
+                  f"mean normalised distance {told['mean_normalised_distance']:.4f} "
+                  + ("summed distance / other trees / sets of four" if told["sets_of_four"] else "there are no sets of four")]
+        lines += [f"with the same sum: {', '.join(near[:10])}{more}"] if near else []
+        lines += ["", "tree summed distance mean normalised"]
+        lines += [f"{row['tree']} {row['sum']} {row['mean_normalised_distance']:.4f}" for row in told["rows"]]
+        by = self.CALL if told["counted_by"] == "leskwyn_nearest" else self.MANY if others >= 16 else self.STRUCK
+        return [*lines, "", by, ""]
+
+    def assert_nearest(self, expected: dict[str, object], *arguments: str, stdin: str = "") -> None:
+        """All three formats."""
+        text, tsv, told = (self.nearest(*arguments, "--format", one, stdin=stdin) for one in ("text", "tsv", "json"))
+        self.assertEqual([(done.returncode, done.stderr) for done in (text, tsv, told)], [(0, b"")] * 3)
+        self.assertEqual(squeezed(text.stdout.decode()), self.words(expected))
+        rows = nearest_rows(expected)
+        self.assertEqual([line.split("\t") for line in tsv.stdout.decode().removesuffix("\n").split("\n")],
+                         [list(rows[0]), *([",".join(cell) if isinstance(cell, list) else str(cell) for cell in row.values()]
+                                           for row in rows)])
+        found = json.loads(told.stdout)
+        self.assertEqual((found, told.stdout.count(b"\n")), (expected, 1))
+        self.assertEqual((list(found), list(found["rows"][0])), (list(expected), list(expected["rows"][0])))
+
+    def test_by_hand(self) -> None:
+        """docs/COMMANDS.md, 'nearest': feathers are 7 from both others, which are 4 from each other."""
+        done = self.nearest(*self.FILES)
+        self.assertEqual((done.returncode, done.stderr), (0, b""))
+        self.assertEqual(squeezed(done.stdout.decode()), [
+            "trees 3", "populations 6", "sets of four 15", "", "nearest to all: wings.nwk", "summed distance 11 to 2 other trees",
+            "mean normalised distance 0.3667 summed distance / other trees / sets of four", "with the same sum: song.nwk", "",
+            "tree summed distance mean normalised", "feathers.nwk 14 0.4667", "wings.nwk 11 0.3667", "song.nwk 11 0.3667", "",
+            "counted by leskwyn_nearest, and pair by pair", ""])
+        self.assertEqual(done.stdout, run_leskwyn("nearest", *self.FILES, cwd=self.folder).stdout)
+        told = json.loads(self.nearest(*self.FILES, "--strike", "Coll", "--format", "json").stdout)
+        self.assertEqual((told["position"], told["sum"], told["as_near"], told["counted_by"], told["struck"]),
+                         (0, 2, [1], "pairs", ["Coll"]))
+
+    def test_how_many_trees(self) -> None:
+        """Of 2, 3, 16 and 17 trees, some of them the same, in every format, with none, some and all populations struck."""
+        for count in (2, 3, 16, 17):
+            paths, sides = ((several * 6)[:count] for several in (self.FILES, self.SIDES))
+            places = [path if at < 3 else f"{path}({at // 3 + 1})" for at, path in enumerate(paths)]
+            for struck in (None, [], ["Coll"], ["Texel", "Azores"], NAMES):
+                self.file("struck.txt", "".join(f"{name}\n" for name in struck or ()))
+                options = [] if struck is None else ["--strike-file", "struck.txt"]
+                with self.subTest(count=count, struck=struck):
+                    self.assert_nearest(nearest(places, sides, NAMES, struck), *paths, *options)
+
+    def test_random_trees(self) -> None:
+        """In one file, on any number of threads."""
+        rng, ties = random.Random(105), set()
+        for case in range(40):
+            names, count = sorted(f"t{at}" for at in range(3 + case % 6)), 2 + case % 18
+            trees = [random_tree(rng, names, rng.choice([0, 0.3, 0.8])) for _ in range(count)]
+            trees[-1] = trees[0] if case % 4 == 0 else trees[-1]
+            self.file("all.nwk", "\n".join(written_tree(rng, with_pass_through(rng, tree, rng.randint(1, 9)) if case % 2 else tree)
+                                           for tree in trees))
+            struck = rng.sample(names, case % 3) if case % 3 else None
+            expected = nearest([f"all.nwk#{at + 1}" for at in range(count)], [sides_of(tree) for tree in trees], names, struck)
+            options = [*(f"--strike={name}" for name in struck or ()), *([f"--jobs={case % 4}"] if case % 4 else [])]
+            with self.subTest(case=case, options=options):
+                self.assert_nearest(expected, "all.nwk", *options)
+            ties.add(min(len(expected["as_near"]), 2))
+        self.assertEqual(ties, {0, 1, 2})
+
+    def test_every_way_of_giving_trees(self) -> None:
+        """As matrix reads them, and with its labels."""
+        self.file("all.nwk", FEATHERS + WINGS + Three.SONG)
+        for arguments, stdin in ((["all.nwk"], ""), (["-"], FEATHERS + WINGS), (["both.nwk", "song.nwk"], ""),
+                                 (["feathers.nwk", "-", "feathers.nwk"], WINGS), (["--common", "--", *self.FILES], "")):
+            square, told = (self.here(command, *arguments, stdin=stdin).stdout.decode() for command in ("matrix", "nearest"))
+            header, *rows = [line.split("\t") for line in square.splitlines()]
+            sums = [sum(map(int, row[1:])) for row in rows]
+            self.assertEqual([line.split()[-2:] for line in told.split("\n\n")[2].splitlines()[1:]],
+                             [[str(one), f"{one / (len(rows) - 1) / 15:.4f}"] for one in sums])
+            tsv = self.nearest("--format=tsv", *arguments, stdin=stdin).stdout.decode().splitlines()
+            self.assertEqual([line.split("\t")[1] for line in tsv[1:]], header[1:])
+
+    def test_common(self) -> None:
+        self.file("more.nwk", "((Azores,Zeist),(Bute,(Coll,Foula)),(Lundy,Texel));")
+        self.assert_message(self.nearest("feathers.nwk", "wings.nwk", "more.nwk"), 1, "only more.nwk has 'Zeist'; --common")
+        done = self.nearest("feathers.nwk", "wings.nwk", "more.nwk", "--common", "--format", "json")
+        self.assertEqual((done.returncode, done.stderr), (0, b"leskwyn: left out of more.nwk: 'Zeist'\n"))
+        self.assertEqual(json.loads(done.stdout), nearest(["feathers.nwk", "wings.nwk", "more.nwk"], self.SIDES, NAMES))
+
+    def test_names_as_they_are_written(self) -> None:
+        """A struck name, or a file, that could be read as several stands in quotes, and no field has a line break."""
+        for name in ("a, b.nwk", "c\nd.nwk", "e.nwk"):
+            self.file(name, "(('a, b',Parus_major),('c + d','e\nf'),g);")
+        paths, struck = ["e.nwk", "a, b.nwk", "c\nd.nwk"], ["--strike=a, b", "--strike=e\nf"]
+        lines = self.nearest(*paths, *struck).stdout.decode().split("\n")
+        self.assertEqual((lines[0], lines[10]), ("struck: 'a, b', e\\nf", "with the same sum: 'a, b.nwk', c\\nd.nwk"))
+        tsv = self.nearest(*paths, *struck, "--format=tsv").stdout.decode().splitlines()
+        self.assertEqual([line.split("\t")[1::8] for line in tsv[1:]],
+                         [[place, "'a, b','e\\nf'"] for place in ("e.nwk", "a, b.nwk", "c\\nd.nwk")])
+
+    def test_refused(self) -> None:
+        """Fewer than two trees have 38; else the status and the words are those of matrix."""
+        for arguments in (["feathers.nwk"], ["-"], ["feathers.nwk", "--strike", "Zeist"], ["feathers.nwk", "--common"]):
+            self.assert_message(self.nearest(*arguments, stdin=FEATHERS), 1, "refused 38: 1 tree; two or more are needed")
+        self.file("other.nwk", "(Azores,Bute,Zeist);")
+        self.file("twice.nwk", "(A,B,A);")
+        self.file("open.nwk", "(A,(B,C);")
+        self.file("pair.bin", packed(P, Q))
+        for third, *options in (["other.nwk"], ["twice.nwk"], ["open.nwk"], ["pair.bin"], ["song.nwk", "--strike", "Zeist"],
+                                ["song.nwk", "--strike", "Coll", "--strike", "Mull", "--strike", "Rum"]):
+            for trees in ([third, "feathers.nwk", "wings.nwk"], ["both.nwk", third]):
+                done, square = (self.here(command, *trees, *options) for command in ("nearest", "matrix"))
+                self.assertEqual((done.returncode, done.stdout, done.stderr), (1, b"", square.stderr))
+                self.assert_message(done, 1)
+
+    def test_figures_that_do_not_agree(self) -> None:
+        """A sentence and status 2, and no figure."""
+        answer = commands.counting._library.NearestAnswer(0, 2, 11)
+        with unittest.mock.patch.object(commands.counting._library, "nearest", lambda shelf, lent: answer):
+            self.assert_message(self.nearest(*self.FILES), 2, "internal error: leskwyn_nearest tells position 2 and the sum 11, "
+                                                              "and the pairs tell position 1 and the sum 11")
+
+    def test_wrong_usage(self) -> None:
+        for arguments, words in (([], "no files; one or more are needed"), (["-", "-"], "standard input can be read only once"),
+                                 (["-", "--strike-file", "-"], "standard input can be read only once"),
+                                 (["", "a"], "an empty file name"), (["a", "--format", "phylip"], "invalid choice: 'phylip'"),
+                                 (["a", "--jobs", "0"], "'0' is not a number of threads from 1 to 1024"),
+                                 (["a", "--weight", "1/2"], "unrecognized arguments: --weight"),
+                                 (["a", "--outgroup", "b"], "unrecognized arguments: --outgroup")):
+            self.assert_message(self.nearest(*arguments), 2, words, "leskwyn nearest --help tells the usage")
+        self.assert_message(self.nearest("feathers.nwk", "absent"), 2, "cannot read absent: No such file")
+
+    def test_the_page(self) -> None:
+        """The examples of docs/COMMANDS.md tell what a look at every set of four tells, and the keys are those of json."""
+        page = (ROOT / "docs" / "COMMANDS.md").read_text(encoding="utf-8").split("## nearest\n")[1].split("\n## ")[0]
+        text, tsv, told = re.findall(r"(?ms)^```\n(.*?)^```$", page)
+        places = [f"examples/{name}" for name in self.FILES]
+        expected, struck = nearest(places, self.SIDES, NAMES), nearest(places, self.SIDES, NAMES, ["Coll"])
+        self.assertEqual((squeezed(text), json.loads(told)), (self.words(expected), expected))
+        rows = nearest_rows(struck)
+        self.assertEqual([line.split("\t") for line in tsv.splitlines()],
+                         [list(rows[0]), *([*map(str, row.values())][:-1] + ["Coll"] for row in rows)])
+        keys = re.findall(r"`(\w+)`", " ".join(re.findall(r"(?m)^\| (`.*?) \|", page)))
+        self.assertEqual(keys, list(struck))
+        row = next(line for line in page.splitlines() if line.startswith("| `rows` "))
+        self.assertLessEqual(set(expected["rows"][0]), set(re.findall(r"`(\w+)`", row)))
+        for line in (self.CALL, self.MANY, self.STRUCK):
+            self.assertIn(line, " ".join(page.split()))
+
+
 class Usage(TreesTest):
     def test_wrong_usage(self) -> None:
         for command, *arguments in (["compare", "a", "b", "c"], ["compare", "-", "-"], ["compare", ""], ["compare", "--wrong"],
@@ -1952,7 +2122,8 @@ class Usage(TreesTest):
         self.assert_message(self.here("compare", "both.nwk", "--weight", "1/2", "--listing"), 2, "--listing and --weight exclude")
         self.assert_message(self.here("matrix", "both.nwk", "--weight", "1/2"), 2, "only 'weighted' takes a weight")
         self.assert_message(self.here("matrix", "both.nwk", "--measure", "weighted"), 2, "the weighted distance needs a weight")
-        commands = "compare, matrix, against, why, influence, copy, same, exchange, view, view-topology, three, table, show"
+        commands = ("compare, matrix, against, why, influence, copy, same, exchange, view, view-topology, three, nearest, table, "
+                    "show")
         self.assert_message(self.here("comprae"), 2, f"no command 'comprae'; the commands are {commands} (")
 
     def test_wrong_weights(self) -> None:
@@ -1972,7 +2143,7 @@ class Usage(TreesTest):
         self.assert_message(self.here("compare", "both.nwk", "--weight", "-0.5"), 2, "0/256 (0.0) and 1/256 (0.00390625)")
 
     def test_unreadable(self) -> None:
-        for command in ("compare", "matrix", "against", "influence"):
+        for command in ("compare", "matrix", "against", "influence", "nearest"):
             self.assert_message(self.here(command, "feathers.nwk", "absent"), 2, "cannot read absent: No such file")
             self.assert_message(self.here(command, "feathers.nwk", "."), 2, "cannot read .: Is a directory")
         self.assert_message(self.here("why", "feathers.nwk", "absent", "a", "b", "c", "d"), 2, "cannot read absent: No such file")
@@ -1997,7 +2168,7 @@ class Usage(TreesTest):
         version = f"leskwyn (Leskwyn) {leskwyn.__version__}\n".encode()
         self.assertEqual(run_leskwyn("--version").stdout, version)
         for command in ("compare", "matrix", "against", "why", "influence", "copy", "same", "exchange", "view", "view-topology",
-                        "three", "table", "show"):
+                        "three", "nearest", "table", "show"):
             for arguments, word in ((["--version"], version), (["--help"], b"usage: leskwyn " + command.encode())):
                 done = run_leskwyn(command, *arguments)
                 self.assertEqual((done.returncode, done.stderr), (0, b""))
@@ -2011,7 +2182,7 @@ class Surroundings(TreesTest):
 
     SEEN = ["--levels", str(ROOT / "examples" / "levels.tsv"), "--viewer", "3"]
     WRITERS = [["compare", "both.nwk"], ["compare", "--listing", "both.nwk"], ["compare", "--listing", "--tables", "both.nwk"],
-               ["matrix", "both.nwk"], ["against", "feathers.nwk", "wings.nwk"],
+               ["matrix", "both.nwk"], ["nearest", "both.nwk"], ["against", "feathers.nwk", "wings.nwk"],
                ["why", "both.nwk", "Azores", "Bute", "Coll", "Foula"], ["influence", "both.nwk"], ["copy", "wings.nwk"],
                ["same", "both.nwk"], ["same", "wings.nwk", "wings.nwk"], ["exchange", "wings.nwk"],
                ["view", "both.nwk", *SEEN], ["view-topology", "wings.nwk", "Azores", "Bute", "Coll", "Foula", *SEEN], ["--help"],
@@ -2204,7 +2375,7 @@ class Pages(unittest.TestCase):
         modules = [("docs/COMMANDS.md", blocks), ("leskwyn", leskwyn.__doc__),
                    *((name, getattr(leskwyn, name).__doc__)
                      for name in ("compare", "matrix", "why", "influence", "canonical_copy", "same", "exchange_tallies",
-                                  "exchange_distance", "view", "view_topology", "three_trees"))]
+                                  "exchange_distance", "view", "view_topology", "three_trees", "nearest"))]
         runner = doctest.DocTestRunner(verbose=False)
         with inside(ROOT), contextlib.redirect_stdout(io.StringIO()) as said:
             for name, content in modules:

@@ -447,7 +447,7 @@ class LeskwynBuilding(LeskwynDoor, Building):
         self.with_nothing_to_build_with()
         super().test_help_and_version_build_nothing()
         for command in ("compare", "against", "matrix", "why", "influence", "copy", "same", "exchange", "view", "view-topology",
-                        "three", "table", "show"):
+                        "three", "nearest", "table", "show"):
             for words in (["-h"], ["--help"], ["a", "--help"]):
                 done = self.run_door(command, *words)
                 self.assertEqual((done.returncode, done.stderr), (0, b""))
@@ -481,6 +481,9 @@ class LeskwynBuilding(LeskwynDoor, Building):
                             (["three", "a", "b"], "2 files; one or three are needed"),
                             (["three", "a", "b", "c", "--weight", "0.3"], "'0.3' is no weight"),
                             (["three", "a.nwk", "-", "b.nwk"], "cannot read a.nwk: No such file"),
+                            (["nearest"], "no files; one or more are needed"),
+                            (["nearest", "a", "--jobs", "0"], "not a number of threads"),
+                            (["nearest", "-", "a.nwk"], "cannot read a.nwk: No such file"),
                             (["table"], "0 tree files;"), (["show", "a", "--nmaes", "b"], "--nmaes"),
                             (["compare", "a.nwk", "-"], "cannot read a.nwk: No such file"),
                             (["matrix", "-", "the house"], "cannot read the house: Is a directory"),

@@ -9,8 +9,8 @@ to a brute force over sets of four that looks at the edges of named trees, and t
 lowest common ancestors; where names are struck, over sets of four of trees that are cut down here; the evidence for four tips to a
 search over all edges and all nodes; the influence of each tip to a look at every set of four that holds it; canonical copies to
 nested sets of names; exchanges to every set of four with two names exchanged, and to comparisons of the two trees; views to every
-set of four visible names, and to each other where only hidden tips differ; three trees side by side to every set of four of each
-two; Robinson-Foulds distances to DendroPy and to ETE where they are installed.
+set of four visible names, and to each other where only hidden tips differ; three trees side by side, and the tree nearest to all of
+several, to every set of four of each two; Robinson-Foulds distances to DendroPy and to ETE where they are installed.
 """
 import ctypes
 import dataclasses
@@ -43,6 +43,7 @@ from cases.copies import copy_table, copy_text, kept_splits
 from cases.evidence import Witness, evidence, parted
 from cases.exchanges import REFERENCE_TALLIES, bounds, exchange_distances, exchanges, tallies, tally_of
 from cases.influence import influence
+from cases.nearest import nearest, sums_of
 from cases.newick import Tree, parting, random_names, random_tree, sides_of, star_text, with_pass_through, written_tree
 from cases.pairs import climb, needed, split_counts
 from cases.quartets import OUTSIDE_PAIRS, REFERENCE_PAIRS, cases_by_pairs
@@ -2452,6 +2453,215 @@ class Three(unittest.TestCase):
                 leskwyn.three_trees(*given)
 
 
+class LibraryNearest(unittest.TestCase):
+    """What the library tells of a shelf of trees, by a look at every set of four labels; the cells, and the order of refusals."""
+
+    def asked(self, shelf: list[int], cells: int) -> tuple[tuple[int, int, int], list[int]]:
+        """The refusal, the position and the sum, and the cells, which hold `pattern` before."""
+        lent = (ctypes.c_uint8 * cells)(*pattern(cells))
+        answer = _library.nearest(_library.words(shelf), lent)
+        return (answer.refusal, answer.position, answer.sum), list(lent)
+
+    def shelf(self, *tables: Table) -> list[int]:
+        return [len(tables), *itertools.chain(*tables)]
+
+    def test_random_trees(self) -> None:
+        """Of 2 to 16 trees with one n, of which some are the same. The cells of the largest against itself are 0 then, and later
+        ones stay."""
+        rng, counts, ties = random.Random(101), set(), 0
+        for case in range(60):
+            n, count = 2 + case % 8, 2 + case % 15
+            tables = [randomly_chained(rng, t) if rng.random() < 0.3 else t for t in (random_table(rng, n) for _ in range(count))]
+            if case % 3 == 0:
+                tables[rng.randrange(count)] = renumbered(tables[0])
+            sums, size = sums_of([sides_of_table(t) for t in tables], range(n)), max(t[1] - 1 for t in tables) ** 2
+            answer, cells = self.asked(self.shelf(*tables), size + 2)
+            self.assertEqual(answer, (0, sums.index(min(sums)), min(sums)), tables)
+            self.assertEqual(cells, [0] * size + pattern(size + 2)[size:])
+            counts.add(count)
+            ties += sums.count(min(sums)) > 1 and min(sums) > 0
+        self.assertEqual(counts, set(range(2, 17)))
+        self.assertGreater(ties, 5)
+
+    def test_reference_tables(self) -> None:
+        """P and Q are 2 apart, and R is 2 from P and 4 from Q."""
+        self.assertEqual([leskwyn_distance(*two) for two in ((P, Q), (P, R), (Q, R))], [2, 2, 4])
+        for tables, expected in (((P, Q), (0, 2)), ((Q, P), (0, 2)), ((Q, R, P), (2, 4)), ((Q, Q, P), (0, 2)), ((P, P), (0, 0)),
+                                 ((R, Q, Q, R), (0, 8)), ((Q, R, *[P] * 14), (2, 4)), ((TWO, TWO), (0, 0)),
+                                 ((THREE,) * 16, (0, 0))):
+            self.assertEqual(self.asked(self.shelf(*tables), 49)[0], (0, *expected))
+
+    def test_large_trees(self) -> None:
+        """Sixteen trees of 256 tips, of which one is a star: the others are the same but for pass-through nodes."""
+        rng = random.Random(102)
+        worm = caterpillar(256)
+        tables = [star(256), worm, *(randomly_chained(rng, worm) for _ in range(14))]
+        size = max(t[1] - 1 for t in tables) ** 2
+        self.assertEqual(self.asked(self.shelf(*tables), size)[0], (0, 1, math.comb(256, 4)))
+        self.assertEqual(self.asked(self.shelf(*tables), size - 1)[0], (9, 0, 0))
+
+    def test_refusals(self) -> None:
+        """38, then 39, then 9: a refused call answers zeros, and every cell stays."""
+        short = [len(P), *P[1:]]
+        for shelf, number in (([], 38), ([0], 38), ([1, *P], 38), ([17, *P * 17], 38), ([65535, *P], 38), ([17], 38),
+                              ([2], 39), ([2, *P], 39), ([3, *P, *Q], 39), ([2, *P, *Q, 0], 39), ([2, *P, *Q, *R], 39),
+                              ([2, *P, *THREE], 39), ([2, *P, *Q[:-1]], 39), ([2, *P, 5], 39), ([2, *short, *Q], 39),
+                              ([2, 5], 39), ([2, *P, *Q], 0), ([16, *P * 16], 0)):
+            for cells in (1, 48, 49, 50):
+                expected = number or (9 if cells < 49 else 0)
+                answer, left = self.asked(shelf, cells)
+                self.assertEqual(answer[0], expected, (shelf, cells))
+                if expected:
+                    self.assertEqual((answer[1:], left), ((0, 0), pattern(cells)))
+        for wrong, at in itertools.product(damaged(P), range(3)):
+            tables = [Q, R]
+            tables.insert(at, wrong)
+            self.assertEqual(self.asked(self.shelf(*tables), 49), ((39, 0, 0), pattern(49)), (wrong, at))
+
+
+def leskwyn_distance(t: Table, u: Table) -> int:
+    """How many sets of four labels two tables part differently."""
+    one, _ = sums_of([sides_of_table(t), sides_of_table(u)], range(t[0]))
+    return one
+
+
+class Nearest(unittest.TestCase):
+    """The tree nearest to all of several, by a look at every set of four kept names."""
+
+    # Two butterflies of four tips, and a star: each is 1 from the others.
+    FOUR = ["((a,b),(c,d));", "((a,c),(b,d));", "(a,b,c,d);"]
+
+    def assert_told(self, found: leskwyn.NearestTree, expected: dict[str, typing.Any]) -> None:
+        """Everything, and in its order."""
+        told = found.as_dict()
+        self.assertEqual(told, expected)
+        self.assertEqual((list(told), [list(row) for row in told["rows"]]),
+                         (list(expected), [list(row) for row in expected["rows"]]))
+
+    def test_random_trees(self) -> None:
+        """In texts and in objects, 2 to 18 of them, with pass-through nodes or without; with none, some, or nearly all tips struck.
+        Sums are met that several trees have."""
+        rng, counts, ties = random.Random(103), set(), set()
+        for case in range(51):
+            count = 2 + case % 17
+            plain = random_named_trees(rng, 3 + case % 6, count)
+            plain[-1] = plain[case % count] if case % 4 == 0 else plain[-1]
+            named = [with_pass_through(rng, tree, rng.randint(1, 8)) if case % 3 == 0 else tree for tree in plain]
+            texts, names = [written_tree(rng, tree) for tree in named], sorted(plain[0].name.values())
+            sides, places = [sides_of(tree) for tree in plain], [f"tree {at + 1}" for at in range(count)]
+            for struck in (None, [], rng.sample(names, 1) * 2, rng.sample(names, len(names) - 2), names):
+                with self.subTest(case=case, struck=struck, texts=texts):
+                    found, expected = leskwyn.nearest(texts, struck=struck), nearest(places, sides, names, struck)
+                    self.assert_told(found, expected)
+                    in_objects = leskwyn.nearest(map(in_nodes, named), struck=struck and iter(struck), jobs=1 + case % 3)
+                    self.assertEqual(in_objects, found)
+                    whole = leskwyn.nearest("".join(texts), struck=struck)
+                    self.assertEqual([row.tree for row in whole.rows], [f"tree 1#{at + 1}" for at in range(count)])
+                    self.assertEqual([row.sum for row in whole.rows], [row.sum for row in found.rows])
+                    if found.sum:
+                        ties.add(min(len(found.as_near), 2))
+            counts.add(count)
+        self.assertEqual((counts, ties), (set(range(2, 19)), {0, 1, 2}))
+
+    def test_which_way(self) -> None:
+        """One call of the library for 2 to 16 trees of which nothing is struck; else the pairs alone. Each pair is counted once."""
+        for count, struck, way in ((2, None, "leskwyn_nearest"), (3, [], "leskwyn_nearest"), (16, None, "leskwyn_nearest"),
+                                   (17, None, "pairs"), (3, ["a"], "pairs"), (17, ["a"], "pairs")):
+            calls = {name: unittest.mock.patch.object(_library, name, wraps=getattr(_library, name))
+                     for name in ("nearest", "quartet_table")}
+            with calls["nearest"] as one_call, calls["quartet_table"] as pair:
+                found = leskwyn.nearest((self.FOUR * 6)[:count], struck=struck)
+            self.assertEqual((found.counted_by, one_call.call_count, pair.call_count),
+                             (way, way == "leskwyn_nearest", math.comb(count, 2)))
+
+    def test_as_the_square_has_it(self) -> None:
+        rng = random.Random(104)
+        for count in (2, 9, 16, 17, 30):
+            texts = [written_tree(rng, tree) for tree in random_named_trees(rng, 24, count)]
+            sums = [sum(row) for row in leskwyn.matrix(texts)]
+            found = leskwyn.nearest(texts)
+            self.assertEqual((found.position, found.sum, [row.sum for row in found.rows]), (sums.index(min(sums)), min(sums), sums))
+            means = [sum(row) / (count - 1) for row in leskwyn.matrix(texts, normalised=True)]
+            for row, mean in zip(found.rows, means, strict=True):
+                self.assertAlmostEqual(row.mean_normalised_distance, mean, 12)
+
+    def test_by_hand(self) -> None:
+        butterfly, other, fan = self.FOUR
+        for given, position, total, sums, as_near in (
+                ([butterfly, other], 0, 1, [1, 1], (1,)), ([other, other], 0, 0, [0, 0], (1,)),
+                (self.FOUR, 0, 2, [2, 2, 2], (1, 2)), ([butterfly, other, other], 1, 1, [2, 1, 1], (2,)),
+                ([fan, butterfly, fan, other, fan], 0, 2, [2, 4, 2, 4, 2], (2, 4)),
+                ([butterfly] + [fan] * 15, 1, 1, [15] + [1] * 15, tuple(range(2, 16))),
+                ([butterfly] + [fan] * 16, 1, 1, [16] + [1] * 16, tuple(range(2, 17)))):
+            found = leskwyn.nearest(given)
+            self.assertEqual((found.position, found.sum, [row.sum for row in found.rows], found.as_near),
+                             (position, total, sums, as_near))
+            self.assertEqual((found.tree, found.mean_normalised_distance), (f"tree {position + 1}", total / (len(given) - 1)))
+        # Of no sets of four all sums are 0, and the first tree is named.
+        for given, struck in ((["(a,b);"] * 3, None), (self.FOUR, ["d"]), (self.FOUR, list("abcd")), (["(a,(b,c));"] * 17, [])):
+            found = leskwyn.nearest(given, struck=struck)
+            self.assertEqual((found.position, found.sum, found.sets_of_four, found.mean_normalised_distance), (0, 0, 0, 0.0))
+            self.assertEqual(found.as_near, tuple(range(1, len(given))))
+
+    def test_places(self) -> None:
+        """Of files and texts; one that stands again gets a number."""
+        found = leskwyn.nearest([FEATHERS, WINGS, FEATHERS, FEATHERS.read_text() * 2])
+        self.assertEqual([row.tree for row in found.rows], [str(FEATHERS), str(WINGS), f"{FEATHERS}(2)", "tree 4#1", "tree 4#2"])
+        self.assertEqual((found.position, found.sum, found.as_near), (0, 7, (2, 3, 4)))
+
+    def test_common(self) -> None:
+        given = ["((a,b),(c,d,x));", "((a,c),(b,d),(y,z));", "(a,b,c,d,x);"]
+        with self.assertRaisesRegex(leskwyn.Refusal, "^the trees have different tips: only tree 1 has 'x'; only tree 2 has "):
+            leskwyn.nearest(given)
+        found = leskwyn.nearest(given, common=True)
+        self.assertEqual((found.tips, [row.sum for row in found.rows]), (4, [2, 2, 2]))
+
+    def test_figures_that_do_not_agree(self) -> None:
+        """The library's call and the pairs are held to each other, in the position and in the sum."""
+        for refusal, position, total, words in (
+                (0, 1, 2, "position 1 and the sum 2, and the pairs tell position 0 and the sum 2"),
+                (0, 0, 1, "position 0 and the sum 1, and the pairs tell position 0 and the sum 2")):
+            answer = _library.NearestAnswer(refusal, position, total)
+            with (unittest.mock.patch.object(_library, "nearest", lambda shelf, lent: answer),
+                  self.assertRaises(leskwyn.Trouble) as raised):
+                leskwyn.nearest(self.FOUR)
+            self.assertEqual(str(raised.exception), f"internal error: leskwyn_nearest tells {words}")
+        for number in (9, 38, 39):
+            with (unittest.mock.patch.object(_library, "nearest", lambda shelf, lent: _library.NearestAnswer(number, 0, 0)),
+                  self.assertRaises(leskwyn.Refusal) as raised):
+                leskwyn.nearest(self.FOUR)
+            self.assertEqual(raised.exception.number, number)
+
+    def test_refusals(self) -> None:
+        """Fewer than two trees get 38; else as matrix refuses them, with the same words."""
+        for given, count in (([], "0 trees"), (self.FOUR[:1], "1 tree"), (self.FOUR[0], "1 tree"), (FEATHERS, "1 tree")):
+            for options in ({}, {"common": True}, {"struck": ["Zeist"]}):
+                with self.assertRaises(leskwyn.Refusal) as raised:
+                    leskwyn.nearest(given, **options)
+                self.assertEqual((raised.exception.number, raised.exception.reason), (38, f"{count}; two or more are needed"))
+        for given, options in ((["(a,b);", "(a,c);"], {}), (["(a,b);", "(a,(b);"], {}), (["(a,b,a);"] * 17, {}), ("(a,b);(a,b", {}),
+                               ([FEATHERS, WINGS], {"struck": ["Zeist"]}), ([FEATHERS, WINGS], {"struck": [5]}),
+                               ([FEATHERS, ROOT / "examples" / "p-q.bin"], {}), (["(a,b);", "(c,d);"], {"common": True})):
+            told = []
+            for call in (leskwyn.matrix, leskwyn.nearest):
+                with self.assertRaises(leskwyn.Refusal) as raised:
+                    call(given, **options)
+                told.append((raised.exception.number, raised.exception.reason))
+            self.assertEqual(told[0], told[1])
+
+    def test_wrong_arguments(self) -> None:
+        """Told before a file is read."""
+        absent = pathlib.Path("absent.nwk")
+        with self.assertRaisesRegex(ValueError, "^jobs is 0, not 1 or more$"):
+            leskwyn.nearest([absent, WINGS], jobs=0)
+        with self.assertRaisesRegex(TypeError, "^struck is a str; names are needed, as a list$"):
+            leskwyn.nearest([absent, WINGS], struck="Coll")
+        with self.assertRaisesRegex(leskwyn.Trouble, "cannot read absent.nwk"):
+            leskwyn.nearest([FEATHERS, absent])
+        with self.assertRaisesRegex(TypeError, "^tree 2: a tree is Newick text, a path, .*, not NoneType$"):
+            leskwyn.nearest([FEATHERS, None])
+
+
 class Weights(unittest.TestCase):
     """The spellings of a weight, and the sentence that turns another one away."""
 
@@ -2543,6 +2753,12 @@ class Answers(unittest.TestCase):
                 setattr(part, field, None)
         self.assertEqual(json.loads(json.dumps(beside.as_dict())), beside.as_dict())
         self.assertEqual(len({beside, leskwyn.three_trees(FEATHERS, WINGS, FEATHERS, weight=0.5, struck=["Foula"])}), 1)
+        median_tree = leskwyn.nearest([FEATHERS, WINGS, FEATHERS], struck=["Foula"])
+        for part, field in ((median_tree, "position"), (median_tree.rows[0], "sum")):
+            with self.assertRaises(dataclasses.FrozenInstanceError):
+                setattr(part, field, None)
+        self.assertEqual(json.loads(json.dumps(median_tree.as_dict())), median_tree.as_dict())
+        self.assertEqual(len({median_tree, leskwyn.nearest([FEATHERS, WINGS, FEATHERS], struck=["Foula"])}), 1)
 
     def test_errors(self) -> None:
         with tempfile.NamedTemporaryFile() as file:
@@ -2577,7 +2793,7 @@ class Answers(unittest.TestCase):
             self.assertTrue(getattr(leskwyn, name).__doc__, name)
         for answer in (leskwyn.Comparison, leskwyn.Evidence, leskwyn.Witness, leskwyn.Influence, leskwyn.Holding, leskwyn.Dropped,
                        leskwyn.CanonicalCopy, leskwyn.Exchange, leskwyn.ExchangeTallies, leskwyn.View, leskwyn.Topology,
-                       leskwyn.ThreeTrees, leskwyn.TreePair):
+                       leskwyn.ThreeTrees, leskwyn.TreePair, leskwyn.NearestTree, leskwyn.TreeSum):
             for field in dataclasses.fields(answer):
                 self.assertRegex(answer.__doc__, rf"(?m)^ *(\w+, )*{field.name}\b")
 

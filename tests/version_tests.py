@@ -74,7 +74,7 @@ class Versions(unittest.TestCase):
                    if path.suffix in (".py", ".toml") and newest() in path.read_text(encoding="utf-8")]
         self.assertEqual(telling, ["__init__.py"])
         for command in ("", "compare", "against", "matrix", "why", "influence", "copy", "same", "exchange", "view", "view-topology",
-                        "three", "table", "show"):
+                        "three", "nearest", "table", "show"):
             told = printed("env", "PYTHONPATH=python", sys.executable, "-B", "-m", "leskwyn", *command.split(), "--version")
             self.assertEqual(told, f"leskwyn (Leskwyn) {newest()}\n")
 

@@ -8,6 +8,7 @@
 compare(a, b)        the figures of two trees, a Comparison
 against(a, trees)    one tree against many, a list of them
 matrix(trees)        the distances of all pairs, a square of numbers
+nearest(trees)       the tree nearest to all of them, a NearestTree
 three_trees(a, b, c) three trees side by side, and which two are closest, a ThreeTrees
 why(a, b, names)     why two trees part four populations alike or differently, an Evidence
 influence(a, b)      which populations drive the distance of two trees, an Influence
@@ -31,19 +32,20 @@ __version__ = "0.15.0"
 
 # This file and __main__.py are written so that old Pythons can read them, and say a sentence.
 if sys.version_info >= (3, 10):
-    from leskwyn.api import (against, canonical_copy, compare, exchange_distance, exchange_tallies, influence, matrix, same,
-                             three_trees, view, view_topology, why)
+    from leskwyn.api import (against, canonical_copy, compare, exchange_distance, exchange_tallies, influence, matrix, nearest,
+                             same, three_trees, view, view_topology, why)
     from leskwyn.copies import CanonicalCopy
     from leskwyn.errors import LeskwynError, Refusal, Trouble
     from leskwyn.evidence import Evidence, Witness
     from leskwyn.exchanges import Exchange, ExchangeTallies
     from leskwyn.figures import Comparison
     from leskwyn.holding import Dropped, Holding, Influence
+    from leskwyn.median import NearestTree, TreeSum
     from leskwyn.three import ThreeTrees, TreePair
     from leskwyn.views import Topology, View
     __all__ = ["CanonicalCopy", "Comparison", "Dropped", "Evidence", "Exchange", "ExchangeTallies", "Holding", "Influence",
-               "LeskwynError", "Refusal", "ThreeTrees", "Topology", "TreePair", "Trouble", "View", "Witness", "against",
-               "canonical_copy", "compare", "exchange_distance", "exchange_tallies", "influence", "matrix", "same", "three_trees",
-               "view", "view_topology", "why"]
+               "LeskwynError", "NearestTree", "Refusal", "ThreeTrees", "Topology", "TreePair", "TreeSum", "Trouble", "View",
+               "Witness", "against", "canonical_copy", "compare", "exchange_distance", "exchange_tallies", "influence", "matrix",
+               "nearest", "same", "three_trees", "view", "view_topology", "why"]
 elif sys.argv[:1] not in (["-m"], ["-c"]):
     raise ImportError("leskwyn needs Python 3.10 or newer; this is Python %d.%d" % sys.version_info[:2])

@@ -70,6 +70,10 @@ class ViewAnswer(ctypes.Structure):
                                                        "second_splits", "common_splits", "robinson_foulds"))]
 
 
+class NearestAnswer(ctypes.Structure):
+    _fields_ = [("refusal", ctypes.c_uint16), ("position", ctypes.c_uint16), ("sum", ctypes.c_uint64)]
+
+
 class TopologyAnswer(ctypes.Structure):
     _fields_ = [(name, ctypes.c_uint16) for name in ("refusal", "butterfly", "partner")]
 
@@ -94,12 +98,13 @@ PAIR_CALLS = {"leskwyn_claim_sums": PairCall(ClaimSums), "leskwyn_quartet_table"
               "leskwyn_evidence": PairCall(Evidence, is_marked=False, has_work=False, besides=[ctypes.c_uint16] * 4),
               "leskwyn_holding": PairCall(FiveCounts, has_work=False, besides=[ctypes.c_uint16]),
               "leskwyn_change_mark": PairCall(FiveCounts, has_work=False, besides=[ctypes.c_uint64] * 5 + [ctypes.c_uint16] * 2)}
-# The other calls: what each answers, and what it takes after its first table.
+# The other calls: what each answers, and what it takes after its first table, or after a shelf of tables.
 OTHER_CALLS = {"leskwyn_canonical_copy": (CopyAnswer, SLICE_OF_BYTES + SLICE_OF_WORDS),
                "leskwyn_exchange_tallies": (ExchangeTallies, SLICE_OF_BYTES),
                "leskwyn_exchange_distance": (ExchangeDistance, [ctypes.c_uint16] * 2),
                "leskwyn_view": (ViewAnswer, SLICE_OF_WORDS + SLICE_OF_BYTES + [ctypes.c_uint16] + SLICE_OF_BYTES),
-               "leskwyn_view_topology": (TopologyAnswer, SLICE_OF_BYTES + [ctypes.c_uint16] * 5)}
+               "leskwyn_view_topology": (TopologyAnswer, SLICE_OF_BYTES + [ctypes.c_uint16] * 5),
+               "leskwyn_nearest": (NearestAnswer, SLICE_OF_BYTES)}
 
 
 class Words(typing.NamedTuple):
@@ -269,4 +274,11 @@ def view_topology(table: Words, given: Levels, viewer: int, labels: Sequence[int
     n or more as the largest word is."""
     asked = [fitting(label, MOST_WORD) for label in labels]
     answer: TopologyAnswer = library().leskwyn_view_topology(*table, *given, fitting(viewer, MOST_WORD), *asked)
+    return answer
+
+
+def nearest(shelf: Words, lent: Cells) -> NearestAnswer:
+    """The position, from 0, of the tree with the least summed quartet distance to all trees on a shelf, and that sum, or a refusal.
+    The shelf is the number of trees, 2 to 16, then their tables. All labels count."""
+    answer: NearestAnswer = library().leskwyn_nearest(*shelf, lent, len(lent))
     return answer

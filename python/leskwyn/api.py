@@ -1,19 +1,20 @@
-"""What Python callers use: compare, against, matrix, three_trees, why, influence, canonical_copy, same, exchange_tallies,
+"""What Python callers use: compare, against, matrix, nearest, three_trees, why, influence, canonical_copy, same, exchange_tallies,
 exchange_distance, view and view_topology."""
 import contextlib
 from collections.abc import Iterable, Iterator, Mapping, Sequence
 
-from leskwyn import _library, copies, counting, evidence, exchanges, files, holding, three, views
+from leskwyn import _library, copies, counting, evidence, exchanges, files, holding, median, three, views
 from leskwyn._library import Words
 from leskwyn.copies import CanonicalCopy, Sameness
-from leskwyn.counting import Number
+from leskwyn.counting import Number, Progress
 from leskwyn.errors import Refusal
 from leskwyn.evidence import Evidence
 from leskwyn.exchanges import ExchangeTallies
 from leskwyn.figures import Comparison
 from leskwyn.holding import Influence
 from leskwyn.labels import labels_given, labels_of_tips, labels_struck, levels_of_tips, outgroup_first, tips_struck
-from leskwyn.sources import ComparisonFile, Given, is_comparison_file, named_file, trees_given, trees_of_bytes
+from leskwyn.median import NearestTree
+from leskwyn.sources import ComparisonFile, Given, is_comparison_file, named_file, told_apart, trees_given, trees_of_bytes
 from leskwyn.tables import ORDINALS, tables_of_file
 from leskwyn.three import ThreeTrees
 from leskwyn.trees import Placed, check_same_names, checked, labels_of_names, pruned, table_of
@@ -93,6 +94,25 @@ def matrix(trees: Iterable[Given], *, measure: str = "quartet", normalised: bool
     labels = labels_of_names(names)
     tables = [table_of(tree.tree, labels) for tree in held]
     return counting.distances(tables, measure, normalised, threads(jobs), weight=given, struck=optional_struck(words, names))
+
+
+def nearest(trees: Iterable[Given], *, common: bool = False, jobs: int | None = None,
+            struck: Iterable[str | int] | None = None) -> NearestTree:
+    """The tree nearest to all of several, their median tree, as a NearestTree: the one whose quartet distances to all of them have
+    the least sum, and that sum for each tree. Of equal sums it is the earliest tree.
+
+    A tree is given as to compare; a file or a text may hold several, and there are two or more in all. `common` and `struck` are as
+    for compare, for all trees, and `jobs` as for matrix. Of 2 to 16 trees with no tip struck the library tells the nearest in one
+    call, and the pairs must agree; else the pairs alone tell it.
+
+    Raises what compare raises, and Refusal, with the number 38, for fewer than two trees.
+
+        >>> found = leskwyn.nearest(["((a,b),(c,(d,e)));", "((a,b),(d,(c,e)));", "((a,b),c,d,e);", "(a,b,c,d,e);"])
+        >>> found.position, found.sum, [one.sum for one in found.rows]
+        (2, 7, [9, 9, 7, 13])
+    """
+    words, at_once = struck_words(struck), threads(jobs)
+    return nearest_tree(all_trees(trees), common=common, jobs=at_once, struck=words)
 
 
 def three_trees(a: Given, b: Given = None, c: Given = None, *, common: bool = False, weight: GivenWeight = None,
@@ -351,6 +371,16 @@ def compare_three(trees: Sequence[Placed], *, common: bool = False, weight: Weig
     labels = labels_of_names(names)
     tables = [_library.words(table_of(placed.tree, labels)) for placed in held]
     return three.of_tables([placed.place for placed in held], tables, names, weight, optional_struck(struck, names))
+
+
+def nearest_tree(trees: Sequence[Placed], *, common: bool = False, jobs: int, progress: Progress | None = None,
+                 struck: Sequence[str] | None = None) -> NearestTree:
+    median.check_enough(len(trees))
+    held, names = same_names(trees, common, None)
+    labels = labels_of_names(names)
+    tables = [table_of(placed.tree, labels) for placed in held]
+    places = told_apart([placed.place for placed in held])
+    return median.of_tables(places, tables, names, jobs, progress, optional_struck(struck, names))
 
 
 def four_words(names: Iterable[str | int]) -> list[str]:

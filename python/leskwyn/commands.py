@@ -1,5 +1,5 @@
-"""The commands compare, why, influence, copy, same, exchange, view, view-topology, three, matrix and against, and the way from the
-command line to each command.
+"""The commands compare, why, influence, copy, same, exchange, view, view-topology, three, matrix, nearest and against, and the way
+from the command line to each command.
 
     leskwyn COMMAND [OPTION...] [FILE...]
 
@@ -16,12 +16,13 @@ from collections.abc import Callable, Iterator
 from leskwyn import __version__, counting, files, text
 from leskwyn._library import TOP
 from leskwyn.api import (compare_file, compare_three, compare_trees, copy_tree, exchange_tree, influence_file, influence_trees,
-                         optional_struck, same_file, same_trees, view_tree, view_trees, why_file, why_trees)
+                         nearest_tree, optional_struck, same_file, same_trees, view_tree, view_trees, why_file, why_trees)
 from leskwyn.copies import Sameness
 from leskwyn.errors import LeskwynError, Refusal, Trouble, counted, quoted
 from leskwyn.figures import Comparison
 from leskwyn.labels import levels_listed, outgroup_first
-from leskwyn.sources import ComparisonFile, is_comparison_file, several_trees, trees_of_bytes, trees_of_path
+from leskwyn.median import check_enough
+from leskwyn.sources import ComparisonFile, is_comparison_file, several_trees, told_apart, trees_of_bytes, trees_of_path
 from leskwyn.trees import MOST_TIPS, Placed, checked, labels_of_names, table_of
 from leskwyn.usage import (Parser, ProgressLine, Usage, add_common, add_jobs, add_levels, add_outgroup, add_strike, add_weight,
                            number_of, struck_names, with_common)
@@ -47,6 +48,7 @@ Counts population trees against each other, four populations at a time, by a lib
   leskwyn three A B C              three trees side by side: each two of them, and which are closest
   leskwyn against REF FILE...      one tree against many, a row for each
   leskwyn matrix FILE...           all pairs of trees, a square of distances
+  leskwyn nearest FILE...          many trees: the one nearest to all of them
   leskwyn table A B -o PAIR        two trees as one comparison file
   leskwyn show PAIR                a comparison file as tables and trees
   leskwyn --help, --version        this text; the version
@@ -473,15 +475,6 @@ def read_all(paths: list[str]) -> list[Placed]:
     return [placed for path in paths for placed in trees_of_path(path, None)]
 
 
-def told_apart(places: list[str]) -> list[str]:
-    """The places, with a number where one stands again."""
-    seen: dict[str, int] = {}
-    for at, place in enumerate(places):
-        seen[place] = seen.get(place, 0) + 1
-        places[at] = place if seen[place] == 1 else f"{place}({seen[place]})"
-    return places
-
-
 def matrix_parser() -> Parser:
     parser = Parser("matrix", usage="leskwyn matrix FILE... [--measure quartet|splits|triplets|weighted] [--weight W] "
                                     "[--normalised] [--format tsv|phylip] [--jobs N] [--strike NAME]... [--strike-file FILE]... "
@@ -530,6 +523,39 @@ def matrix_command(options: argparse.Namespace) -> int:
         square = counting.distances(tables, options.measure, options.normalised, options.jobs or counting.default_jobs(),
                                     progress, options.weight, struck)
     files.print_text(text.SQUARES[options.format](told_apart([placed.place for placed in trees]), square))
+    return 0
+
+
+def nearest_parser() -> Parser:
+    parser = Parser("nearest", usage="leskwyn nearest FILE... [--format text|tsv|json] [--jobs N] [--strike NAME]... "
+                                     "[--strike-file FILE]... [--common]",
+                    description="Names the tree nearest to all, with the least summed distance to them, and tells that sum of each "
+                                "tree; a file may hold several.",
+                    epilog="Of equal sums the earliest tree is named. A tree is told by its file, and as FILE#K where a file holds "
+                           "several.\ndocs/COMMANDS.md has the columns of tsv and the keys of json.\n" + STATUS)
+    parser.add_argument("trees", nargs="*", metavar="FILE", help="Newick files, of two trees or more in all; - is standard input")
+    parser.add_argument("--format", choices=list(text.NEAREST_FORMATS), default="text", help="for people, or for programs")
+    add_jobs(parser)
+    add_strike(parser)
+    add_common(parser)
+    return parser
+
+
+def nearest_options(arguments: list[str]) -> argparse.Namespace:
+    parser = nearest_parser()
+    options = parser.parsed(arguments, "trees", "strike_file")
+    if not options.trees:
+        parser.error("no files; one or more are needed")
+    return options
+
+
+def nearest_command(options: argparse.Namespace) -> int:
+    read = read_all(options.trees)
+    check_enough(len(read))
+    trees, struck = with_common(read, options.common), struck_names(options)
+    with ProgressLine(len(trees) * (len(trees) - 1) // 2) as progress:
+        found = nearest_tree(trees, jobs=options.jobs or counting.default_jobs(), progress=progress, struck=struck)
+    files.print_text(text.NEAREST_FORMATS[options.format](found))
     return 0
 
 
@@ -593,7 +619,7 @@ COUNTING = {"compare": Counting(compare_options, compare_command), "matrix": Cou
             "influence": Counting(influence_options, influence_command), "copy": Counting(copy_options, copy_command),
             "same": Counting(same_options, same_command), "exchange": Counting(exchange_options, exchange_command),
             "view": Counting(view_options, view_command), "view-topology": Counting(view_topology_options, view_topology_command),
-            "three": Counting(three_options, three_command)}
+            "three": Counting(three_options, three_command), "nearest": Counting(nearest_options, nearest_command)}
 OTHERS = {"table": table_command, "show": show_command}
 
 

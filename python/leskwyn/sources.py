@@ -105,6 +105,15 @@ def several_trees(paths: list[str], wanted: int) -> list[Placed]:
     return [placed for path in paths for placed in trees_of_path(path, 1)]
 
 
+def told_apart(places: list[str]) -> list[str]:
+    """The places, with a number where one stands again."""
+    seen: dict[str, int] = {}
+    for at, place in enumerate(places):
+        seen[place] = seen.get(place, 0) + 1
+        places[at] = place if seen[place] == 1 else f"{place}({seen[place]})"
+    return places
+
+
 def named_file(given: Given) -> str | None:
     """The path, for an os.PathLike and for a str that names a file that is there; else None."""
     if isinstance(given, os.PathLike):

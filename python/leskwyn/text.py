@@ -1,5 +1,6 @@
 """Figures as text: for people, as TSV, as JSON, and squares of distances; the evidence for four tips; the influence of each;
-whether two trees are the same; how far exchanges of two tips move a tree; what a viewer may see; three trees side by side."""
+whether two trees are the same; how far exchanges of two tips move a tree; what a viewer may see; three trees side by side; the tree
+nearest to all of several."""
 from collections.abc import Iterable, Sequence
 
 from leskwyn.copies import Sameness
@@ -9,6 +10,7 @@ from leskwyn.evidence import Evidence, Witness
 from leskwyn.exchanges import EXCHANGE_KEYS, Bounds, Exchange, ExchangeTallies
 from leskwyn.figures import KEYS, STRUCK_KEYS, WEIGHTED_KEYS, Comparison, keys_of
 from leskwyn.holding import CASES as CASE_KEYS, DROPPED_KEYS, HOLDING_KEYS, Counted, Influence
+from leskwyn.median import BY_CALL, FEWEST_TREES, MOST_TREES, ROW_KEYS, NearestTree
 from leskwyn.tables import ORDINALS, written_name
 from leskwyn.three import TRIANGLE_WEIGHT, ThreeTrees, length
 from leskwyn.views import KEYS as VIEW_KEYS, Topology, View
@@ -94,12 +96,20 @@ def told_struck(names: Sequence[str], tips: int) -> str:
             + (f"; struck: {told_names(names, len(names))}" if names else ""))
 
 
-def trees_for_people(c: Comparison | Influence | ThreeTrees, places: Sequence[str], of_kept: str) -> str:
-    """Where the trees come from, and how many populations they have; if some are struck, what counts only the kept ones."""
-    return ("".join(f"{ordinal} tree: {one_line(place)}\n" for ordinal, place in zip(ORDINALS, places))
-            + (f"struck: {told_names(c.struck, len(c.struck))}\n" if c.struck else "") + "\n"
-            + row("populations", str(c.tips))
+def struck_for_people(c: Comparison | Influence | ThreeTrees | NearestTree) -> str:
+    return f"struck: {told_names(c.struck, len(c.struck))}\n" if c.struck else ""
+
+
+def tips_for_people(c: Comparison | Influence | ThreeTrees | NearestTree, of_kept: str) -> str:
+    """How many populations the trees have; if some are struck, what counts only the kept ones."""
+    return (row("populations", str(c.tips))
             + (row("kept", str(c.kept), f"of {c.tips}; {of_kept} count these alone") if c.struck is not None else ""))
+
+
+def trees_for_people(c: Comparison | Influence | ThreeTrees, places: Sequence[str], of_kept: str) -> str:
+    """Where the trees come from, and how many populations they have."""
+    return ("".join(f"{ordinal} tree: {one_line(place)}\n" for ordinal, place in zip(ORDINALS, places))
+            + struck_for_people(c) + "\n" + tips_for_people(c, of_kept))
 
 
 def for_people(c: Comparison) -> str:
@@ -131,7 +141,7 @@ def as_tsv(comparisons: Sequence[Comparison]) -> str:
     return rows_tsv([key for key in keys if key != "names"], comparisons)
 
 
-def line_json(answer: Comparison | Evidence | Influence | ExchangeTallies | View | Topology | ThreeTrees) -> str:
+def line_json(answer: Comparison | Evidence | Influence | ExchangeTallies | View | Topology | ThreeTrees | NearestTree) -> str:
     """One object on one line."""
     import json
     return json.dumps(answer.as_dict(), ensure_ascii=False) + "\n"
@@ -406,3 +416,53 @@ def three_tsv(t: ThreeTrees) -> str:
 
 
 THREE_FORMATS = {"text": three_for_people, "tsv": three_tsv, "json": line_json}
+
+
+# ---- the tree nearest to all of several
+
+NEAREST_COLUMNS = ("position", *ROW_KEYS, "nearest", "tips", "sets_of_four", "counted_by")
+
+
+def told_counting(n: NearestTree) -> str:
+    """What tells which tree is nearest; if the library's one call does not, why."""
+    if n.counted_by == BY_CALL:
+        return f"counted by {BY_CALL}, and pair by pair"
+    if len(n.rows) > MOST_TREES:
+        return f"counted pair by pair: {BY_CALL} takes {FEWEST_TREES} to {MOST_TREES} trees"
+    return f"counted pair by pair: {BY_CALL} strikes no populations"
+
+
+def nearest_row(n: NearestTree) -> str:
+    """The tree, its sum, and the later ones that have it too."""
+    others = len(n.rows) - 1
+    as_near = told_names([n.rows[at].tree for at in n.as_near], NAMES_ON_A_SIDE)
+    return (f"nearest to all: {one_line(n.tree)}\n"
+            + row("summed distance", str(n.sum), f"to {others} other {'tree' if others == 1 else 'trees'}")
+            + row("mean normalised distance", f"{n.mean_normalised_distance:.4f}",
+                  "summed distance / other trees / sets of four" if n.sets_of_four else "there are no sets of four")
+            + (f"with the same sum: {as_near}\n" if as_near else ""))
+
+
+def nearest_for_people(n: NearestTree) -> str:
+    """The tree with its sum, then a row for each tree."""
+    parts = [struck_for_people(n),
+             row("trees", str(len(n.rows))) + tips_for_people(n, "sets of four") + row("sets of four", str(n.sets_of_four)),
+             nearest_row(n),
+             columns(["tree", "summed distance", "mean normalised"],
+                     [[one_line(one.tree), str(one.sum), f"{one.mean_normalised_distance:.4f}"] for one in n.rows]),
+             f"{told_counting(n)}\n"]
+    return "\n".join(part for part in parts if part)
+
+
+def nearest_tsv(n: NearestTree) -> str:
+    """A row for each tree, with whether it is the nearest."""
+    keys = NEAREST_COLUMNS + STRUCK_KEYS * (n.struck is not None)
+    rows = []
+    for at, one in enumerate(n.rows):
+        told = n.as_dict() | {key: getattr(one, key) for key in ROW_KEYS}
+        told |= {"position": at, "nearest": "yes" if at == n.position else "no", "struck": n.struck}
+        rows.append([told[key] for key in keys])
+    return lines_tsv([keys, *rows])
+
+
+NEAREST_FORMATS = {"text": nearest_for_people, "tsv": nearest_tsv, "json": line_json}
