@@ -1,16 +1,14 @@
 -- A list of tree tables: its words cut into tables, and the order of its refusals (docs/SPECIFICATION.md, 'Lists of trees').
 -- Assumes nothing.
-use mathlib.Core.Path.{_≡_}
 use mathlib.Core.Bool.{Bool, not, _&&_, _||_}
 use mathlib.Core.List.{List, [], _∷_}
-use Prim.Native.Nat.{ℕ, zero, suc, _+_, _-_, _≤_, _<_, max}
+use Prim.Native.Nat.{ℕ, zero, suc, _+_, _-_, max}
 use lib.Dec.{eqb, ltb, leb}
 use lib.ListN.{length, drop}
 use Rattle.sums.specs.Tests.{some}
 use Rattle.table_words.specs.Cutting.{tableLength, firstTable}
 use Rattle.tree_check.specs.Table.{Table, word, tips, nodes}
 use Rattle.tree_check.specs.Refusals.{Rule, refusal}
-use Rattle.tree_check.specs.IsTree.{IsTree}
 use Rattle.tree_check.specs.TreeOrder.{treeOrder}
 
 -- the most trees of a list
@@ -49,11 +47,3 @@ listOrder list =
     ∷ (39, some (treesOf list) (wrongTree list (tips (treeAt list 0))))
     ∷ (39, ltb (startOf list (treesOf list)) (length list))
     ∷ []
-
--- 2 to 16 tree tables with the same n, and no word more
-pub record IsTreeList (list : List ℕ) : Type 0 where
-  pub some-trees : 2 ≤ treesOf list
-  pub few-trees : treesOf list ≤ treesMost
-  pub tree : (i : ℕ) → i < treesOf list → IsTree (treeAt list i)
-  pub same-tips : (i : ℕ) → i < treesOf list → tips (treeAt list i) ≡ tips (treeAt list 0)
-  pub whole : startOf list (treesOf list) ≡ length list

@@ -9,8 +9,9 @@ use lib.ListN.{length, take}
 use Rattle.table_words.specs.Sizes.{tipsMost}
 use Rattle.tree_check.specs.Table.{Table, tips}
 use Rattle.tree_check.specs.theorems.RefusalLaws.{if-accepted}
-use Rattle.tree_lists.specs.TreeLists.{treesOf, treeAt, edgesAt, IsTreeList}
+use Rattle.tree_lists.specs.TreeLists.{treesOf, treeAt, edgesAt}
 use Rattle.tree_lists.specs.theorems.ListLaws.{largest-ge}
+use Rattle.tree_lists.specs.theorems.ListCheck.{IsTreeList}
 use Rattle.tree_lists.specs.lemmas.Starts.{Starts}
 use Rattle.marks.specs.theorems.Ones.{ones, ones-marks, ones-taken}
 use Rattle.counting.specs.Labels.{all}

@@ -12,10 +12,10 @@ use Rattle.tree_check.specs.Table.{word, tips}
 use Rattle.tree_check.specs.Refusals.{refusal}
 use Rattle.tree_check.specs.theorems.RefusalLaws.{if-accepted, if-refused}
 use Rattle.tree_lists.specs.declared.checked.TreeList.{TreeList}
-use Rattle.tree_lists.specs.TreeLists.{treesMost, treesOf, treeAt, edgesAt, largest, listOrder, IsTreeList}
+use Rattle.tree_lists.specs.TreeLists.{treesMost, treesOf, treeAt, edgesAt, largest, listOrder}
 use Rattle.tree_lists.specs.CheckedList.{measuredList, checkedList}
 use Rattle.tree_lists.specs.theorems.ListLaws.{largest-le}
-use Rattle.tree_lists.specs.theorems.ListCheck.{has-word, list-check, number-told, list-told}
+use Rattle.tree_lists.specs.theorems.ListCheck.{IsTreeList, has-word, list-check, number-told, list-told}
 use Rattle.tree_lists.specs.lemmas.Starts.{starts-known}
 use Rattle.pair_check.specs.Clearing.{zeroed}
 use Rattle.median_tree.specs.declared.median.NearestAnswer.{NearestAnswer}

@@ -13,8 +13,8 @@ use Rattle.shapes.specs.theorems.SameSplits.{same-splits-refl}
 use Rattle.tree_check.specs.Table.{tips}
 use Rattle.tree_check.specs.Refusals.{refusal, ifAccepted}
 use Rattle.tree_check.specs.theorems.RefusalLaws.{refusal-none, refusal-here, refusal-next, refusal-first, refusal-kept, accepted, if-accepted}
-use Rattle.tree_lists.specs.TreeLists.{treesMost, treesOf, treeAt, listOrder, IsTreeList}
-use Rattle.tree_lists.specs.theorems.ListCheck.{list-check, list-kept}
+use Rattle.tree_lists.specs.TreeLists.{treesMost, treesOf, treeAt, listOrder}
+use Rattle.tree_lists.specs.theorems.ListCheck.{IsTreeList, list-kept, list-check}
 use Rattle.counting.specs.Labels.{all}
 use Rattle.counting.specs.theorems.LabelLaws.{all-of}
 use Rattle.counting.specs.theorems.QuartetTheorem.{QuartetTheorem, quartet-theorem}

@@ -4,7 +4,7 @@ use mathlib.Core.Path.{_≡_, refl, sym, _∙_}
 use mathlib.Core.Bool.{not, _&&_}
 use mathlib.Core.Logic.{_↔_}
 use mathlib.Core.List.{List, [], _∷_}
-use Prim.Native.Nat.{ℕ, zero, suc, _≤_}
+use Prim.Native.Nat.{ℕ, zero, suc, _≤_, _<_}
 use native.Mathlib.Omega.{arith}
 use lib.Dec.{T, eqb, leb}
 use lib.ListN.{length}
@@ -16,9 +16,17 @@ use Rattle.tree_check.specs.TreeOrder.{treeOrder}
 use Rattle.tree_check.specs.theorems.RefusalLaws.{Kept, accepted, if-accepted}
 use Rattle.tree_check.specs.theorems.TreeCheck.{tree-check}
 use Rattle.tree_lists.specs.declared.checked.TreeList.{TreeList}
-use Rattle.tree_lists.specs.TreeLists.{treesMost, treesOf, startOf, treeAt, wrongTree, listOrder, IsTreeList}
+use Rattle.tree_lists.specs.TreeLists.{treesMost, treesOf, startOf, treeAt, wrongTree, listOrder}
 use Rattle.tree_lists.specs.CheckedList.{measuredList, refusedList, checkedList}
 use Rattle.tree_lists.specs.theorems.ListLaws.{start-inside}
+
+-- 2 to 16 tree tables with the same n, and no word more
+pub record IsTreeList (list : List ℕ) : Type 0 where
+  pub some-trees : 2 ≤ treesOf list
+  pub few-trees : treesOf list ≤ treesMost
+  pub tree : (i : ℕ) → i < treesOf list → IsTree (treeAt list i)
+  pub same-tips : (i : ℕ) → i < treesOf list → tips (treeAt list i) ≡ tips (treeAt list 0)
+  pub whole : startOf list (treesOf list) ≡ length list
 
 -- tree i is right
 right-tree : (list : List ℕ) (n i : ℕ) → T (not (wrongTree list n i)) ↔ (IsTree (treeAt list i) × (tips (treeAt list i) ≡ n))
