@@ -15,9 +15,10 @@
  *
  * Threads. No globals, no allocation, no input or output. Calls from several threads at once need no lock, as long as
  * no two of them lend the same cells and nobody writes to a table, a shelf, marks or levels that are being read.
- * leskwyn_claim_sums, leskwyn_quartet_table, leskwyn_weighted_distance and leskwyn_view take up to 240 kB of stack,
- * leskwyn_triplet_table, leskwyn_holding, leskwyn_change_mark, leskwyn_canonical_copy, leskwyn_exchange_tallies and
- * leskwyn_exchange_distance up to 64 kB, the others up to 40 kB.
+ * leskwyn_claim_sums, leskwyn_quartet_table, leskwyn_weighted_distance and leskwyn_view take up to 240 kB of stack, and
+ * so does leskwyn_nearest, which takes about as much as a quartet table; leskwyn_triplet_table, leskwyn_holding,
+ * leskwyn_change_mark, leskwyn_canonical_copy, leskwyn_exchange_tallies and leskwyn_exchange_distance up to 64 kB, the
+ * others up to 40 kB.
  *
  * A tree table. 16-bit words: n, the tips (2 to 256); m, the nodes (n to 4n); then m parent words; then m label words;
  * 2 + 2m words in all.

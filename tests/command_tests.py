@@ -2182,7 +2182,8 @@ class Surroundings(TreesTest):
 
     SEEN = ["--levels", str(ROOT / "examples" / "levels.tsv"), "--viewer", "3"]
     WRITERS = [["compare", "both.nwk"], ["compare", "--listing", "both.nwk"], ["compare", "--listing", "--tables", "both.nwk"],
-               ["matrix", "both.nwk"], ["nearest", "both.nwk"], ["against", "feathers.nwk", "wings.nwk"],
+               ["matrix", "both.nwk"], ["nearest", "both.nwk"], ["three", "feathers.nwk", "wings.nwk", "wings.nwk"],
+               ["against", "feathers.nwk", "wings.nwk"],
                ["why", "both.nwk", "Azores", "Bute", "Coll", "Foula"], ["influence", "both.nwk"], ["copy", "wings.nwk"],
                ["same", "both.nwk"], ["same", "wings.nwk", "wings.nwk"], ["exchange", "wings.nwk"],
                ["view", "both.nwk", *SEEN], ["view-topology", "wings.nwk", "Azores", "Bute", "Coll", "Foula", *SEEN], ["--help"],

@@ -15,7 +15,7 @@ ROOT = pathlib.Path(__file__).resolve().parent.parent
 PROGRAMS = ["crates/library_example/src/main.rt", "crates/library_example/proofs/distance/Proof.antt",
             "examples/compare.c", "examples/canonical_copy.c", "examples/exchange_tallies.c", "bindings/examples/distance.rs"]
 LIBRARIES = ["trees", "quartets", "weights", "pair_file", "rerooting", "kept_triplets", "one_label", "canonical_copy",
-             "exchange_tallies", "levels", "views"]
+             "exchange_tallies", "levels", "views", "tree_lists", "median_tree"]
 
 
 def text(path: str) -> str:
@@ -55,7 +55,7 @@ NUMBERS = {"u16": ("uint16_t ", "u16"), "u64": ("uint64_t ", "u64"), "usize": ("
 
 def exports() -> str:
     """The exported functions of crates/capi but the version's."""
-    return "".join(text(f"crates/capi/src/{name}.rt") for name in ("exports", "labels", "tables", "tallies", "viewing"))
+    return "".join(text(f"crates/capi/src/{name}.rt") for name in ("exports", "labels", "tables", "tallies", "viewing", "lists"))
 
 
 def parameter_types(pattern: str, source: str, of_parameter: str) -> dict[str, list[str]]:

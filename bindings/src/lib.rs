@@ -30,9 +30,9 @@
 //!
 //! Any words in slices of any length may be passed. The answer is the whole answer or a [`Refusal`]; a refused call
 //! changes no lent cell. No call allocates, keeps a slice, or touches anything global, so all may be made from several
-//! threads at once. [`claim_sums`], [`quartet_table`], [`weighted_distance`] and [`view`] take up to 240 kB of stack,
-//! [`triplet_table`], [`holding`], [`change_mark`], [`canonical_copy`], [`exchange_tallies`] and [`exchange_distance`] up to
-//! 64 kB, the others up to 40 kB.
+//! threads at once. [`claim_sums`], [`quartet_table`], [`weighted_distance`] and [`view`] take up to 240 kB of stack, and so
+//! does [`nearest`], which takes about as much as a quartet table; [`triplet_table`], [`holding`], [`change_mark`],
+//! [`canonical_copy`], [`exchange_tallies`] and [`exchange_distance`] up to 64 kB, the others up to 40 kB.
 //!
 //! ```
 //! use leskwyn::{all_kept, quartet_table, work_cells, INNER as X};
