@@ -7,7 +7,7 @@ use Prim.Native.Nat.{ℕ}
 use Rattle.tree_check.specs.Table.{Table, tips}
 use Rattle.tree_check.specs.Refusals.{Rule, refusal, ifAccepted}
 use Rattle.trees.specs.declared.witness.Witness.the-variants.{Meet}
-use Rattle.trees.specs.LabelOrder.{askedOrder}
+use Rattle.asked_labels.specs.LabelOrder.{askedOrder}
 use Rattle.trees.specs.Topology.{topology}
 use Rattle.trees.specs.Witness.{witness, isEdge, numberOf, ShownBy}
 use Rattle.counting.specs.declared.Case.{Case}

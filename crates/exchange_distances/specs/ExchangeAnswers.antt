@@ -7,7 +7,7 @@ use Rattle.sums.specs.Lists.{inOrder}
 use Rattle.tree_check.specs.Table.{Table}
 use Rattle.tree_check.specs.Refusals.{refusal, ifAccepted}
 use Rattle.tree_check.specs.TreeOrder.{treeOrder}
-use Rattle.trees.specs.LabelOrder.{labelOrder}
+use Rattle.asked_labels.specs.LabelOrder.{labelOrder}
 use Rattle.exchanges.specs.Exchanges.{exchangeDistance, tally}
 use Rattle.exchange_distances.specs.declared.distances.ExchangeDistance.{ExchangeDistance}
 use Rattle.exchange_distances.specs.declared.tallies.ExchangeAnswer.{ExchangeAnswer}

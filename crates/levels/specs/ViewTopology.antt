@@ -8,7 +8,7 @@ use Rattle.sums.specs.Tests.{some}
 use Rattle.tree_check.specs.Table.{Table, word, tips}
 use Rattle.tree_check.specs.Refusals.{Rule, refusal}
 use Rattle.tree_check.specs.TreeOrder.{treeOrder}
-use Rattle.trees.specs.LabelOrder.{twoEqual}
+use Rattle.asked_labels.specs.LabelOrder.{twoEqual}
 use Rattle.trees.specs.Topology.{topologyUnder, TopologyTold}
 use Rattle.trees.specs.declared.quartet.TopologyAnswer.{TopologyAnswer}
 use Rattle.levels.specs.Levels.{isVisible, levelsOrder}

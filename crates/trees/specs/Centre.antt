@@ -6,7 +6,7 @@ use Rattle.shapes.specs.Centres.{centreOf}
 use Rattle.tree_check.specs.Table.{Table, nodes, parent, nodeOf}
 use Rattle.tree_check.specs.Refusals.{refusal, ifAccepted}
 use Rattle.trees.specs.declared.centres.CentreAnswer.{CentreAnswer}
-use Rattle.trees.specs.LabelOrder.{labelOrder}
+use Rattle.asked_labels.specs.LabelOrder.{labelOrder}
 
 -- the node at which the paths between each two of the three tips join
 unfoldable pub centre : Table → ℕ → ℕ → ℕ → ℕ

@@ -1,4 +1,3 @@
-pub mod LabelOrder
 pub mod Centre
 pub mod Topology
 pub mod Witness

@@ -12,7 +12,7 @@ use Rattle.trees.specs.declared.quartet.Topology.the-variants.{Butterfly
 use Rattle.trees.specs.declared.quartet.TopologyAnswer.{TopologyAnswer}
 use Rattle.tree_check.specs.Table.{Table, nodes, parent, nodeOf}
 use Rattle.tree_check.specs.Refusals.{refusal, ifAccepted}
-use Rattle.trees.specs.LabelOrder.{labelOrder}
+use Rattle.asked_labels.specs.LabelOrder.{labelOrder}
 
 -- the four are the butterfly ab|cd: some edge has a and b on one side and c and d on the other
 unfoldable pub butterfly : Table → ℕ → ℕ → ℕ → ℕ → Bool

@@ -15,7 +15,7 @@ use Rattle.trees.specs.declared.witness.Witness.the-variants.{Edge, Meet
 use Rattle.trees.specs.declared.witness.WitnessAnswer.{WitnessAnswer}
 use Rattle.tree_check.specs.Table.{Table, nodes, parent, nodeOf}
 use Rattle.tree_check.specs.Refusals.{refusal, ifAccepted}
-use Rattle.trees.specs.LabelOrder.{labelOrder}
+use Rattle.asked_labels.specs.LabelOrder.{labelOrder}
 use Rattle.trees.specs.Topology.{topology, butterflyOf}
 
 -- edge j + 1 has two of the four labels on each side

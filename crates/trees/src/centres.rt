@@ -1,6 +1,6 @@
 // The centre of three labels.
-use super::asked::asked_refusal;
-use super::asked::node_of;
+use asked_labels::asked_refusal;
+use asked_labels::node_of;
 use table_words::as_index;
 use table_words::as_word;
 use tree_check::Checked;

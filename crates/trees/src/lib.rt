@@ -1,12 +1,11 @@
 // The tree library: a table of words is checked, walked, and asked for centres and topologies.
 // Every public function takes any words in slices of any length, and answers in full or refuses with one number.
-mod asked; // asked.rt: the labels that a caller asks about
 mod centres; // centres.rt: the centre of three labels
 mod quartet; // quartet.rt: the topology of four labels
 mod witness; // witness.rt: the edge that parts four labels, or the node where they meet
 
-pub use asked::asked_refusal;
-pub use asked::node_of;
+pub use asked_labels::asked_refusal;
+pub use asked_labels::node_of;
 pub use centres::CentreAnswer;
 pub use centres::centre;
 pub use quartet::Topology;

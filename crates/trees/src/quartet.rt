@@ -1,6 +1,6 @@
 // The topology of four labels.
-use super::asked::asked_refusal;
-use super::asked::node_of;
+use asked_labels::asked_refusal;
+use asked_labels::node_of;
 use table_words::NODES;
 use table_words::as_index;
 use tree_check::Checked;

@@ -1,10 +1,10 @@
 // How a tree parts four labels: by an edge with two of them on each side, or not at all, and then their paths meet at a node.
-use super::asked::asked_refusal;
 use super::centres::centre_node;
 use super::quartet::Topology;
 use super::quartet::named_pairing;
 use super::quartet::pairing_of;
 use super::quartet::sides_of;
+use asked_labels::asked_refusal;
 use table_words::NODES;
 use table_words::as_index;
 use table_words::as_word;

@@ -17,8 +17,8 @@ use Rattle.trees.specs.declared.quartet.TopologyAnswer.{TopologyAnswer}
 use Rattle.tree_check.specs.Table.{Table, tips, beyond}
 use Rattle.tree_check.specs.IsTree.{IsTree}
 use Rattle.tree_check.specs.Refusals.{refusal, ifAccepted}
-use Rattle.trees.specs.LabelOrder.{askedOrder, labelOrder}
-use Rattle.trees.specs.theorems.LabelOrderLaws.{AllBelow, Different, label-check}
+use Rattle.asked_labels.specs.LabelOrder.{askedOrder, labelOrder}
+use Rattle.asked_labels.specs.theorems.LabelOrderLaws.{AllBelow, Different, label-check}
 use Rattle.walks.specs.theorems.WalkOrderLaws.{tree-accepted}
 use Rattle.trees.specs.Topology.{butterfly, topology, topologyUnder, topologyAnswer}
 use Rattle.counting.specs.Labels.{Labels, all}

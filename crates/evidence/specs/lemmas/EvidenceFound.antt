@@ -16,7 +16,7 @@ use Rattle.trees.specs.declared.quartet.Topology.{Topology}
 use Rattle.trees.specs.declared.quartet.Topology.the-variants.{Butterfly, Star}
 use Rattle.trees.specs.declared.witness.Witness.the-variants.{Meet}
 use Rattle.trees.specs.declared.witness.WitnessAnswer.{WitnessAnswer}
-use Rattle.trees.specs.LabelOrder.{askedOrder, labelOrder}
+use Rattle.asked_labels.specs.LabelOrder.{askedOrder, labelOrder}
 use Rattle.trees.specs.Topology.{topology, butterflyOf}
 use Rattle.trees.specs.Witness.{witness, witnessAnswer, isEdge}
 use Rattle.trees.specs.theorems.WitnessLaws.{butterfly-by-edge, witness-shown}

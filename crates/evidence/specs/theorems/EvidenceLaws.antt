@@ -12,10 +12,10 @@ use Rattle.shapes.specs.theorems.FourLabels.{Four}
 use Rattle.tree_check.specs.Table.{Table, tips}
 use Rattle.tree_check.specs.Refusals.{Rule, refusal, ifAccepted}
 use Rattle.tree_check.specs.theorems.RefusalLaws.{accepted, kept-append, numbered-append, if-accepted, if-refused}
-use Rattle.trees.specs.LabelOrder.{tooLarge, twoEqual, askedOrder}
+use Rattle.asked_labels.specs.LabelOrder.{tooLarge, twoEqual, askedOrder}
 use Rattle.trees.specs.Topology.{topology}
 use Rattle.trees.specs.Witness.{witness}
-use Rattle.trees.specs.theorems.LabelOrderLaws.{AllBelow, Different, below-iff, different-iff}
+use Rattle.asked_labels.specs.theorems.LabelOrderLaws.{AllBelow, Different, below-iff, different-iff}
 use Rattle.trees.specs.theorems.AskedFour.{asked-any-order}
 use Rattle.trees.specs.theorems.TopologyLaws.{Rearranged, any-order}
 use Rattle.trees.specs.theorems.WitnessLaws.{witness-any-order}

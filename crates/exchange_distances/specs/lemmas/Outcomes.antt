@@ -14,8 +14,8 @@ use Rattle.tree_check.specs.IsTree.{IsTree}
 use Rattle.tree_check.specs.TreeOrder.{treeOrder}
 use Rattle.tree_check.specs.theorems.TreeCheck.{tree-check}
 use Rattle.walks.specs.theorems.WalkOrderLaws.{tree-refused, tree-accepted}
-use Rattle.trees.specs.LabelOrder.{askedOrder, labelOrder}
-use Rattle.trees.specs.theorems.LabelOrderLaws.{label-check}
+use Rattle.asked_labels.specs.LabelOrder.{askedOrder, labelOrder}
+use Rattle.asked_labels.specs.theorems.LabelOrderLaws.{label-check}
 use Rattle.exchanges.specs.Exchanges.{exchangeDistance, tally}
 use Rattle.exchanges.specs.theorems.Others.{Two}
 use Rattle.exchange_distances.specs.declared.distances.ExchangeDistance.{ExchangeDistance}

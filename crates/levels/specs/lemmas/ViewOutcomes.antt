@@ -17,8 +17,8 @@ use Rattle.tree_check.specs.TreeOrder.{treeOrder}
 use Rattle.tree_check.specs.theorems.RefusalLaws.{refusal-here, refusal-next, refusal-first, refusal-kept, kept-append, if-refused}
 use Rattle.tree_check.specs.theorems.TreeCheck.{tree-kept}
 use Rattle.walks.specs.theorems.WalkOrderLaws.{tree-refused, tree-accepted}
-use Rattle.trees.specs.LabelOrder.{tooLarge, twoEqual, askedOrder, labelOrder}
-use Rattle.trees.specs.theorems.LabelOrderLaws.{below-iff}
+use Rattle.asked_labels.specs.LabelOrder.{tooLarge, twoEqual, askedOrder, labelOrder}
+use Rattle.asked_labels.specs.theorems.LabelOrderLaws.{below-iff}
 use Rattle.trees.specs.Topology.{topology, topologyUnder, topologyAnswer}
 use Rattle.trees.specs.lemmas.TopologyOutcomes.{told-under}
 use Rattle.trees.specs.declared.quartet.Topology.the-variants.{Star}

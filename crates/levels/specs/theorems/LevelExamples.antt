@@ -11,7 +11,7 @@ use Rattle.shapes.specs.Quartets.{parts, parted}
 use Rattle.tree_check.specs.Table.{tips, nodes, parents, labels, parent, label, nodeBelow, nodeOf}
 use Rattle.tree_check.specs.Refusals.{refusal, ifAccepted}
 use Rattle.tree_check.specs.TreeOrder.{tipsFit, nodesFit, parentFits, labelFits, standing, labelsFit, labelsOnce, isChild, children, misplaced, arraysOrder, treeOrder}
-use Rattle.trees.specs.LabelOrder.{twoEqual}
+use Rattle.asked_labels.specs.LabelOrder.{twoEqual}
 use Rattle.trees.specs.Topology.{butterfly, partner, named, topology, topologyUnder, butterflyOf, partnerOf}
 use Rattle.trees.specs.declared.quartet.TopologyAnswer.{TopologyAnswer}
 use Rattle.walks.specs.theorems.WalkExamples.{P}

@@ -13,7 +13,7 @@ use Rattle.tree_check.specs.theorems.RefusalLaws.{if-accepted, if-refused}
 use Rattle.tree_check.specs.IsTree.{IsTree}
 use Rattle.tree_check.specs.TreeOrder.{treeOrder}
 use Rattle.walks.specs.theorems.WalkOrderLaws.{tree-refused, tree-accepted}
-use Rattle.trees.specs.LabelOrder.{askedOrder, labelOrder}
+use Rattle.asked_labels.specs.LabelOrder.{askedOrder, labelOrder}
 use Rattle.trees.specs.Centre.{centre, centreAnswer}
 use Rattle.trees.specs.declared.centres.CentreAnswer.{CentreAnswer}
 

@@ -32,10 +32,10 @@ use Rattle.trees.specs.declared.witness.Witness.{Witness}
 use Rattle.trees.specs.declared.witness.Witness.the-variants.{Edge, Meet}
 use Rattle.trees.specs.declared.witness.WitnessAnswer.{WitnessAnswer}
 use Rattle.trees.specs.Centre.{centre}
-use Rattle.trees.specs.LabelOrder.{askedOrder, labelOrder}
+use Rattle.asked_labels.specs.LabelOrder.{askedOrder, labelOrder}
 use Rattle.trees.specs.Topology.{topology, butterflyOf}
 use Rattle.trees.specs.Witness.{partsLabels, partingEdge, meetingNode, witness, witnessAnswer, isEdge, numberOf, WitnessTold}
-use Rattle.trees.specs.theorems.LabelOrderLaws.{label-check}
+use Rattle.asked_labels.specs.theorems.LabelOrderLaws.{label-check}
 use Rattle.trees.specs.theorems.WitnessLaws.{butterfly-by-edge, witness-shown}
 use Rattle.trees.specs.lemmas.CentreOutcomes.{centreOver, centre-of-parts}
 use Rattle.trees.specs.lemmas.Sides.{sides, pairing, pairing-le, apart-shown, SidesAre, Shown, topologyShown}

@@ -15,9 +15,9 @@ use Rattle.tree_check.specs.theorems.RefusalLaws.{if-accepted, if-refused}
 use Rattle.tree_check.specs.IsTree.{IsTree}
 use Rattle.tree_check.specs.TreeOrder.{treeOrder}
 use Rattle.walks.specs.theorems.WalkOrderLaws.{tree-refused, tree-accepted}
-use Rattle.trees.specs.LabelOrder.{askedOrder, labelOrder}
+use Rattle.asked_labels.specs.LabelOrder.{askedOrder, labelOrder}
 use Rattle.trees.specs.Topology.{topology, topologyUnder, topologyAnswer, butterflyOf, partnerOf, TopologyTold, Told}
-use Rattle.trees.specs.theorems.LabelOrderLaws.{label-check}
+use Rattle.asked_labels.specs.theorems.LabelOrderLaws.{label-check}
 use Rattle.trees.specs.theorems.TopologyLaws.{star-iff, parted-butterfly, parted-with-c, parted-with-d}
 use Rattle.trees.specs.lemmas.Sides.{sides, pairing, pairing-le, SidesAre, Shown, topologyShown}
 use Rattle.trees.specs.lemmas.ShownPairings.{shown-first, shown-second, shown-third, shown-none}

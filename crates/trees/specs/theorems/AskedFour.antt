@@ -8,8 +8,8 @@ use Prim.Native.Nat.{ℕ, zero, suc, _<_}
 use native.Mathlib.Omega.{arith}
 use lib.Dec.{T}
 use Rattle.tree_check.specs.Refusals.{refusal}
-use Rattle.trees.specs.LabelOrder.{tooLarge, twoEqual, askedOrder}
-use Rattle.trees.specs.theorems.LabelOrderLaws.{AllBelow, Different, below-iff, different-iff}
+use Rattle.asked_labels.specs.LabelOrder.{tooLarge, twoEqual, askedOrder}
+use Rattle.asked_labels.specs.theorems.LabelOrderLaws.{AllBelow, Different, below-iff, different-iff}
 use Rattle.trees.specs.theorems.TopologyLaws.{Rearranged, as-is, first-two, middle, last-two}
 
 -- the four as they are asked about

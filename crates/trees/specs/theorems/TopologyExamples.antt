@@ -15,7 +15,7 @@ use Rattle.tree_check.specs.Refusals.{refusal}
 use Rattle.tree_check.specs.TreeOrder.{tipsFit, nodesFit, parentFits, labelFits, standing, labelsFit, labelsOnce}
 use Rattle.tree_check.specs.TreeOrder.{isChild, children, misplaced, arraysOrder, treeOrder}
 use Rattle.walks.specs.theorems.WalkExamples.{P, Q, R, ThreeTips}
-use Rattle.trees.specs.LabelOrder.{tooLarge, twoEqual, askedOrder, labelOrder}
+use Rattle.asked_labels.specs.LabelOrder.{tooLarge, twoEqual, askedOrder, labelOrder}
 use Rattle.trees.specs.Centre.{centre}
 use Rattle.trees.specs.Topology.{butterfly, partner, named, topology}
 use Rattle.trees.specs.declared.quartet.Topology.the-variants.{Butterfly, Star}

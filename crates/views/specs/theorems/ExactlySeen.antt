@@ -15,8 +15,8 @@ use Rattle.tree_check.specs.Table.{Table, word, tips}
 use Rattle.tree_check.specs.Refusals.{refusal}
 use Rattle.tree_check.specs.IsTree.{IsTree}
 use Rattle.tree_check.specs.theorems.RefusalLaws.{accepted, refusal-here, refusal-next, if-accepted}
-use Rattle.trees.specs.LabelOrder.{twoEqual}
-use Rattle.trees.specs.theorems.LabelOrderLaws.{Different, different-iff}
+use Rattle.asked_labels.specs.LabelOrder.{twoEqual}
+use Rattle.asked_labels.specs.theorems.LabelOrderLaws.{Different, different-iff}
 use Rattle.trees.specs.Topology.{topology}
 use Rattle.trees.specs.Topology.{topologyUnder}
 use Rattle.levels.specs.Levels.{isVisible}

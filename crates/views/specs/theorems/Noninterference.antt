@@ -19,8 +19,8 @@ use Rattle.tree_check.specs.IsTree.{IsTree}
 use Rattle.tree_check.specs.TreeOrder.{treeOrder}
 use Rattle.tree_check.specs.theorems.RefusalLaws.{Kept, accepted, kept-append, refusal-kept, if-accepted}
 use Rattle.tree_check.specs.theorems.TreeCheck.{tree-kept}
-use Rattle.trees.specs.LabelOrder.{twoEqual}
-use Rattle.trees.specs.theorems.LabelOrderLaws.{Different, different-iff}
+use Rattle.asked_labels.specs.LabelOrder.{twoEqual}
+use Rattle.asked_labels.specs.theorems.LabelOrderLaws.{Different, different-iff}
 use Rattle.trees.specs.Topology.{topology, topologyUnder}
 use Rattle.trees.specs.declared.quartet.Topology.{Topology}
 use Rattle.trees.specs.declared.quartet.Topology.the-variants.{Star}

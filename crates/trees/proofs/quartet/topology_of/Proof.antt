@@ -7,7 +7,7 @@ use Rattle.tree_check.specs.Table.{tips, nodes}
 use Rattle.tree_check.specs.lemmas.TableParts.{to-parts, of-parts}
 use Rattle.tree_check.specs.Refusals.{refusal}
 use Rattle.tree_check.specs.IsTree.{IsTree}
-use Rattle.trees.specs.LabelOrder.{askedOrder}
+use Rattle.asked_labels.specs.LabelOrder.{askedOrder}
 use Rattle.trees.specs.lemmas.Sides.{SidesAre}
 use Rattle.trees.specs.lemmas.RootedArrays.{RootedArrays, rooted-arrays}
 use Rattle.trees.specs.lemmas.TopologyOutcomes.{topology-refused, topology-asked-refused, topology-found}

@@ -9,7 +9,7 @@ use Rattle.tree_check.specs.Refusals.{refusal}
 use Rattle.tree_check.specs.IsTree.{IsTree}
 use Rattle.tree_check.specs.Check.{numberOf}
 use Rattle.tree_check.specs.theorems.CheckLaws.{checked-accepted, checked-refusal}
-use Rattle.trees.specs.LabelOrder.{askedOrder}
+use Rattle.asked_labels.specs.LabelOrder.{askedOrder}
 use Rattle.trees.specs.lemmas.RootedArrays.{RootedArrays, rooted-arrays}
 use Rattle.trees.specs.lemmas.Seen.{Seen, witness-refused, witness-asked-refused, witness-found, witness-told}
 use borrow.Author.Needs.{needs}

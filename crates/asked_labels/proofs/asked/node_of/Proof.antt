@@ -9,8 +9,8 @@ use borrow.Author.Tests.{eq-eqb, ne-eqb}
 use lib.ListN.{length}
 use Rattle.tree_check.specs.Table.{word, nodeBelow}
 use borrow.Author.Needs.{needs}
-use Rattle.trees.proofs.asked.node_of.Statement.{statement}
-use Rattle.trees.proofs.asked.node_of.Tie as tie
+use Rattle.asked_labels.proofs.asked.node_of.Statement.{statement}
+use Rattle.asked_labels.proofs.asked.node_of.Tie as tie
 
 abbrev Inv-loop : tie.InvT-loop
 Inv-loop labels x at₀ v₀ at v = (v ≤ length labels) × (at ≡ nodeBelow (word labels) v x)

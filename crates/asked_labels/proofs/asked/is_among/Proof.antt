@@ -10,8 +10,8 @@ use lib.Dec.{eqb}
 use Rattle.sums.specs.theorems.TestLaws.{some-true, some-false}
 use Rattle.tree_check.specs.Table.{word}
 use borrow.Author.Needs.{needs}
-use Rattle.trees.proofs.asked.is_among.Statement.{statement}
-use Rattle.trees.proofs.asked.is_among.Tie as tie
+use Rattle.asked_labels.proofs.asked.is_among.Statement.{statement}
+use Rattle.asked_labels.proofs.asked.is_among.Tie as tie
 
 abbrev Inv-loop : tie.InvT-loop
 Inv-loop asked end x j₀ j = (j ≤ end) × ((k : ℕ) → k < j → eqb (word asked k) x ≡ false)

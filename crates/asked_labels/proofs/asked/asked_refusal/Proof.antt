@@ -3,10 +3,10 @@
 use mathlib.Core.Path.{sym, _∙_}
 use mathlib.Core.List.{[]}
 use Rattle.tree_check.specs.theorems.RefusalLaws.{refusal-none, refusal-here, refusal-next}
-use Rattle.trees.specs.LabelOrder.{askedOrder}
+use Rattle.asked_labels.specs.LabelOrder.{askedOrder}
 use borrow.Author.Needs.{needs}
-use Rattle.trees.proofs.asked.asked_refusal.Statement.{statement}
-use Rattle.trees.proofs.asked.asked_refusal.Tie as tie
+use Rattle.asked_labels.proofs.asked.asked_refusal.Statement.{statement}
+use Rattle.asked_labels.proofs.asked.asked_refusal.Tie as tie
 
 some-too-large-requires : tie.Need-some-too-large-requires
 some-too-large-requires c κs = search needs

@@ -7,7 +7,7 @@ ghost use lib.ListN.{length};
 ghost use Rattle.sums.specs.Tests.{some};
 ghost use Rattle.tree_check.specs.Table.{word, nodeBelow};
 ghost use Rattle.tree_check.specs.Refusals.{refusal};
-ghost use Rattle.trees.specs.LabelOrder.{tooLarge, twoEqual, askedOrder};
+ghost use Rattle.asked_labels.specs.LabelOrder.{tooLarge, twoEqual, askedOrder};
 
 // Whether one of the labels is n or more.
 fn some_too_large(asked: &[u16], n: usize) -> bool

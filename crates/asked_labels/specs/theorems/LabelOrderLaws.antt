@@ -14,7 +14,7 @@ use Rattle.tree_check.specs.Table.{Table, word, tips}
 use Rattle.tree_check.specs.Refusals.{refusal}
 use Rattle.tree_check.specs.IsTree.{IsTree}
 use Rattle.walks.specs.theorems.WalkOrderLaws.{after-tree}
-use Rattle.trees.specs.LabelOrder.{tooLarge, twoEqual, askedOrder, labelOrder}
+use Rattle.asked_labels.specs.LabelOrder.{tooLarge, twoEqual, askedOrder, labelOrder}
 
 -- every word is below n
 abbrev pub AllBelow : ℕ → List ℕ → Type 0

@@ -1,0 +1,2 @@
+pub mod LabelOrder
+pub mod theorems
