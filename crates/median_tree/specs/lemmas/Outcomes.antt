@@ -1,6 +1,6 @@
 -- What the call for the median tree answers, as code finds it.
 -- Assumes nothing.
-use mathlib.Core.Path.{_≡_, refl, sym, _∙_, ap, ap₂, subst}
+use mathlib.Core.Path.{_≡_, sym, _∙_, ap, ap₂, subst}
 use mathlib.Core.Logic.{_≢_}
 use mathlib.Core.List.{List}
 use Prim.Native.Nat.{ℕ, _*_, _%_, _≤_, _<_}
@@ -12,7 +12,7 @@ use Rattle.tree_check.specs.Table.{word, tips}
 use Rattle.tree_check.specs.Refusals.{refusal}
 use Rattle.tree_check.specs.theorems.RefusalLaws.{if-accepted, if-refused}
 use Rattle.tree_lists.specs.declared.checked.TreeList.{TreeList}
-use Rattle.tree_lists.specs.TreeLists.{treesMost, treesOf, treeAt, edgesAt, largest, listOrder}
+use Rattle.tree_lists.specs.TreeLists.{treesMost, treesOf, edgesAt, largest, listOrder}
 use Rattle.tree_lists.specs.CheckedList.{measuredList, checkedList}
 use Rattle.tree_lists.specs.theorems.ListLaws.{largest-le}
 use Rattle.tree_lists.specs.theorems.ListCheck.{IsTreeList, has-word, list-check, number-told, list-told}

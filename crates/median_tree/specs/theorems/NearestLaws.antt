@@ -1,28 +1,34 @@
 -- The median tree: no tree of the list has a smaller sum, every earlier one has a larger, and the sums fit.
 -- Assumes nothing.
-use mathlib.Core.Path.{_≡_, refl, sym, _∙_, ap, subst}
+use mathlib.Core.Path.{_≡_, refl, sym, _∙_, ap}
 use mathlib.Core.Logic.{_≢_, _↔_}
 use mathlib.Core.List.{List, [], _∷_}
-use Prim.Native.Nat.{ℕ, zero, suc, _+_, _*_, _≤_, _<_}
+use Prim.Native.Nat.{ℕ, zero, suc, _≤_, _<_}
 use native.Mathlib.Decide.{decLt, ℕ-discrete}
 use native.Mathlib.Omega.{arith}
 use borrow.Author.Tests.{lt-ltb, le-ltb}
 use lib.Dec.{ltb}
-use Rattle.sums.specs.theorems.SumLaws.{sum-mono, sum-const}
+use Rattle.sums.specs.Sum.{sum}
+use Rattle.sums.specs.theorems.SumLaws.{sum-mono, sum-const, sum-none, sum-ext}
 use Rattle.shapes.specs.theorems.SameSplits.{same-splits-refl}
 use Rattle.tree_check.specs.Table.{tips}
 use Rattle.tree_check.specs.Refusals.{refusal, ifAccepted}
 use Rattle.tree_check.specs.theorems.RefusalLaws.{refusal-none, refusal-here, refusal-next, refusal-first, refusal-kept, accepted, if-accepted}
-use Rattle.tree_lists.specs.TreeLists.{treesMost, treesOf, treeAt, listOrder}
+use Rattle.tree_lists.specs.TreeLists.{treesOf, treeAt, listOrder}
 use Rattle.tree_lists.specs.theorems.ListCheck.{IsTreeList, list-kept, list-check}
 use Rattle.counting.specs.Labels.{all}
+use Rattle.counting.specs.declared.Case.the-variants.{B, C, D}
+use Rattle.counting.specs.Cases.{distance}
+use Rattle.counting.specs.SplitCounts.{HaveSameSplits}
+use Rattle.counting.specs.theorems.FewLabels.{few-labels}
 use Rattle.counting.specs.theorems.LabelLaws.{all-of}
+use Rattle.counting.specs.theorems.LabelsAlone.{AloneAt}
+use Rattle.counting.specs.theorems.TipLabels.{alone-at}
 use Rattle.counting.specs.theorems.QuartetTheorem.{QuartetTheorem, quartet-theorem}
 use Rattle.metric.specs.theorems.TreesExchanged.{trees-exchanged}
-use Rattle.median_tree.specs.declared.median.NearestAnswer.{NearestAnswer}
 use Rattle.median_tree.specs.Least.{firstLeast}
 use Rattle.median_tree.specs.Nearest.{apart, sumTo, listCells, nearestOrder, nearestOf, refusedNearest, nearestAnswer}
-use Rattle.median_tree.specs.theorems.LeastLaws.{IsFirstLeast, is-first-least}
+use Rattle.median_tree.specs.theorems.LeastLaws.{IsFirstLeast, is-first-least, least-only}
 
 -- ---- distances and sums
 
@@ -66,6 +72,50 @@ module _ (list : List ℕ) (s : IsTreeList list) where
       go : (k : ℕ) → 2 ≤ k → IsFirstLeast (sumTo list) k (firstLeast (sumTo list) k)
       go zero l = absurd (omega arith)
       go (suc k) l = is-first-least (sumTo list) k
+
+  -- with fewer than four tips every sum is 0
+  pub few-tips : tips (treeAt list 0) < 4 → (i : ℕ) → i < treesOf list → sumTo list i ≡ 0
+  unfolding sumTo
+  few-tips few i l = sum-none (treesOf list) (apart list i) (λ j m. unfold apart in
+      (let none = few-labels (all (tips (treeAt list 0))) (treeAt list i) (treeAt list j) (s .tree i l) (s .tree j m)
+      (s .same-tips i l ∙ sym (s .same-tips j m)) (all-of (tips (treeAt list 0)) (tips (treeAt list i)) (s .same-tips i l)) few in
+      omega (arith, none .counts B, none .counts C, none .counts D)))
+
+-- ---- trees with the same splits
+
+-- as many trees, with the same n, and tree by tree the same splits
+pub record SameLists (list other : List ℕ) : Type 0 where
+  pub trees : treesOf list ≡ treesOf other
+  pub same-tips : tips (treeAt list 0) ≡ tips (treeAt other 0)
+  pub splits : (i : ℕ) → i < treesOf list → HaveSameSplits (all (tips (treeAt list 0))) (treeAt list i) (treeAt other i)
+
+module _ (list other : List ℕ) (s : IsTreeList list) (o : IsTreeList other) (h : SameLists list other) where
+  abbrev n : ℕ
+  n = tips (treeAt list 0)
+
+  there : (i : ℕ) → i < treesOf list → i < treesOf other
+  there i l = omega (arith, l, h .trees)
+
+  same-n : (i : ℕ) → i < treesOf list → tips (treeAt list i) ≡ tips (treeAt other i)
+  same-n i l = s .same-tips i l ∙ h .same-tips ∙ sym (o .same-tips i (there i l))
+
+  alone : (i : ℕ) (l : i < treesOf list) → AloneAt (all n) (treeAt list i) (treeAt other i)
+  alone i l = alone-at (all n) (treeAt list i) (treeAt other i) (s .tree i l) (o .tree i (there i l)) (same-n i l)
+      (all-of n (tips (treeAt list i)) (s .same-tips i l)) (h .splits i l)
+
+  same-apart : (i j : ℕ) → i < treesOf list → j < treesOf list → apart list i j ≡ apart other i j
+  unfolding apart
+  same-apart i j l m =
+      alone i l .as-first (treeAt list j) (s .tree j m) (s .same-tips i l ∙ sym (s .same-tips j m)) .distance
+      ∙ alone j m .as-second (treeAt other i) (o .tree i (there i l)) (sym (same-n i l) ∙ s .same-tips i l ∙ sym (s .same-tips j m)) .distance
+      ∙ ap (λ (k : ℕ). distance (all k) (treeAt other i) (treeAt other j)) (h .same-tips)
+
+  -- the sums are the same: the labels of tips alone count
+  pub same-sums : (i : ℕ) → i < treesOf list → sumTo list i ≡ sumTo other i
+  unfolding sumTo
+  same-sums i l =
+      sum-ext (treesOf list) (apart list i) (apart other i) (λ j m. same-apart i j l m)
+      ∙ ap (λ (k : ℕ). sum k (apart other i)) (h .trees)
 
 -- ---- the order
 
@@ -122,3 +172,18 @@ module _ (list : List ℕ) (cells : ℕ) where
       let h = nearest-check .0 (sym number-told ∙ e) in
       let least = least-sum list (h .0) in
       rw (nearest-told (h .0) (h .1)) (least, refl, sum-most list (h .0) _ (least .position))
+
+  -- with fewer than four tips the first tree is told, with the sum 0
+  pub few-tips-told : nearestAnswer list cells .refusal ≡ 0 → tips (treeAt list 0) < 4
+      → nearestAnswer list cells ≡ record { refusal = 0; position = 0; sum = 0 }
+  few-tips-told e few =
+      let h = nearest-check .0 (sym number-told ∙ e) in
+      let zero-at = few-tips list (h .0) few in
+      let least = least-sum list (h .0) in
+      let first : firstLeast (sumTo list) (treesOf list) ≡ 0 = least-only (sumTo list) (treesOf list) _ 0 least (record {
+        position = omega (arith, h .0 .some-trees);
+        least = λ i l. omega (arith, zero-at 0 (omega (arith, h .0 .some-trees)));
+        earliest = λ i l. absurd (omega arith);
+      }) in
+      nearest-told (h .0) (h .1)
+      ∙ rw (first, zero-at 0 (omega (arith, h .0 .some-trees))) refl

@@ -17,7 +17,7 @@ use Rattle.tree_check.specs.Refusals.{refusal}
 use Rattle.tree_check.specs.theorems.RefusalLaws.{refusal-none, refusal-here, refusal-next, if-accepted, if-refused}
 use Rattle.tree_lists.specs.declared.checked.TreeList.{TreeList}
 use Rattle.tree_lists.specs.TreeLists.{treesMost, treesOf, startOf, treeAt, wrongTree, edgesAt, largest, listOrder}
-use Rattle.tree_lists.specs.CheckedList.{measuredList, refusedList, checkedList}
+use Rattle.tree_lists.specs.CheckedList.{refusedList, checkedList}
 use Rattle.tree_lists.specs.theorems.ListCheck.{has-word}
 use Rattle.tree_lists.specs.lemmas.Starts.{Starts, lent-tree, starts-told}
 

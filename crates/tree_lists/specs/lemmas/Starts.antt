@@ -4,7 +4,7 @@ use mathlib.Core.Path.{_≡_, refl, sym, _∙_, ap}
 use mathlib.Core.Bool.{Bool, true, false, not, _&&_, _||_}
 use mathlib.Core.Logic.{_≢_}
 use mathlib.Core.List.{List}
-use Prim.Native.Nat.{ℕ, zero, suc, _+_, _-_, _≤_, _<_, max}
+use Prim.Native.Nat.{ℕ, _+_, _-_, _≤_, _<_, max}
 use native.Mathlib.Decide.{decLt, ℕ-discrete}
 use native.Mathlib.Numerals.{add-one}
 use native.Mathlib.Omega.{arith}
@@ -21,7 +21,7 @@ use Rattle.tree_check.specs.IsTree.{IsTree}
 use Rattle.tree_check.specs.TreeOrder.{treeOrder}
 use Rattle.tree_check.specs.theorems.TreeCheck.{tree-check}
 use Rattle.tree_check.specs.lemmas.TableParts.{rest, rest-drop}
-use Rattle.tree_lists.specs.TreeLists.{treesMost, treesOf, startOf, treeAt, wrongTree, edgesAt, largest}
+use Rattle.tree_lists.specs.TreeLists.{treesMost, startOf, treeAt, wrongTree, edgesAt, largest}
 use Rattle.tree_lists.specs.theorems.ListLaws.{next-start, start-inside, start-rises, tree-part}
 
 -- ---- starts

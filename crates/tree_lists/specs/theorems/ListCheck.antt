@@ -1,6 +1,6 @@
 -- The order of a list accepts exactly the lists of 2 to 16 tree tables with the same n.
 -- Assumes nothing.
-use mathlib.Core.Path.{_≡_, refl, sym, _∙_}
+use mathlib.Core.Path.{_≡_, refl}
 use mathlib.Core.Bool.{not, _&&_}
 use mathlib.Core.Logic.{_↔_}
 use mathlib.Core.List.{List, [], _∷_}
@@ -15,7 +15,6 @@ use Rattle.tree_check.specs.IsTree.{IsTree}
 use Rattle.tree_check.specs.TreeOrder.{treeOrder}
 use Rattle.tree_check.specs.theorems.RefusalLaws.{Kept, accepted, if-accepted}
 use Rattle.tree_check.specs.theorems.TreeCheck.{tree-check}
-use Rattle.tree_lists.specs.declared.checked.TreeList.{TreeList}
 use Rattle.tree_lists.specs.TreeLists.{treesMost, treesOf, startOf, treeAt, wrongTree, listOrder}
 use Rattle.tree_lists.specs.CheckedList.{measuredList, refusedList, checkedList}
 use Rattle.tree_lists.specs.theorems.ListLaws.{start-inside}

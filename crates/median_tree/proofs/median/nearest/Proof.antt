@@ -1,7 +1,6 @@
 -- Each return is an outcome of the order, or the tree that is told.
 -- Assumes nothing.
-use mathlib.Core.Path.{_≡_}
-use Prim.Native.Nat.{_*_, _≤_}
+use Prim.Native.Nat.{_≤_}
 use native.Mathlib.Omega.{arith}
 use Rattle.sums.specs.theorems.Products.{product-le}
 use Rattle.median_tree.specs.lemmas.Outcomes.{refused-list, trees-told, trees-few, edges-few, short-work, ready, nearest-found}

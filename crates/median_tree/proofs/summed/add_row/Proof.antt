@@ -1,7 +1,6 @@
 -- The invariant: tree `i` is summed against the trees before `j`, on both sides.
 -- Assumes nothing.
-use mathlib.Core.Path.{_≡_, refl, sym, _∙_, ap}
-use Prim.Native.Nat.{ℕ, _+_, _-_, _≤_, _<_}
+use Prim.Native.Nat.{_-_, _≤_, _<_}
 use native.Mathlib.Omega.{arith}
 use borrow.Author.Needs.{fits-under}
 use lib.ListN.{length}

@@ -1,9 +1,8 @@
 -- The invariant: the trees before `i` are summed among one another.
 -- Assumes nothing.
-use mathlib.Core.Path.{_≡_, refl, sym, _∙_, ap}
-use Prim.Native.Nat.{ℕ, _+_, _-_, _≤_, _<_}
+use mathlib.Core.Path.{_≡_}
+use Prim.Native.Nat.{_-_, _≤_}
 use native.Mathlib.Omega.{arith}
-use lib.ListN.{length}
 use Rattle.median_tree.specs.Nearest.{listCells}
 use Rattle.median_tree.specs.Nearest.{apart}
 use Rattle.median_tree.specs.lemmas.SameCells.{SameFrom, same-now, same-then}

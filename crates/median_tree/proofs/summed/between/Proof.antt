@@ -1,7 +1,5 @@
 -- The distance of the quartet table with every label kept.
 -- Assumes nothing.
-use mathlib.Core.Path.{_≡_, refl, sym, _∙_, ap}
-use native.Mathlib.Omega.{arith}
 use Rattle.marks.specs.theorems.Ones.{ones}
 use Rattle.median_tree.specs.lemmas.Distances.{marks-fit, marks-lent, told-distance}
 use borrow.Author.Needs.{needs}

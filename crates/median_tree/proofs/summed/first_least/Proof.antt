@@ -1,10 +1,9 @@
 -- The invariant: `p` is the firstLeast of the positions before `i`.
 -- Assumes nothing.
-use mathlib.Core.Path.{_≡_, refl, sym, _∙_, ap}
-use Prim.Native.Nat.{ℕ, _+_, _-_, _≤_, _<_}
+use mathlib.Core.Path.{_≡_}
+use Prim.Native.Nat.{_-_, _≤_, _<_}
 use mathlib.Core.Logic.{⊎-elim}
 use native.Mathlib.Omega.{arith}
-use native.Mathlib.Numerals.{add-one}
 use Rattle.tree_check.specs.Table.{word}
 use Rattle.median_tree.specs.Least.{firstLeast}
 use Rattle.median_tree.specs.lemmas.RowSums.{least-none, least-takes, least-keeps}

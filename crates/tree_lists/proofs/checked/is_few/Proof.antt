@@ -1,9 +1,7 @@
 -- Two comparisons.
 -- Assumes nothing.
-use mathlib.Core.Path.{_≡_, refl, sym, _∙_}
 use native.Mathlib.Omega.{arith}
 use Rattle.tree_lists.specs.lemmas.Starts.{too-few, few-enough}
-use borrow.Author.Needs.{needs}
 use Rattle.tree_lists.proofs.checked.is_few.Statement.{statement}
 use Rattle.tree_lists.proofs.checked.is_few.Tie as tie
 

@@ -1,10 +1,9 @@
 -- The invariant: `most` is the most of the trees before `i`.
 -- Assumes nothing.
-use mathlib.Core.Path.{_≡_, refl, sym, _∙_, ap}
-use Prim.Native.Nat.{ℕ, _+_, _-_, _≤_, _<_}
+use mathlib.Core.Path.{_≡_}
+use Prim.Native.Nat.{_+_, _-_, _≤_, _<_}
 use mathlib.Core.Logic.{⊎-elim}
 use native.Mathlib.Omega.{arith}
-use Rattle.tree_check.specs.Table.{nodes}
 use Rattle.tree_lists.specs.TreeLists.{treeAt, edgesAt, largest}
 use Rattle.tree_lists.specs.lemmas.Starts.{from-to, to-end, lent-tree, told-edges, largest-none, largest-more, largest-same}
 use lib.ListN.{length, take, drop}
