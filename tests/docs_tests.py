@@ -188,12 +188,14 @@ class Sizes(unittest.TestCase):
             self.assertEqual(readme.count(row), 1, row)
 
 
-class Map(unittest.TestCase):
-    """docs/ARCHITECTURE.md has the crates as they are."""
+class Written(unittest.TestCase):
+    """What a tool writes is current: the map of the crates in docs/ARCHITECTURE.md, and what each rests on in crates.txt."""
 
     def test_current(self) -> None:
-        ran = subprocess.run([ROOT / "tools" / "crate-map", "--check"], capture_output=True, text=True, check=False)
-        self.assertEqual((ran.returncode, ran.stderr), (0, ""))
+        for tool in ("crate-map", "crate-lists"):
+            with self.subTest(tool):
+                ran = subprocess.run([ROOT / "tools" / tool, "--check"], capture_output=True, text=True, check=False)
+                self.assertEqual((ran.returncode, ran.stderr), (0, ""))
 
 
 class Names(unittest.TestCase):
