@@ -198,6 +198,18 @@ class Written(unittest.TestCase):
                 self.assertEqual((ran.returncode, ran.stderr), (0, ""))
 
 
+class OneName(unittest.TestCase):
+    """No two public definitions have one name."""
+
+    def test_definitions(self) -> None:
+        where = {}
+        for path in sorted((ROOT / "crates").glob("*/specs/**/*.antt")):
+            for name in re.findall(r"^ *(?:unfoldable pub|abbrev pub|pub record|pub data) ([^\s:(]+)", path.read_text(encoding="utf-8"), re.M):
+                where.setdefault(name, []).append(str(path.relative_to(ROOT)))
+        self.assertGreater(len(where), 500)
+        self.assertEqual({name: paths for name, paths in where.items() if len(paths) > 1}, {})
+
+
 class Names(unittest.TestCase):
     """Names in docs/PROMISES.md stand in the crates."""
 

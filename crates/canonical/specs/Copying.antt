@@ -36,12 +36,12 @@ module _ (up : ℕ → ℕ) (m : ℕ) (node : ℕ → ℕ) (k : ℕ) where
   stays v = tip v || leb 2 (count m (branch v))
 
   -- how many nodes stay at v and below
-  unfoldable pub size : ℕ → ℕ
-  size v = count m (λ w. stays w && anc up v w)
+  unfoldable pub copySize : ℕ → ℕ
+  copySize v = count m (λ w. stays w && anc up v w)
 
   -- how many stay in the branches of v that have a smaller label than c
   unfoldable pub earlier : ℕ → ℕ → ℕ
-  earlier v c = sum m (λ d. bit (branch v d && ltb (low d) (low c)) * size d)
+  earlier v c = sum m (λ d. bit (branch v d && ltb (low d) (low c)) * copySize d)
 
   -- nodes are numbered depth first, children by their smallest label: after the parent's number come the parent itself, if
   -- it stays, and its branches with smaller labels
@@ -72,4 +72,4 @@ module _ (up : ℕ → ℕ) (m : ℕ) (node : ℕ → ℕ) (k : ℕ) where
   -- the words: k, how many nodes stay, their parents and their labels
   unfoldable pub copyOf : Table
   copyOf =
-      k ∷ size 0 ∷ (inOrder (size 0) (λ i. number (over (at i))) ++ inOrder (size 0) (λ i. labelWord (at i)))
+      k ∷ copySize 0 ∷ (inOrder (copySize 0) (λ i. number (over (at i))) ++ inOrder (copySize 0) (λ i. labelWord (at i)))

@@ -8,13 +8,13 @@ ghost use lib.Dec.{ltb, leb};
 ghost use lib.ListN.{length};
 ghost use Rattle.table_words.specs.Sizes.{nodeRoom};
 ghost use Rattle.sums.specs.Bits.{bit};
-ghost use Rattle.canonical_copy.specs.lemmas.Parents.{Parents};
+ghost use Rattle.canonical_copy.specs.lemmas.Parents.{ParentsBefore};
 ghost use Rattle.canonical_copy.specs.lemmas.LeastBelow.{LeastBelow};
-ghost use Rattle.canonical_copy.specs.lemmas.Staying.{BranchCounts, StayBits, AtMostOne, SizesAre};
+ghost use Rattle.canonical_copy.specs.lemmas.Staying.{BranchCounts, StayBits, OwnAtMostOne, SizesAre};
 
 // The smallest of what stands at a node or below, from what stands at each: each node's goes to its parent, from the last on.
 pub(crate) fn lower(parents: &[u16], lows: &mut [u16; NODES])
-    requires { ⌜ Parents (now parents) × (length (now lows) ≡ nodeRoom) ⌝ }
+    requires { ⌜ ParentsBefore (now parents) × (length (now lows) ≡ nodeRoom) ⌝ }
     ensures { λ _. ⌜ LeastBelow (now (parents .entry)) (now (lows .entry)) (now (lows .exit)) ⌝ }
 {
     let mut c = parents.len();
@@ -30,7 +30,7 @@ pub(crate) fn lower(parents: &[u16], lows: &mut [u16; NODES])
 
 // How many children with a rank at them or below each node has.
 pub(crate) fn branch_counts(parents: &[u16], lows: &[u16; NODES], k: u16) -> [u16; NODES]
-    requires { ⌜ Parents (now parents) ⌝ }
+    requires { ⌜ ParentsBefore (now parents) ⌝ }
     ensures { λ r. ⌜ BranchCounts (now (parents .entry)) (now (lows .entry)) k (length (now (parents .entry))) r ⌝ }
 {
     let mut counts = [0u16; NODES];
@@ -79,7 +79,7 @@ pub(crate) fn stay_bits(
 
 // How many nodes stay at each node and below, from 1 for each that stays.
 pub(crate) fn add_sizes(parents: &[u16], sizes: &mut [u16; NODES])
-    requires { ⌜ Parents (now parents) × AtMostOne (length (now parents)) (now sizes) ⌝ }
+    requires { ⌜ ParentsBefore (now parents) × OwnAtMostOne (length (now parents)) (now sizes) ⌝ }
     ensures { λ _. ⌜ SizesAre (now (parents .entry)) (now (sizes .entry)) 1 (now (sizes .exit)) ⌝ }
 {
     let mut c = parents.len();

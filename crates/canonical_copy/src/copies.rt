@@ -24,7 +24,7 @@ ghost use mathlib.Core.Path.{_≡_};
 ghost use lib.ListN.{length};
 ghost use Rattle.canonical.specs.CanonicalCopy.{canonicalCopy};
 ghost use Rattle.canonical_copy.specs.CopyAnswer.{copyAnswer, afterCopy, Copied};
-ghost use Rattle.canonical_copy.specs.lemmas.RootedCopy.{RootedArrays, CopiedInto, CopiedFrom};
+ghost use Rattle.canonical_copy.specs.lemmas.RootedCopy.{RootedRanks, CopiedInto, CopiedFrom};
 ghost use Rattle.canonical_copy.specs.lemmas.KeptCopy.{RootedTable, TableCopied, KeptTable};
 
 // The number, and how many words the copy has.
@@ -42,7 +42,7 @@ fn rooted_copy(
     k: u16,
     copy: &mut [u16],
 ) -> usize
-    requires { ⌜ RootedArrays (now parents) (now labels) (now ranks) k ⌝ }
+    requires { ⌜ RootedRanks (now parents) (now labels) (now ranks) k ⌝ }
     ensures { λ r. ⌜ CopiedFrom (now (parents .entry)) (now (labels .entry)) (now (ranks .entry)) k (now (copy .entry))
         (now (copy .exit)) r ⌝ }
 {

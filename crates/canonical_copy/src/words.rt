@@ -4,9 +4,9 @@ use table_words::as_index;
 use table_words::as_word;
 ghost use mathlib.Core.Path.{_≡_};
 ghost use lib.ListN.{length};
-ghost use Rattle.canonical_copy.specs.lemmas.Parents.{Parents};
+ghost use Rattle.canonical_copy.specs.lemmas.Parents.{ParentsBefore};
 ghost use Rattle.canonical_copy.specs.lemmas.ParentNumbers.{ParentNumbers};
-ghost use Rattle.canonical_copy.specs.lemmas.Writing.{labelFor, Writable, Written};
+ghost use Rattle.canonical_copy.specs.lemmas.Writing.{labelFor, Writable, CopyWritten};
 
 // For each node the number of the next node above that stays; node 0 has its own.
 pub(crate) fn parent_numbers(
@@ -14,7 +14,7 @@ pub(crate) fn parent_numbers(
     bits: &[u16; NODES],
     numbers: &[u16; NODES],
 ) -> [u16; NODES]
-    requires { ⌜ Parents (now parents) ⌝ }
+    requires { ⌜ ParentsBefore (now parents) ⌝ }
     ensures { λ r. ⌜ ParentNumbers (now (parents .entry)) (now (bits .entry)) (now (numbers .entry)) (length (now (parents .entry))) r ⌝ }
 {
     let mut above = [0u16; NODES];
@@ -53,7 +53,7 @@ pub(crate) fn write_words(
     copy: &mut [u16],
 )
     requires { ⌜ Writable (now bits) (now numbers) m count (now copy) ⌝ }
-    ensures { λ _. ⌜ Written (now (ranks .entry)) (now (bits .entry)) (now (numbers .entry)) (now (above .entry)) m k count
+    ensures { λ _. ⌜ CopyWritten (now (ranks .entry)) (now (bits .entry)) (now (numbers .entry)) (now (above .entry)) m k count
         (now (copy .entry)) (now (copy .exit)) ⌝ }
 {
     copy[0] = k;

@@ -8,7 +8,7 @@ use Rattle.walks.specs.declared.edges.PartBeyond.{PartBeyond}
 use Rattle.trees.specs.declared.centres.CentreAnswer as trees-centre
 use Rattle.trees.specs.declared.quartet.TopologyAnswer as trees-topology
 use Rattle.trees.specs.Topology.{butterflyOf, partnerOf}
-use Rattle.trees.specs.Witness.{isEdge, numberOf}
+use Rattle.trees.specs.Witness.{isEdge, witnessNumber}
 use Rattle.evidence.specs.declared.shown.EvidenceAnswer as shown
 use Rattle.counting.specs.Cases.{caseNumber}
 use Rattle.splits.specs.declared.counts.SplitCounts.{SplitCounts}
@@ -109,7 +109,7 @@ plainEvidence a = record {
   refusal = a .refusal;
   which = caseNumber (a .which);
   «first_edge» = isEdge (a .first);
-  «first_number» = numberOf (a .first);
+  «first_number» = witnessNumber (a .first);
   «second_edge» = isEdge (a .second);
-  «second_number» = numberOf (a .second);
+  «second_number» = witnessNumber (a .second);
 }

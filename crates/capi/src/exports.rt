@@ -35,7 +35,7 @@ ghost use Rattle.walks.specs.WalkOrders.{walkOrder};
 ghost use Rattle.walks.specs.Walk.{afterWalk, placeBeyond};
 ghost use Rattle.trees.specs.Centre.{centreAnswer};
 ghost use Rattle.trees.specs.Topology.{topologyAnswer};
-ghost use Rattle.trees.specs.Witness.{isEdge, numberOf};
+ghost use Rattle.trees.specs.Witness.{isEdge, witnessNumber};
 ghost use Rattle.pair_check.specs.PairOrder.{pairOrder};
 ghost use Rattle.counting.specs.Cases.{caseNumber};
 ghost use Rattle.evidence.specs.EvidenceAnswer.{evidenceAnswer};
@@ -293,7 +293,7 @@ struct PlainWitness {
 }
 
 fn plain_witness(witness: Witness) -> PlainWitness
-    ensures { λ r. ⌜ (r .edge ≡ isEdge witness) × (r .number ≡ numberOf witness) ⌝ }
+    ensures { λ r. ⌜ (r .edge ≡ isEdge witness) × (r .number ≡ witnessNumber witness) ⌝ }
 {
     match witness {
         Witness::Edge(i) => PlainWitness { edge: 1, number: i },

@@ -3,7 +3,7 @@ ghost use mathlib.Core.Path.{_≡_};
 ghost use Prim.Native.Nat.{_+_, _*_, _-_, _≤_};
 ghost use Rattle.table_words.specs.Sizes.{tipsMost};
 ghost use Rattle.shapes.specs.Claims.{choose2};
-ghost use Rattle.claims.specs.lemmas.CellTerms.{CellRoom, CellGives};
+ghost use Rattle.claims.specs.lemmas.CellTerms.{TermRoom, CellGives};
 
 // What cells give: to twice S2, to S3, and what is too much in that.
 pub(crate) struct CellSums {
@@ -50,7 +50,7 @@ pub(crate) fn cell_terms(
     squares: u64,
     base: u64,
 ) -> CellSums
-    requires { ⌜ CellRoom t row column down along whole squares base ⌝ }
+    requires { ⌜ TermRoom t row column down along whole squares base ⌝ }
     ensures { λ r. ⌜ CellGives t (row - t) (column - t) (whole + t - row - column) down along squares base
         (r .pairs) (r .plus) (r .minus) ⌝ }
 {

@@ -6,7 +6,7 @@ ghost use Prim.Native.Nat.{_+_, _*_, _≤_};
 ghost use lib.ListN.{length};
 ghost use Rattle.sums.specs.Sum.{sum};
 ghost use Rattle.node_pairs.specs.theorems.ClosedForms.{dotSquares, termSquares};
-ghost use Rattle.claims.specs.lemmas.Filled.{filled};
+ghost use Rattle.claims.specs.lemmas.Filled.{filledTo};
 ghost use Rattle.claims.specs.lemmas.CellLines.{squared};
 ghost use Rattle.claims.specs.lemmas.LineDots.{FewLines, AddRoom, added, scaled, lineOf, dotSquaresOf, termSquaresOf};
 
@@ -19,7 +19,7 @@ pub(crate) struct DotSums {
 // The first `lines` numbers become 0.
 fn clear(dots: &mut [u64], lines: usize)
     requires { ⌜ lines ≤ length (now dots) ⌝ }
-    ensures { λ _. ⌜ now (dots .exit) ≡ filled (λ l. 0) lines (now (dots .entry)) ⌝ }
+    ensures { λ _. ⌜ now (dots .exit) ≡ filledTo (λ l. 0) lines (now (dots .entry)) ⌝ }
 {
     let mut l = 0;
     while l < lines {
@@ -32,7 +32,7 @@ fn clear(dots: &mut [u64], lines: usize)
 fn add_line(cells: &[u16], t: u64, at: usize, gap: usize, lines: usize, dots: &mut [u64]) -> u64
     requires { ⌜ AddRoom (now cells) t at gap lines (now dots) ⌝ }
     ensures { λ _. ⌜ now (dots .exit)
-        ≡ filled (added (now (cells .entry)) (now (dots .entry)) t at gap) lines (now (dots .entry)) ⌝ }
+        ≡ filledTo (added (now (cells .entry)) (now (dots .entry)) t at gap) lines (now (dots .entry)) ⌝ }
     ensures { λ r. ⌜ (r ≡ sum lines (squared (scaled (now (cells .entry)) t at gap)))
         × (r ≤ lines * 4294967296) ⌝ }
 {

@@ -9,12 +9,12 @@ ghost use lib.ListN.{length};
 ghost use Rattle.table_words.specs.Sizes.{tipsMost};
 ghost use Rattle.tree_check.specs.Table.{word};
 ghost use Rattle.claims.specs.lemmas.CodeCells.{childCell, ownCell};
-ghost use Rattle.claims.specs.lemmas.NodeBlock.{Written, RowRoom, NodeEdges, RowsFilled};
+ghost use Rattle.claims.specs.lemmas.NodeBlock.{BlockWritten, BlockRowRoom, NodeEdges, RowsFilled};
 
 // The row of a child's edge, from `at` on.
 fn child_row(work: &[Cell], base: usize, columns: &[usize], block: &mut [u16], at: usize)
-    requires { ⌜ RowRoom (now work) base (now columns) (length (now block)) at ⌝ }
-    ensures { λ _. ⌜ Written (now (block .entry)) (now (block .exit)) at (length (now (columns .entry)))
+    requires { ⌜ BlockRowRoom (now work) base (now columns) (length (now block)) at ⌝ }
+    ensures { λ _. ⌜ BlockWritten (now (block .entry)) (now (block .exit)) at (length (now (columns .entry)))
         (childCell (now (work .entry)) base (word (now (columns .entry)))) ⌝ }
 {
     block[at] = first_only(work, base, columns[0]);
@@ -27,10 +27,10 @@ fn child_row(work: &[Cell], base: usize, columns: &[usize], block: &mut [u16], a
 
 // The row of the node's own edge, in front.
 fn own_row(work: &[Cell], base: usize, n: u16, columns: &[usize], block: &mut [u16])
-    requires { ⌜ RowRoom (now work) base (now columns) (length (now block)) 0 × (n ≤ tipsMost) ⌝ }
+    requires { ⌜ BlockRowRoom (now work) base (now columns) (length (now block)) 0 × (n ≤ tipsMost) ⌝ }
     requires { ⌜ word (now work) base + word (now work) (word (now columns) 0)
         ≤ n + word (now work) (base + word (now columns) 0) ⌝ }
-    ensures { λ _. ⌜ Written (now (block .entry)) (now (block .exit)) 0 (length (now (columns .entry)))
+    ensures { λ _. ⌜ BlockWritten (now (block .entry)) (now (block .exit)) 0 (length (now (columns .entry)))
         (ownCell (now (work .entry)) base n (word (now (columns .entry)))) ⌝ }
 {
     block[0] = neither(work, base, columns[0], n);

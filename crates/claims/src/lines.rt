@@ -5,8 +5,8 @@ ghost use Prim.Native.Nat.{_≤_};
 ghost use lib.ListN.{length};
 ghost use Rattle.sums.specs.Sum.{sum};
 ghost use Rattle.tree_check.specs.Table.{word};
-ghost use Rattle.claims.specs.lemmas.Filled.{filled};
-ghost use Rattle.claims.specs.lemmas.CellLines.{Line, Lines, Totals, AllTotals, Low};
+ghost use Rattle.claims.specs.lemmas.Filled.{filledTo};
+ghost use Rattle.claims.specs.lemmas.CellLines.{Line, Lines, Totals, AllTotals, LowNumbers};
 ghost use Rattle.claims.specs.lemmas.CellLines.{lineCell, restCell, lineSum, lineRest, squared};
 
 // The sum of a line.
@@ -62,7 +62,7 @@ fn line_rest(cells: &[u16], at: usize, step: usize, len: usize, totals: &[u64]) 
 
 // The sum of the first numbers.
 pub(crate) fn total(xs: &[u64], len: usize) -> u64
-    requires { ⌜ Low (now xs) len ⌝ }
+    requires { ⌜ LowNumbers (now xs) len ⌝ }
     ensures { λ r. ⌜ r ≡ sum len (word (now (xs .entry))) ⌝ }
 {
     let mut s: u64 = 0;
@@ -76,7 +76,7 @@ pub(crate) fn total(xs: &[u64], len: usize) -> u64
 
 // The squares of the first numbers.
 pub(crate) fn total_squares(xs: &[u64], len: usize) -> u64
-    requires { ⌜ Low (now xs) len ⌝ }
+    requires { ⌜ LowNumbers (now xs) len ⌝ }
     ensures { λ r. ⌜ r ≡ sum len (squared (word (now (xs .entry)))) ⌝ }
 {
     let mut s: u64 = 0;
@@ -99,7 +99,7 @@ pub(crate) fn line_sums(
 )
     requires { ⌜ Lines (length (now cells)) gap lines step len × (lines ≤ length (now out)) ⌝ }
     ensures { λ _. ⌜ now (out .exit)
-        ≡ filled (lineSum (now (cells .entry)) gap step len) lines (now (out .entry)) ⌝ }
+        ≡ filledTo (lineSum (now (cells .entry)) gap step len) lines (now (out .entry)) ⌝ }
 {
     let mut i = 0;
     let mut at = 0;
@@ -123,7 +123,7 @@ pub(crate) fn line_rests(
     requires { ⌜ Lines (length (now cells)) gap lines step len × (lines ≤ length (now out)) ⌝ }
     requires { ⌜ AllTotals (now cells) (now totals) gap lines step len ⌝ }
     ensures { λ _. ⌜ now (out .exit)
-        ≡ filled (lineRest (now (cells .entry)) (now (totals .entry)) gap step len) lines (now (out .entry)) ⌝ }
+        ≡ filledTo (lineRest (now (cells .entry)) (now (totals .entry)) gap step len) lines (now (out .entry)) ⌝ }
 {
     let mut i = 0;
     let mut at = 0;

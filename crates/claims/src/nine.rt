@@ -3,7 +3,7 @@ use super::terms::PairTerms;
 ghost use mathlib.Core.Path.{_≡_};
 ghost use Prim.Native.Nat.{_≤_};
 ghost use Rattle.node_pairs.specs.theorems.Cells.{pairS2, pairS3};
-ghost use Rattle.claims.specs.lemmas.NineCells.{Nine, product, weighed, sumThree, threeRows};
+ghost use Rattle.claims.specs.lemmas.NineCells.{Nine, product, weighedProduct, sumThree, threeRows};
 
 // Three diagonals, each of three cells in different rows and columns: the sum of their products, and that of their
 // products times their sums.
@@ -27,7 +27,7 @@ fn three_diagonals(
     requires { ⌜ Nine p0 q0 r0 p1 q1 r1 p2 q2 r2 ⌝ }
     ensures { λ d. ⌜
         (d .products ≡ sumThree product p0 q0 r0 p1 q1 r1 p2 q2 r2)
-        × (d .weighed ≡ sumThree weighed p0 q0 r0 p1 q1 r1 p2 q2 r2)
+        × (d .weighed ≡ sumThree weighedProduct p0 q0 r0 p1 q1 r1 p2 q2 r2)
         × (d .products ≤ 50331648) × (d .weighed ≤ 38654705664)
         ⌝ }
 {

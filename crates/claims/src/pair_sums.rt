@@ -11,7 +11,7 @@ ghost use lib.ListN.{length};
 ghost use Rattle.sums.specs.Sum.{sum};
 ghost use Rattle.claims.specs.lemmas.Block.{Scratch};
 ghost use Rattle.code_lists.specs.lemmas.InnerNodes.{InnerNodes};
-ghost use Rattle.claims.specs.lemmas.PairLoops.{RowRoom, NodePairs, PairsRoom, rowS2, rowS3, nodeS2, nodeS3};
+ghost use Rattle.claims.specs.lemmas.PairLoops.{NodeRowRoom, NodePairs, PairsRoom, rowS2, rowS3, nodeS2, nodeS3};
 
 // The cells of the largest block: TIPS rows of TIPS cells.
 const BLOCK: usize = 65536;
@@ -40,7 +40,7 @@ fn node_row(
     along: &mut [u64],
     dots: &mut [u64],
 ) -> PairTerms
-    requires { ⌜ RowRoom (now work) width n (now rows) (now «second_parents») (now «second_starts»)
+    requires { ⌜ NodeRowRoom (now work) width n (now rows) (now «second_parents») (now «second_starts»)
         (now «second_edges») (length (now block)) ⌝ }
     requires { ⌜ Scratch (now sums) (now totals) (now down) (now along) (now dots) ⌝ }
     requires { ⌜ InnerNodes (now «second_parents») (now inner) count (length (now «second_parents»))

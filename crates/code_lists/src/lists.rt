@@ -8,13 +8,13 @@ ghost use lib.ListN.{length};
 ghost use Rattle.tree_check.specs.Table.{word};
 ghost use Rattle.code_lists.specs.ListedCodes.{codesOf, codesBefore, startCell, edgeCell};
 ghost use Rattle.code_lists.specs.lemmas.CodesAt.{Parents};
-ghost use Rattle.code_lists.specs.lemmas.CodeCounts.{Counted, StartsIn};
+ghost use Rattle.code_lists.specs.lemmas.CodeCounts.{CountedCodes, StartsIn};
 ghost use Rattle.code_lists.specs.lemmas.EdgePlaces.{EdgesIn};
 
 // How many codes lead into each node: each edge has one into the node above it and one into its own.
 fn code_counts(parents: &[u16]) -> [usize; NODES]
     requires { ⌜ Parents (now parents) ⌝ }
-    ensures { λ r. ⌜ Counted (now (parents .entry)) (λ v. 0) (codesOf (now (parents .entry))) r ⌝ }
+    ensures { λ r. ⌜ CountedCodes (now (parents .entry)) (λ v. 0) (codesOf (now (parents .entry))) r ⌝ }
 {
     let mut counts = [0usize; NODES];
     let mut i = 1;
@@ -29,7 +29,7 @@ fn code_counts(parents: &[u16]) -> [usize; NODES]
 
 // Where the codes into each node begin in the list of all: in `starts`, and in `next` in the place of their counts.
 fn code_starts(parents: &[u16], next: &mut [usize; NODES], starts: &mut [usize])
-    requires { ⌜ Parents (now parents) × Counted (now parents) (λ v. 0) (codesOf (now parents)) (now next) ⌝ }
+    requires { ⌜ Parents (now parents) × CountedCodes (now parents) (λ v. 0) (codesOf (now parents)) (now next) ⌝ }
     requires { ⌜ length (now parents) < length (now starts) ⌝ }
     ensures { λ _. ⌜ StartsIn (now (parents .entry)) (now (starts .entry)) (now (next .exit)) (now (starts .exit)) ⌝ }
 {
@@ -48,7 +48,7 @@ fn code_starts(parents: &[u16], next: &mut [usize; NODES], starts: &mut [usize])
 // The edges of the codes into node 0, then of those into node 1, and so on; each node's own edge before its
 // children's. `next` is where the next code into each node belongs.
 fn edge_list(parents: &[u16], next: &mut [usize; NODES], edges: &mut [usize])
-    requires { ⌜ Parents (now parents) × Counted (now parents) (codesBefore (now parents)) 0 (now next) ⌝ }
+    requires { ⌜ Parents (now parents) × CountedCodes (now parents) (codesBefore (now parents)) 0 (now next) ⌝ }
     requires { ⌜ codesOf (now parents) ≤ length (now edges) ⌝ }
     ensures { λ _. ⌜ EdgesIn (now (parents .entry)) (now (edges .entry)) (now (edges .exit)) ⌝ }
 {

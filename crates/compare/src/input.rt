@@ -2,7 +2,7 @@
 ghost use mathlib.Core.Path.{_≡_};
 ghost use lib.ListN.{length};
 ghost use Rattle.compare.specs.Input.{Within};
-ghost use Rattle.compare.specs.lemmas.InputLaws.{answered};
+ghost use Rattle.compare.specs.lemmas.InputLaws.{readAnswer};
 
 // How many bytes came; or that a read failed.
 pub enum Input {
@@ -13,7 +13,7 @@ pub enum Input {
 // What a read into `part` answered. A read that a signal broke off counts as failed: the program has no handler, so no
 // signal that leaves it running breaks one off.
 fn answer(got: isize, part: &[u8]) -> Input
-    ensures { λ r. ⌜ r ≡ answered got (length (now (part .entry))) ⌝ }
+    ensures { λ r. ⌜ r ≡ readAnswer got (length (now (part .entry))) ⌝ }
 {
     if got < 0 {
         return Input::Failed;

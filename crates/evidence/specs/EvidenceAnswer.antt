@@ -9,7 +9,7 @@ use Rattle.tree_check.specs.Refusals.{Rule, refusal, ifAccepted}
 use Rattle.trees.specs.declared.witness.Witness.the-variants.{Meet}
 use Rattle.asked_labels.specs.LabelOrder.{askedOrder}
 use Rattle.trees.specs.Topology.{topology}
-use Rattle.trees.specs.Witness.{witness, isEdge, numberOf, ShownBy}
+use Rattle.trees.specs.Witness.{witness, isEdge, witnessNumber, ShownBy}
 use Rattle.counting.specs.declared.Case.{Case}
 use Rattle.counting.specs.declared.Case.the-variants.{A, B, C, D, E}
 use Rattle.counting.specs.Cases.{caseOf, caseNumber}
@@ -61,7 +61,7 @@ pub record EvidenceTold (t u : Table) (a b c d : ℕ) (r : EvidenceAnswer) : Typ
   pub number-told : r .refusal ≡ refusal (evidenceOrder t u (a ∷ b ∷ c ∷ d ∷ []))
   -- a refusal shows case E, and meeting node 0 for both trees
   pub refused : r .refusal ≢ 0 → (caseNumber (r .which) ≡ 4)
-      × (isEdge (r .first) ≡ 0) × (numberOf (r .first) ≡ 0) × (isEdge (r .second) ≡ 0) × (numberOf (r .second) ≡ 0)
+      × (isEdge (r .first) ≡ 0) × (witnessNumber (r .first) ≡ 0) × (isEdge (r .second) ≡ 0) × (witnessNumber (r .second) ≡ 0)
   pub case-told : r .refusal ≡ 0 → r .which ≡ caseOf (topology t a b c d) (topology u a b c d)
   -- a butterfly with an edge, a star with a meeting node
   pub first-edge : isEdge (r .first) ≡ firstParts (r .which)

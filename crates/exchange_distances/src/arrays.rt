@@ -12,7 +12,7 @@ ghost use Rattle.table_words.specs.Sizes.{nodeRoom};
 ghost use Rattle.shapes.specs.theorems.Shape.{Shape};
 ghost use Rattle.tree_check.specs.lemmas.Sized.{Sized};
 ghost use Rattle.exchange_distances.specs.lemmas.SpanSizes.{SpansFit, SpanSizes};
-ghost use Rattle.exchange_distances.specs.lemmas.WalkArrays.{SizesOf, Squared};
+ghost use Rattle.exchange_distances.specs.lemmas.WalkArrays.{ShapeSizes, Squared};
 ghost use Rattle.exchange_distances.specs.lemmas.SquareLoops.{Sizing, RestSquared};
 ghost use Rattle.exchange_distances.specs.lemmas.TableArrays.{Arrays};
 
@@ -45,7 +45,7 @@ fn square_rest(parents: &[u16], n: usize, size: &[usize; NODES], square: &mut [u
 // The squares at each node: the labels behind each directed edge into it, squared and added.
 fn squares(parents: &[u16], n: usize, size: &[usize; NODES], square: &mut [usize; NODES])
     requires { ⌜ Sizing n (now parents) (now size) × (length (now square) ≡ nodeRoom) ⌝ }
-    ensures { λ _. ⌜ ((s : Shape n) → SizesOf n (now (parents .entry)) (now (size .entry)) s
+    ensures { λ _. ⌜ ((s : Shape n) → ShapeSizes n (now (parents .entry)) (now (size .entry)) s
         → Squared n (now (parents .entry)) (now (size .entry)) (now (square .exit)) s) ⌝ }
 {
     square_rest(parents, n, size, square);

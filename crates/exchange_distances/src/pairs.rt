@@ -6,16 +6,16 @@ use table_words::as_index;
 ghost use mathlib.Core.Path.{_≡_};
 ghost use Prim.Native.Nat.{_*_, _-_, _/_, _≤_};
 ghost use Rattle.sums.specs.Fours.{fours};
-ghost use Rattle.exchanges.specs.theorems.Walk.{whole as Walk·whole};
-ghost use Rattle.exchange_distances.specs.lemmas.WalkArrays.{Walked};
-ghost use Rattle.exchange_distances.specs.lemmas.TallyLoops.{fallsAt, Counted};
-ghost use Rattle.exchange_distances.specs.lemmas.TallyRoom.{RowRoom};
-ghost use Rattle.exchange_distances.specs.lemmas.PairTallies.{Tallied};
+ghost use Rattle.exchanges.specs.theorems.Walk.{wholeCost};
+ghost use Rattle.exchange_distances.specs.lemmas.WalkArrays.{WalkedArrays};
+ghost use Rattle.exchange_distances.specs.lemmas.TallyLoops.{fallsAt, CountedTallies};
+ghost use Rattle.exchange_distances.specs.lemmas.TallyRoom.{TallyRowRoom};
+ghost use Rattle.exchange_distances.specs.lemmas.PairTallies.{ShapeTallied};
 
 // Six times the distance of a path that takes nothing.
 pub(crate) fn whole_of(n: usize) -> usize
     requires { ⌜ (2 ≤ n) × (n ≤ 256) ⌝ }
-    ensures { λ r. ⌜ r ≡ Walk·whole n ⌝ }
+    ensures { λ r. ⌜ r ≡ wholeCost n ⌝ }
 {
     let k = n - 2;
     2 * (k * (k * k)) + 3 * (k * k)
@@ -38,8 +38,8 @@ fn tally_row(
     costs: &[usize; NODES],
     tallies: &mut [u64; 11],
 )
-    requires { ⌜ RowRoom y whole sets (now labelled) (now costs) (now tallies) ⌝ }
-    ensures { λ _. ⌜ Counted (fallsAt whole sets (now (labelled .entry)) (now (costs .entry))) y (now (tallies .entry))
+    requires { ⌜ TallyRowRoom y whole sets (now labelled) (now costs) (now tallies) ⌝ }
+    ensures { λ _. ⌜ CountedTallies (fallsAt whole sets (now (labelled .entry)) (now (costs .entry))) y (now (tallies .entry))
         (now (tallies .exit)) ⌝ }
 {
     let mut x = 0;
@@ -59,8 +59,8 @@ pub(crate) fn tally_pairs(
     size: &[usize; NODES],
     square: &[usize; NODES],
 ) -> [u64; 11]
-    requires { ⌜ Walked n (now parents) (now labelled) (now size) (now square) × (4 ≤ n) ⌝ }
-    ensures { λ r. ⌜ Tallied n (now (parents .entry)) (now (labelled .entry)) (now (size .entry)) (now (square .entry)) r ⌝ }
+    requires { ⌜ WalkedArrays n (now parents) (now labelled) (now size) (now square) × (4 ≤ n) ⌝ }
+    ensures { λ r. ⌜ ShapeTallied n (now (parents .entry)) (now (labelled .entry)) (now (size .entry)) (now (square .entry)) r ⌝ }
 {
     let whole = whole_of(n);
     let sets = sets_of_four(n);

@@ -10,7 +10,7 @@ ghost use Prim.Native.Nat.{_-_};
 ghost use lib.ListN.{length};
 ghost use Rattle.table_words.specs.Sizes.{nodeRoom};
 ghost use Rattle.sums.specs.Sum.{sum};
-ghost use Rattle.kept_triplets.specs.lemmas.Edges.{adds as Edges·adds, addsAt, ListedTo, NodeSums, ListedSums, edgeListed};
+ghost use Rattle.kept_triplets.specs.lemmas.Edges.{adds as Edges·adds, addsAt, ListedEdges, NodeSums, ListedSums, edgeListed};
 
 // Whether an edge adds anything, with s kept labels beyond it and p beyond its parent's edge: it has two, and fewer than the
 // edge above it.
@@ -33,7 +33,7 @@ pub(crate) fn list_edges(
     listed: &mut [usize; NODES],
 ) -> usize
     requires { ⌜ NodeSums (now all) (now begin) (now end) (now table) m × (length (now listed) ≡ nodeRoom) ⌝ }
-    ensures { λ r. ⌜ ListedTo (m - 2) r (addsAt (now (all .entry)) (now (begin .entry)) (now (end .entry)) (now (table .entry)))
+    ensures { λ r. ⌜ ListedEdges (m - 2) r (addsAt (now (all .entry)) (now (begin .entry)) (now (end .entry)) (now (table .entry)))
         (now (listed .exit)) ⌝ }
 {
     let last = m - 2;

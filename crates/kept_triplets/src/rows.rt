@@ -13,7 +13,7 @@ ghost use Prim.Native.Nat.{_+_, _-_, _≤_, _<_};
 ghost use Rattle.sums.specs.Sum.{sum};
 ghost use Rattle.tree_check.specs.Table.{tips as Table·tips, nodes as Table·nodes};
 ghost use Rattle.counting.specs.theorems.KeptTripletSums.{edgeOver, alikeOver, apartOver};
-ghost use Rattle.kept_triplets.specs.lemmas.Rows.{FourSums, RowSums, Prepared, alikeAt, apartAt, alikeListed, apartListed};
+ghost use Rattle.kept_triplets.specs.lemmas.Rows.{FourSums, RowSums, Prepared, keptAlikeAt, keptApartAt, keptAlikeListed, keptApartListed};
 ghost use Rattle.kept_triplets.specs.lemmas.AllRows.{RowsListed};
 
 pub(crate) struct PairTerms {
@@ -33,8 +33,8 @@ fn pair_at(
 ) -> PairTerms
     requires { ⌜ FourSums (now sums) (now begin) (now end) j p ⌝ }
     ensures { λ r. ⌜
-        (r .alike ≡ alikeAt (now (sums .entry)) (now (begin .entry)) (now (end .entry)) j p)
-        × (r .apart ≡ apartAt (now (sums .entry)) (now (begin .entry)) (now (end .entry)) j p)
+        (r .alike ≡ keptAlikeAt (now (sums .entry)) (now (begin .entry)) (now (end .entry)) j p)
+        × (r .apart ≡ keptApartAt (now (sums .entry)) (now (begin .entry)) (now (end .entry)) j p)
         ⌝ }
 {
     let own = cell(sums, begin[j], end[j]);
@@ -57,9 +57,9 @@ fn row_terms(
 ) -> PairTerms
     requires { ⌜ RowSums (now sums) (now begin) (now end) (now second) (now columns) count ⌝ }
     ensures { λ r. ⌜
-        (r .alike ≡ sum count (alikeListed (now (sums .entry)) (now (begin .entry)) (now (end .entry))
+        (r .alike ≡ sum count (keptAlikeListed (now (sums .entry)) (now (begin .entry)) (now (end .entry))
         (now (second .entry)) (now (columns .entry))))
-        × (r .apart ≡ sum count (apartListed (now (sums .entry)) (now (begin .entry)) (now (end .entry))
+        × (r .apart ≡ sum count (keptApartListed (now (sums .entry)) (now (begin .entry)) (now (end .entry))
         (now (second .entry)) (now (columns .entry))))
         ⌝ }
 {

@@ -10,7 +10,7 @@ ghost use mathlib.Core.Path.{_≡_};
 ghost use Prim.Native.Nat.{_-_, _≤_};
 ghost use Rattle.sums.specs.theorems.ThreesLaws.{threes};
 ghost use Rattle.triplets.specs.TripletAnswer.{refusedTriplets};
-ghost use Rattle.triplets.specs.lemmas.FormedTriplets.{TableFits, formed};
+ghost use Rattle.triplets.specs.lemmas.FormedTriplets.{TripletsFit, formedTriplets};
 ghost use Rattle.kept_triplets.specs.KeptAnswer.{keptAnswer};
 
 // How many sets of three there are among the labels 1 to n - 1.
@@ -26,8 +26,8 @@ fn sets_of_three(n: u64) -> u64
 
 // The five counts, from the sums over edges and over pairs of edges.
 fn form_table(first: u64, second: u64, alike: u64, apart: u64, n: u64) -> TripletTable
-    requires { ⌜ TableFits n first second alike apart ⌝ }
-    ensures { λ r. ⌜ r ≡ formed n first second alike apart ⌝ }
+    requires { ⌜ TripletsFit n first second alike apart ⌝ }
+    ensures { λ r. ⌜ r ≡ formedTriplets n first second alike apart ⌝ }
 {
     let a = alike / 2;
     let b = apart;

@@ -8,7 +8,7 @@ ghost use mathlib.Core.List.{_++_};
 ghost use Prim.Native.Nat.{_≤_, _+_};
 ghost use lib.ListN.{length};
 ghost use Rattle.io.specs.Counts.{Counts};
-ghost use Rattle.listings.specs.lemmas.Written.{Written};
+ghost use Rattle.listings.specs.lemmas.Written.{TextWritten};
 ghost use Rattle.listings.specs.Listing.{firstLines, quartetLines, splitLine, tripletLine, lines, listed};
 ghost use Rattle.listings.specs.Listing.{textRoom, bytesListed, afterListing};
 
@@ -18,7 +18,7 @@ pub const TEXT: usize = 512;
 // The lines of the tips and of the claim sums.
 fn put_first_lines(figures: Figures, out: &mut [u8]) -> usize
     requires { ⌜ 119 ≤ length (now out) ⌝ }
-    ensures { λ r. ⌜ Written 0 (now (out .entry)) (firstLines figures) r (now (out .exit)) × (r ≤ 119) ⌝ }
+    ensures { λ r. ⌜ TextWritten 0 (now (out .entry)) (firstLines figures) r (now (out .exit)) × (r ≤ 119) ⌝ }
 {
     let tips = [as_count(figures.tips)];
     let sums = figures.claims;
@@ -30,7 +30,7 @@ fn put_first_lines(figures: Figures, out: &mut [u8]) -> usize
 // The lines of the five cases of quartets and of the distance.
 fn put_quartet_lines(figures: Figures, at: usize, out: &mut [u8]) -> usize
     requires { ⌜ at + 144 ≤ length (now out) ⌝ }
-    ensures { λ r. ⌜ Written at (now (out .entry)) (quartetLines figures) r (now (out .exit)) × (r ≤ at + 144) ⌝ }
+    ensures { λ r. ⌜ TextWritten at (now (out .entry)) (quartetLines figures) r (now (out .exit)) × (r ≤ at + 144) ⌝ }
 {
     let cases = figures.quartets;
     let quartets = [cases.a, cases.b, cases.c, cases.d, cases.e];
@@ -43,7 +43,7 @@ fn put_quartet_lines(figures: Figures, at: usize, out: &mut [u8]) -> usize
 fn put_last_lines(figures: Figures, at: usize, out: &mut [u8]) -> usize
     requires { ⌜ at + 205 ≤ length (now out) ⌝ }
     ensures { λ r. ⌜
-        Written at (now (out .entry)) (splitLine figures ++ tripletLine figures) r (now (out .exit))
+        TextWritten at (now (out .entry)) (splitLine figures ++ tripletLine figures) r (now (out .exit))
         × (r ≤ at + 205)
         ⌝ }
 {
@@ -63,7 +63,7 @@ fn put_last_lines(figures: Figures, at: usize, out: &mut [u8]) -> usize
 // The six lines.
 fn put_lines(figures: Figures, out: &mut [u8]) -> usize
     requires { ⌜ 468 ≤ length (now out) ⌝ }
-    ensures { λ r. ⌜ Written 0 (now (out .entry)) (lines figures) r (now (out .exit)) × (r ≤ 468) ⌝ }
+    ensures { λ r. ⌜ TextWritten 0 (now (out .entry)) (lines figures) r (now (out .exit)) × (r ≤ 468) ⌝ }
 {
     let middle = put_first_lines(figures, out);
     let end = put_quartet_lines(figures, middle, out);
@@ -73,7 +73,7 @@ fn put_lines(figures: Figures, out: &mut [u8]) -> usize
 // The six lines, or the line of a refusal.
 fn put_listing(figures: Figures, out: &mut [u8]) -> usize
     requires { ⌜ 468 ≤ length (now out) ⌝ }
-    ensures { λ r. ⌜ Written 0 (now (out .entry)) (listed figures) r (now (out .exit)) × (r ≤ 468) ⌝ }
+    ensures { λ r. ⌜ TextWritten 0 (now (out .entry)) (listed figures) r (now (out .exit)) × (r ≤ 468) ⌝ }
 {
     if figures.refusal == 0 {
         return put_lines(figures, out);

@@ -2,7 +2,7 @@
 ghost use mathlib.Core.Path.{_≡_};
 ghost use Prim.Native.Nat.{_+_, _*_, _≤_};
 ghost use lib.ListN.{length};
-ghost use Rattle.listings.specs.lemmas.Written.{Written, written};
+ghost use Rattle.listings.specs.lemmas.Written.{TextWritten, textWritten};
 ghost use Rattle.listings.specs.Lines.{spaced, spacedAll, line as Lines·line};
 
 // The bytes, from `at` on.
@@ -10,7 +10,7 @@ pub(crate) fn copy(bytes: &[u8], at: usize, out: &mut [u8]) -> usize
     requires { ⌜ at + length (now bytes) ≤ length (now out) ⌝ }
     ensures { λ r. ⌜
         (r ≡ at + length (now (bytes .entry)))
-        × (now (out .exit) ≡ written at (now (bytes .entry)) (now (out .entry)))
+        × (now (out .exit) ≡ textWritten at (now (bytes .entry)) (now (out .entry)))
         ⌝ }
 {
     let mut i = 0;
@@ -24,7 +24,7 @@ pub(crate) fn copy(bytes: &[u8], at: usize, out: &mut [u8]) -> usize
 // The number, after a space.
 fn put_number(n: u64, at: usize, out: &mut [u8]) -> usize
     requires { ⌜ at + 21 ≤ length (now out) ⌝ }
-    ensures { λ r. ⌜ Written at (now (out .entry)) (spaced n) r (now (out .exit)) × (r ≤ at + 21) ⌝ }
+    ensures { λ r. ⌜ TextWritten at (now (out .entry)) (spaced n) r (now (out .exit)) × (r ≤ at + 21) ⌝ }
 {
     let mut digits = [0u8; 20];
     let k = io::decimal(n, &mut digits);
@@ -36,7 +36,7 @@ fn put_number(n: u64, at: usize, out: &mut [u8]) -> usize
 fn put_numbers(numbers: &[u64], at: usize, out: &mut [u8]) -> usize
     requires { ⌜ at + 21 * length (now numbers) ≤ length (now out) ⌝ }
     ensures { λ r. ⌜
-        Written at (now (out .entry)) (spacedAll (now (numbers .entry))) r (now (out .exit))
+        TextWritten at (now (out .entry)) (spacedAll (now (numbers .entry))) r (now (out .exit))
         × (r ≤ at + 21 * length (now (numbers .entry)))
         ⌝ }
 {
@@ -53,7 +53,7 @@ fn put_numbers(numbers: &[u64], at: usize, out: &mut [u8]) -> usize
 pub(crate) fn put_line(word: &[u8], numbers: &[u64], at: usize, out: &mut [u8]) -> usize
     requires { ⌜ at + length (now word) + 21 * length (now numbers) + 1 ≤ length (now out) ⌝ }
     ensures { λ r. ⌜
-        Written at (now (out .entry)) (Lines·line (now (word .entry)) (now (numbers .entry))) r (now (out .exit))
+        TextWritten at (now (out .entry)) (Lines·line (now (word .entry)) (now (numbers .entry))) r (now (out .exit))
         × (r ≤ at + length (now (word .entry)) + 21 * length (now (numbers .entry)) + 1)
         ⌝ }
 {

@@ -16,12 +16,12 @@ use Rattle.median_tree.specs.declared.median.NearestAnswer.{NearestAnswe
 use Rattle.median_tree.specs.Least.{firstLeast}
 
 -- the quartet distance B + C + D of two trees of the list, over all labels
-unfoldable pub apart : List ℕ → ℕ → ℕ → ℕ
-apart list i j = distance (all (tips (treeAt list 0))) (treeAt list i) (treeAt list j)
+unfoldable pub distanceOf : List ℕ → ℕ → ℕ → ℕ
+distanceOf list i j = distance (all (tips (treeAt list 0))) (treeAt list i) (treeAt list j)
 
 -- the summed distance of tree i to all
 unfoldable pub sumTo : List ℕ → ℕ → ℕ
-sumTo list i = sum (treesOf list) (apart list i)
+sumTo list i = sum (treesOf list) (distanceOf list i)
 
 -- the cells for the largest tree against itself
 unfoldable pub listCells : List ℕ → ℕ

@@ -12,9 +12,9 @@ ghost use Rattle.counting.specs.Cases.{distance};
 ghost use Rattle.pair_check.specs.PairOrder.{cellsNeeded, IsPair};
 ghost use Rattle.tree_lists.specs.TreeLists.{treesMost, treesOf};
 ghost use Rattle.median_tree.specs.Least.{firstLeast};
-ghost use Rattle.median_tree.specs.Nearest.{apart, listCells};
+ghost use Rattle.median_tree.specs.Nearest.{distanceOf, listCells};
 ghost use Rattle.median_tree.specs.lemmas.SameCells.{SameFrom};
-ghost use Rattle.median_tree.specs.lemmas.Distances.{Ready};
+ghost use Rattle.median_tree.specs.lemmas.Distances.{ListReady};
 ghost use Rattle.median_tree.specs.lemmas.RowSums.{Sums};
 
 // The most trees of a list.
@@ -44,9 +44,9 @@ fn pair_distance(
     n: usize,
     work: &mut [Cell],
 ) -> u64
-    requires { ⌜ Ready (now list) (now starts) n (length (now work)) × (i < treesOf (now list)) × (j < treesOf (now list)) ⌝ }
+    requires { ⌜ ListReady (now list) (now starts) n (length (now work)) × (i < treesOf (now list)) × (j < treesOf (now list)) ⌝ }
     ensures { λ r. ⌜
-        (r ≡ apart (now (list .entry)) i j)
+        (r ≡ distanceOf (now (list .entry)) i j)
         × SameFrom (listCells (now (list .entry))) (now (work .entry)) (now (work .exit))
         ⌝ }
 {
@@ -67,10 +67,10 @@ fn add_row(
     sums: &mut [u64; TREES],
 )
     requires { ⌜
-        Ready (now list) (now starts) n (length (now work)) × (i < treesOf (now list)) × Sums (apart (now list)) i 0 (now sums)
+        ListReady (now list) (now starts) n (length (now work)) × (i < treesOf (now list)) × Sums (distanceOf (now list)) i 0 (now sums)
         ⌝ }
     ensures { λ _. ⌜
-        Sums (apart (now (list .entry))) (i + 1) 0 (now (sums .exit))
+        Sums (distanceOf (now (list .entry))) (i + 1) 0 (now (sums .exit))
         × SameFrom (listCells (now (list .entry))) (now (work .entry)) (now (work .exit))
         ⌝ }
 {
@@ -91,9 +91,9 @@ pub(crate) fn all_sums(
     n: usize,
     work: &mut [Cell],
 ) -> [u64; TREES]
-    requires { ⌜ Ready (now list) (now starts) n (length (now work)) × (k ≡ treesOf (now list)) ⌝ }
+    requires { ⌜ ListReady (now list) (now starts) n (length (now work)) × (k ≡ treesOf (now list)) ⌝ }
     ensures { λ r. ⌜
-        Sums (apart (now (list .entry))) k 0 r
+        Sums (distanceOf (now (list .entry))) k 0 r
         × SameFrom (listCells (now (list .entry))) (now (work .entry)) (now (work .exit))
         ⌝ }
 {

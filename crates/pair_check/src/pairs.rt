@@ -11,7 +11,7 @@ ghost use Rattle.tree_check.specs.Refusals.{refusal};
 ghost use Rattle.tree_check.specs.Table.{tips as Table·tips};
 ghost use Rattle.marks.specs.Marks.{keptOf};
 ghost use Rattle.pair_check.specs.PairOrder.{tablesOrder, cellsOrder, pairOrder};
-ghost use Rattle.pair_check.specs.CheckedPair.{checkedPair, checkedCells, checkedWork, numberOf, Told};
+ghost use Rattle.pair_check.specs.CheckedPair.{checkedPair, checkedCells, checkedWork, pairNumber, PairTold};
 ghost use Rattle.pair_check.specs.lemmas.PairOutcomes.{measuredPair};
 
 // What the check finds: a pair with its tips, how many of them are counted, the first tree's edges and the second's, or the
@@ -28,7 +28,7 @@ pub enum CheckedPair {
 
 // The number of an answer: 0 for accepted.
 pub fn pair_refusal(answer: CheckedPair) -> u16
-    ensures { λ r. ⌜ r ≡ numberOf answer ⌝ }
+    ensures { λ r. ⌜ r ≡ pairNumber answer ⌝ }
 {
     match answer {
         CheckedPair::Pair {
@@ -45,7 +45,7 @@ pub fn pair_refusal(answer: CheckedPair) -> u16
 pub fn check_pair(first: &[u16], second: &[u16]) -> CheckedPair
     ensures { λ r. ⌜
         (r ≡ checkedPair (now (first .entry)) (now (second .entry)))
-        × Told (refusal (tablesOrder (now (first .entry)) (now (second .entry)))) (now (first .entry)) (now (second .entry))
+        × PairTold (refusal (tablesOrder (now (first .entry)) (now (second .entry)))) (now (first .entry)) (now (second .entry))
         (Table·tips (now (first .entry))) r
         ⌝ }
 {
@@ -90,7 +90,7 @@ fn measured(tips: u16, counted: u16, rows: usize, columns: usize, cells: usize) 
 pub fn check_cells(first: &[u16], second: &[u16], cells: usize) -> CheckedPair
     ensures { λ r. ⌜
         (r ≡ checkedCells (now (first .entry)) (now (second .entry)) cells)
-        × Told (refusal (cellsOrder (now (first .entry)) (now (second .entry)) cells)) (now (first .entry)) (now (second .entry))
+        × PairTold (refusal (cellsOrder (now (first .entry)) (now (second .entry)) cells)) (now (first .entry)) (now (second .entry))
         (Table·tips (now (first .entry))) r
         ⌝ }
 {
@@ -112,7 +112,7 @@ pub fn check_cells(first: &[u16], second: &[u16], cells: usize) -> CheckedPair
 pub fn check_work(first: &[u16], second: &[u16], marks: &[u8], cells: usize) -> CheckedPair
     ensures { λ r. ⌜
         (r ≡ checkedWork (now (first .entry)) (now (second .entry)) (now (marks .entry)) cells)
-        × Told (refusal (pairOrder (now (first .entry)) (now (second .entry)) (now (marks .entry)) cells))
+        × PairTold (refusal (pairOrder (now (first .entry)) (now (second .entry)) (now (marks .entry)) cells))
         (now (first .entry)) (now (second .entry)) (keptOf (now (marks .entry)) (Table·tips (now (first .entry)))) r
         ⌝ }
 {

@@ -15,7 +15,7 @@ ghost use Rattle.tree_check.specs.Refusals.{refusal};
 ghost use Rattle.tree_check.specs.IsTree.{IsTree};
 ghost use Rattle.sums.specs.Swaps.{swapped};
 ghost use Rattle.rerooting.specs.Rerooted.{rerootOrder, written, afterReroot};
-ghost use Rattle.rerooting.specs.lemmas.Writing.{Numbered, NodesWritten, parentFor};
+ghost use Rattle.rerooting.specs.lemmas.Writing.{TableNumbered, NodesWritten, parentFor};
 
 // 0 for x, x for 0, and any other label as it is.
 fn exchange(x: u16, y: u16) -> u16
@@ -46,7 +46,7 @@ fn parent_for(i: usize, last: usize, p: usize) -> usize
 
 // The parent and the label of each node, where its new number says.
 fn write_nodes(table: &[u16], m: usize, x: u16, news: &[usize; NODES], out: &mut [u16])
-    requires { ⌜ Numbered (now table) m x (now news) × (2 + 2 * Table·nodes (now table) ≤ length (now out)) ⌝ }
+    requires { ⌜ TableNumbered (now table) m x (now news) × (2 + 2 * Table·nodes (now table) ≤ length (now out)) ⌝ }
     ensures { λ _. ⌜ NodesWritten (now (table .entry)) x m (now (out .entry)) (now (out .exit)) ⌝ }
 {
     let last = news[0];

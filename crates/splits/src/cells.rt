@@ -11,7 +11,7 @@ ghost use Rattle.sums.specs.Tests.{some};
 ghost use Rattle.tree_pairs.specs.lemmas.EdgeRows.{EdgeRoom};
 ghost use Rattle.splits.specs.lemmas.SplitCells.{splitSize, newSize, halfRow, newEdge, edgeSplits};
 ghost use Rattle.splits.specs.lemmas.SplitCells.{sharedRow, apartRow, occursRow, commonRow, commonRows};
-ghost use Rattle.splits.specs.lemmas.SplitLoops.{RowsRoom, RowRoom};
+ghost use Rattle.splits.specs.lemmas.SplitLoops.{RowsRoom, SplitRowRoom};
 
 // Whether an edge with `size` of the kept labels beyond it is a split.
 pub(crate) fn is_split(size: Cell, kept: u64) -> bool
@@ -116,7 +116,7 @@ fn is_both(x: Cell, y: Cell, z: Cell) -> bool
 // Whether a cell of the row that begins at `base` has the row's size and the column's. Every column is looked at, so that
 // several are compared at a time.
 pub(crate) fn shared_row(work: &[Cell], base: usize, width: usize) -> bool
-    requires { ⌜ RowRoom (length (now work)) base width ⌝ }
+    requires { ⌜ SplitRowRoom (length (now work)) base width ⌝ }
     ensures { λ r. ⌜ r ≡ sharedRow width (now (work .entry)) base ⌝ }
 {
     let mut found = 0u16;
@@ -145,7 +145,7 @@ fn is_apart(cell: Cell, x: Cell, y: Cell, kept: u64) -> bool
 
 // Whether some column has beyond it the kept labels that the row that begins at `base` has not.
 pub(crate) fn apart_row(work: &[Cell], base: usize, width: usize, kept: u64) -> bool
-    requires { ⌜ RowRoom (length (now work)) base width ⌝ }
+    requires { ⌜ SplitRowRoom (length (now work)) base width ⌝ }
     ensures { λ r. ⌜ r ≡ apartRow kept width (now (work .entry)) base ⌝ }
 {
     let mut found = 0u16;
@@ -165,7 +165,7 @@ pub(crate) fn apart_row(work: &[Cell], base: usize, width: usize, kept: u64) -> 
 // Whether the row that begins at `base` has the label sets of some column. They are turned round only if all kept labels lie
 // beyond edge 1.
 fn occurs_row(work: &[Cell], base: usize, width: usize, kept: u64) -> bool
-    requires { ⌜ RowRoom (length (now work)) base width × (1 ≤ width) ⌝ }
+    requires { ⌜ SplitRowRoom (length (now work)) base width × (1 ≤ width) ⌝ }
     ensures { λ r. ⌜ r ≡ occursRow kept width (now (work .entry)) base ⌝ }
 {
     if shared_row(work, base, width) {

@@ -9,7 +9,7 @@ use tree_pairs::cross_pair;
 ghost use mathlib.Core.Path.{_≡_};
 ghost use lib.ListN.{length};
 ghost use Rattle.tree_pairs.specs.Crossings.{afterCrossings};
-ghost use Rattle.splits.specs.lemmas.SplitsCounted.{SplitsCountable, counted};
+ghost use Rattle.splits.specs.lemmas.SplitsCounted.{SplitsCountable, splitsCounted};
 ghost use Rattle.splits.specs.SplitAnswer.{splitAnswer};
 
 // The number; the first tree's splits, the second's, those of both; and the Robinson-Foulds distance.
@@ -29,7 +29,7 @@ fn count_splits(
     kept: u64,
 ) -> SplitCounts
     requires { ⌜ SplitsCountable (now work) kept (now «first_parents») (now «second_parents») ⌝ }
-    ensures { λ r. ⌜ r ≡ counted (now (work .entry)) kept (now («first_parents» .entry)) (now («second_parents» .entry)) ⌝ }
+    ensures { λ r. ⌜ r ≡ splitsCounted (now (work .entry)) kept (now («first_parents» .entry)) (now («second_parents» .entry)) ⌝ }
 {
     let width = second_parents.len() - 1;
     let first = edge_splits(work, width, first_parents, kept);

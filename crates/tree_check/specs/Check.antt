@@ -30,7 +30,7 @@ nodesOf (Tree n m) = m
 nodesOf (Refused k) = 0
 
 -- an answer tells the tree check's number, and n and m or zeros
-pub record Told (t : Table) (r : Checked) : Type 0 where
+pub record TreeTold (t : Table) (r : Checked) : Type 0 where
   pub number-told : numberOf r ≡ refusal (treeOrder t)
   pub tips-told : tipsOf r ≡ ifAccepted (refusal (treeOrder t)) (tips t) 0
   pub nodes-told : nodesOf r ≡ ifAccepted (refusal (treeOrder t)) (nodes t) 0

@@ -14,7 +14,7 @@ ghost use Rattle.tree_check.specs.Refusals.{refusal};
 ghost use Rattle.tree_check.specs.TreeOrder.{tipsFit, nodesFit, parentFits, labelFits, labelsFit, labelsOnce, misplaced};
 ghost use Rattle.tree_check.specs.TreeOrder.{arraysOrder, treeOrder};
 ghost use Rattle.tree_check.specs.theorems.TreeCheck.{ArraysFit};
-ghost use Rattle.tree_check.specs.Check.{checked, numberOf, Told};
+ghost use Rattle.tree_check.specs.Check.{checked, numberOf, TreeTold};
 
 // What the check finds: a tree with its tips and nodes, or the number of the refusal.
 pub enum Checked {
@@ -215,7 +215,7 @@ fn tree_refusal(table: &[u16]) -> u16
 
 // Whether the words are a tree table. The first broken rule decides: 1 to 6, then 31, then 7.
 pub fn check(table: &[u16]) -> Checked
-    ensures { λ r. ⌜ (r ≡ checked (now (table .entry))) × Told (now (table .entry)) r ⌝ }
+    ensures { λ r. ⌜ (r ≡ checked (now (table .entry))) × TreeTold (now (table .entry)) r ⌝ }
 {
     let number = tree_refusal(table);
     if number != 0 {

@@ -17,7 +17,7 @@ ghost use Rattle.tree_check.specs.Refusals.{refusal as Refusals·refusal};
 ghost use Rattle.tree_check.specs.TreeOrder.{treeOrder};
 ghost use Rattle.tree_lists.specs.TreeLists.{treesMost, edgesAt, wrongTree, largest};
 ghost use Rattle.tree_lists.specs.CheckedList.{refusedList, checkedList};
-ghost use Rattle.tree_lists.specs.lemmas.Starts.{Starts};
+ghost use Rattle.tree_lists.specs.lemmas.Starts.{TableStarts};
 
 // The number; how many trees there are; how many tips each has; how many edges the largest has; where each table starts, and where
 // they end.
@@ -67,7 +67,7 @@ fn is_wrong(table: &[u16], n: u16) -> bool
 
 // Whether one of the first k tables is.
 fn some_wrong(list: &[u16], starts: &[usize; STARTS], k: usize, n: u16) -> bool
-    requires { ⌜ (1 ≤ length (now list)) × (k ≤ treesMost) × Starts (now list) k (now starts) ⌝ }
+    requires { ⌜ (1 ≤ length (now list)) × (k ≤ treesMost) × TableStarts (now list) k (now starts) ⌝ }
     ensures { λ r. ⌜ r ≡ some k (wrongTree (now (list .entry)) n) ⌝ }
 {
     let mut i = 0;
@@ -84,7 +84,7 @@ fn some_wrong(list: &[u16], starts: &[usize; STARTS], k: usize, n: u16) -> bool
 
 // The most edges that one of the first k tables has.
 fn most_edges(list: &[u16], starts: &[usize; STARTS], k: usize) -> usize
-    requires { ⌜ (1 ≤ length (now list)) × (k ≤ treesMost) × Starts (now list) k (now starts) ⌝ }
+    requires { ⌜ (1 ≤ length (now list)) × (k ≤ treesMost) × TableStarts (now list) k (now starts) ⌝ }
     ensures { λ r. ⌜ (r ≡ largest k (edgesAt (now (list .entry)))) × (r < 65536) ⌝ }
 {
     let mut most = 0;

@@ -6,7 +6,7 @@ ghost use Prim.Native.Nat.{_-_, _≤_, _<_};
 ghost use lib.ListN.{length};
 ghost use Rattle.tree_check.specs.Table.{tips as Table·tips, nodes as Table·nodes};
 ghost use Rattle.tree_lists.specs.TreeLists.{treesMost};
-ghost use Rattle.tree_lists.specs.lemmas.Starts.{Starts};
+ghost use Rattle.tree_lists.specs.lemmas.Starts.{TableStarts};
 
 // The length of an array that has a cell for where each table starts, and one for their end.
 pub const STARTS: usize = 17;
@@ -38,7 +38,7 @@ pub(crate) fn edges_of(words: &[u16]) -> usize
 // Where each of the first k tables starts, and where they end; 0 in the cells after that.
 pub(crate) fn starts_of(list: &[u16], k: usize) -> [usize; STARTS]
     requires { ⌜ (1 ≤ length (now list)) × (k ≤ treesMost) ⌝ }
-    ensures { λ r. ⌜ Starts (now (list .entry)) k r ⌝ }
+    ensures { λ r. ⌜ TableStarts (now (list .entry)) k r ⌝ }
 {
     let mut starts = [0usize; STARTS];
     starts[0] = 1;

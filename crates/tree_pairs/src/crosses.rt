@@ -17,7 +17,7 @@ ghost use Rattle.tree_check.specs.Refusals.{refusal};
 ghost use Rattle.tree_check.specs.Table.{tips as Table·tips};
 ghost use Rattle.marks.specs.Marks.{keptOf};
 ghost use Rattle.pair_check.specs.PairOrder.{PairWithCells, cellsOrder, pairOrder};
-ghost use Rattle.pair_check.specs.CheckedPair.{checkedCells, checkedWork, Told};
+ghost use Rattle.pair_check.specs.CheckedPair.{checkedCells, checkedWork, PairTold};
 ghost use Rattle.tree_pairs.specs.Crossings.{crossedKept, crossedAll, afterCrossings, afterAll};
 ghost use Rattle.tree_pairs.specs.lemmas.Filling.{PairArrays};
 
@@ -74,7 +74,7 @@ fn fill_all(first: &[u16], second: &[u16], work: &mut [Cell])
 pub fn cross_pair(first: &[u16], second: &[u16], marks: &[u8], work: &mut [Cell]) -> CheckedPair
     ensures { λ r. ⌜
         (r ≡ checkedWork (now (first .entry)) (now (second .entry)) (now (marks .entry)) (length (now (work .entry))))
-        × Told (refusal (pairOrder (now (first .entry)) (now (second .entry)) (now (marks .entry)) (length (now (work .entry)))))
+        × PairTold (refusal (pairOrder (now (first .entry)) (now (second .entry)) (now (marks .entry)) (length (now (work .entry)))))
         (now (first .entry)) (now (second .entry)) (keptOf (now (marks .entry)) (Table·tips (now (first .entry)))) r
         × (now (work .exit)
         ≡ afterCrossings (now (first .entry)) (now (second .entry)) (now (marks .entry)) (now (work .entry)))
@@ -91,7 +91,7 @@ pub fn cross_pair(first: &[u16], second: &[u16], marks: &[u8], work: &mut [Cell]
 pub fn cross_all(first: &[u16], second: &[u16], work: &mut [Cell]) -> CheckedPair
     ensures { λ r. ⌜
         (r ≡ checkedCells (now (first .entry)) (now (second .entry)) (length (now (work .entry))))
-        × Told (refusal (cellsOrder (now (first .entry)) (now (second .entry)) (length (now (work .entry)))))
+        × PairTold (refusal (cellsOrder (now (first .entry)) (now (second .entry)) (length (now (work .entry)))))
         (now (first .entry)) (now (second .entry)) (Table·tips (now (first .entry))) r
         × (now (work .exit) ≡ afterAll (now (first .entry)) (now (second .entry)) (now (work .entry)))
         ⌝ }

@@ -6,7 +6,7 @@ ghost use mathlib.Core.Path.{_≡_};
 ghost use Prim.Native.Nat.{_≤_};
 ghost use lib.ListN.{length};
 ghost use Rattle.table_words.specs.Sizes.{nodeRoom};
-ghost use Rattle.tree_pairs.specs.lemmas.Listed.{Listed, rowStart};
+ghost use Rattle.tree_pairs.specs.lemmas.Listed.{ListedNodes, rowStart};
 ghost use Rattle.tree_pairs.specs.lemmas.Rows.{RowsFit, RowAdded};
 ghost use Rattle.tree_pairs.specs.lemmas.RowsUp.{Room, RowsAdded};
 
@@ -26,7 +26,7 @@ fn add_row(work: &mut [Cell], to: usize, from: usize, width: usize)
 // number, let the compiler add rows many cells at a time.
 fn row_starts(count: usize, width: usize, starts: &mut [usize; NODES])
     requires { ⌜ (count ≤ nodeRoom) × (width ≤ nodeRoom) × (length (now starts) ≡ nodeRoom) ⌝ }
-    ensures { λ _. ⌜ Listed (rowStart width) count (now (starts .exit)) ⌝ }
+    ensures { λ _. ⌜ ListedNodes (rowStart width) count (now (starts .exit)) ⌝ }
 {
     let mut v = 1;
     while v < count {

@@ -55,9 +55,9 @@ isEdge (Edge i) = 1
 isEdge (Meet v) = 0
 
 -- the number of the edge, or of the node
-abbrev pub numberOf : Witness → ℕ
-numberOf (Edge i) = i
-numberOf (Meet v) = v
+abbrev pub witnessNumber : Witness → ℕ
+witnessNumber (Edge i) = i
+witnessNumber (Meet v) = v
 
 -- ---- what an answer tells of the edges and the paths
 
@@ -84,15 +84,15 @@ pub record OneMeeting (t : Table) (a b c d v : ℕ) : Type 0 where
 
 -- what a witness shows: the lowest-numbered edge that parts the four, or, only if no edge does, the one node where they meet
 pub record ShownBy (t : Table) (a b c d : ℕ) (w : Witness) : Type 0 where
-  pub edge : isEdge w ≡ 1 → LowestParting t a b c d (numberOf w)
+  pub edge : isEdge w ≡ 1 → LowestParting t a b c d (witnessNumber w)
   pub no-edge : isEdge w ≡ 0 → (i : ℕ) → 1 ≤ i → i < nodes t → PartsAt t i a b c d → ⊥
-  pub meets : isEdge w ≡ 0 → OneMeeting t a b c d (numberOf w)
+  pub meets : isEdge w ≡ 0 → OneMeeting t a b c d (witnessNumber w)
 
 -- what an answer tells
 pub record WitnessTold (t : Table) (a b c d : ℕ) (r : WitnessAnswer) : Type 0 where
   pub number-told : r .refusal ≡ refusal (labelOrder t (a ∷ b ∷ c ∷ d ∷ []))
   -- a refusal tells meeting node 0
-  pub refused : r .refusal ≢ 0 → (isEdge (r .witness) ≡ 0) × (numberOf (r .witness) ≡ 0)
+  pub refused : r .refusal ≢ 0 → (isEdge (r .witness) ≡ 0) × (witnessNumber (r .witness) ≡ 0)
   -- a butterfly is told with an edge, a star with a meeting node
   pub by-kind : butterflyOf (r .topology) ≡ isEdge (r .witness)
   pub shown : r .refusal ≡ 0 → ShownBy t a b c d (r .witness)

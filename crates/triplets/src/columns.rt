@@ -2,7 +2,7 @@
 use table_words::Cell;
 use table_words::as_index;
 use table_words::cell_count;
-ghost use Rattle.triplets.specs.lemmas.ListedColumns.{ColumnRoom, Listed};
+ghost use Rattle.triplets.specs.lemmas.ListedColumns.{ColumnRoom, AllListed};
 
 // The columns from the second on whose first cell is 2 or more, from the front of `columns`, and in `above` the columns of
 // their parents. How many there are.
@@ -13,7 +13,7 @@ pub(crate) fn list_columns(
     above: &mut [usize],
 ) -> usize
     requires { ⌜ ColumnRoom (now work) (now parents) (now columns) (now above) ⌝ }
-    ensures { λ r. ⌜ Listed (now (work .entry)) (now (parents .entry)) r (now (columns .exit)) (now (above .exit)) ⌝ }
+    ensures { λ r. ⌜ AllListed (now (work .entry)) (now (parents .entry)) r (now (columns .exit)) (now (above .exit)) ⌝ }
 {
     let last = parents.len() - 2;
     let mut count = 0;

@@ -8,8 +8,8 @@ ghost use mathlib.Core.Path.{_≡_};
 ghost use Prim.Native.Nat.{_≤_, _<_, _-_};
 ghost use lib.ListN.{length};
 ghost use Rattle.shapes.specs.theorems.TripletCounts.{alikeTerm, apartTerm};
-ghost use Rattle.triplets.specs.lemmas.PairCells.{Nested, CrossedCells, alikeRow, apartRow, alikeSum, apartSum};
-ghost use Rattle.triplets.specs.lemmas.ListedColumns.{ColumnRoom, Listed};
+ghost use Rattle.triplets.specs.lemmas.PairCells.{Nested, CrossedCells, alikeRow, tripletsApartRow, alikeSum, apartSum};
+ghost use Rattle.triplets.specs.lemmas.ListedColumns.{ColumnRoom, AllListed};
 ghost use Rattle.triplets.specs.lemmas.ListedRows.{FourCells, RowCells, alikeAt, apartAt, alikeListed, apartListed};
 
 // Few nodes.
@@ -94,12 +94,12 @@ fn row_sums(
 ) -> PairTerms
     requires { ⌜
         CrossedCells (now work) (now «first_parents») (now «second_parents»)
-        × Listed (now work) (now «second_parents») count (now columns) (now above)
+        × AllListed (now work) (now «second_parents») count (now columns) (now above)
         × (1 ≤ row) × (row < length (now «first_parents») - 1)
         ⌝ }
     ensures { λ r. ⌜
         (r .alike ≡ alikeRow (now (work .entry)) (now («first_parents» .entry)) (now («second_parents» .entry)) row)
-        × (r .apart ≡ apartRow (now (work .entry)) (now («first_parents» .entry)) (now («second_parents» .entry)) row)
+        × (r .apart ≡ tripletsApartRow (now (work .entry)) (now («first_parents» .entry)) (now («second_parents» .entry)) row)
         ⌝ }
 {
     let width = second_parents.len() - 1;
@@ -122,7 +122,7 @@ fn pair_terms(
 ) -> PairTerms
     requires { ⌜
         CrossedCells (now work) (now «first_parents») (now «second_parents»)
-        × Listed (now work) (now «second_parents») count (now columns) (now above)
+        × AllListed (now work) (now «second_parents») count (now columns) (now above)
         ⌝ }
     ensures { λ r. ⌜
         (r .alike ≡ alikeSum (now (work .entry)) (now («first_parents» .entry)) (now («second_parents» .entry)))

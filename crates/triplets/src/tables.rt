@@ -11,8 +11,8 @@ ghost use Prim.Native.Nat.{_-_, _≤_};
 ghost use lib.ListN.{length};
 ghost use Rattle.sums.specs.theorems.ThreesLaws.{threes};
 ghost use Rattle.tree_pairs.specs.Crossings.{afterAll};
-ghost use Rattle.triplets.specs.lemmas.FormedTriplets.{TableFits, formed};
-ghost use Rattle.triplets.specs.lemmas.TripletsCounted.{Countable, counted};
+ghost use Rattle.triplets.specs.lemmas.FormedTriplets.{TripletsFit, formedTriplets};
+ghost use Rattle.triplets.specs.lemmas.TripletsCounted.{Countable, tripletsCounted};
 ghost use Rattle.triplets.specs.TripletAnswer.{tripletAnswer};
 
 // The number; the triplets resolved alike in both trees, differently, in the first only, in the second only, in neither;
@@ -40,8 +40,8 @@ fn sets_of_three(n: u64) -> u64
 
 // The five counts, from the sums over edges and over pairs of edges.
 fn form_table(first: u64, second: u64, alike: u64, apart: u64, n: u64) -> TripletTable
-    requires { ⌜ TableFits n first second alike apart ⌝ }
-    ensures { λ r. ⌜ r ≡ formed n first second alike apart ⌝ }
+    requires { ⌜ TripletsFit n first second alike apart ⌝ }
+    ensures { λ r. ⌜ r ≡ formedTriplets n first second alike apart ⌝ }
 {
     let a = alike / 2;
     let b = apart;
@@ -68,7 +68,7 @@ fn count_triplets(
     n: u64,
 ) -> TripletTable
     requires { ⌜ Countable (now work) n (now «first_parents») (now «second_parents») ⌝ }
-    ensures { λ r. ⌜ r ≡ counted (now (work .entry)) n (now («first_parents» .entry)) (now («second_parents» .entry)) ⌝ }
+    ensures { λ r. ⌜ r ≡ tripletsCounted (now (work .entry)) n (now («first_parents» .entry)) (now («second_parents» .entry)) ⌝ }
 {
     let first = edge_terms(work, second_parents.len() - 1, first_parents);
     let second = edge_terms(work, 1, second_parents);

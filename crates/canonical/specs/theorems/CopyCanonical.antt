@@ -18,7 +18,7 @@ use Rattle.tree_check.specs.IsTree.{IsTree}
 use Rattle.walks.specs.theorems.NodeLabels.{node-only}
 use Rattle.shapes.specs.theorems.Siblings.{Siblings, parting}
 use Rattle.canonical.specs.Canonical.{IsCanonical}
-use Rattle.canonical.specs.Copying.{full, low, stays, size, number, over, at, copyOf}
+use Rattle.canonical.specs.Copying.{full, low, stays, copySize, number, over, at, copyOf}
 use Rattle.canonical.specs.theorems.Branches.{TipRooted, Branch, full-of, full-up, tip-of, tip-stays, stays-full, Top, top, two-stay}
 use Rattle.canonical.specs.theorems.Numbers.{size-pos, low-label, low-least}
 use Rattle.canonical.specs.theorems.Positions.{number-one, number-lt, at-is, beside-cases}
@@ -27,7 +27,7 @@ use Rattle.canonical.specs.theorems.CopyTree.{copy-tips, copy-nodes, cop
 
 module _ (up : ℕ → ℕ) (m : ℕ) (node : ℕ → ℕ) (k : ℕ) (h : TipRooted up m node k) (small : k ≤ 256) where
   abbrev N : ℕ
-  N = size up m node k 0
+  N = copySize up m node k 0
 
   abbrev num : ℕ → ℕ
   num = number up m node k

@@ -25,7 +25,7 @@ use Rattle.tree_check.specs.theorems.RootedTables.{parent-past}
 use Rattle.sums.specs.Tests.{first}
 use Rattle.sums.specs.Lists.{inOrder}
 use Rattle.sums.specs.theorems.ListLaws.{in-order-length, in-order-at}
-use Rattle.canonical.specs.Copying.{tip, stays, size, number, over, at, labelWord, copyOf}
+use Rattle.canonical.specs.Copying.{tip, stays, copySize, number, over, at, labelWord, copyOf}
 use Rattle.canonical.specs.theorems.Branches.{TipRooted, Branch, tip-of, tip-label, tip-stays, root-stays, stays-full, stays-cases, branch-towards, Top, top}
 use Rattle.canonical.specs.theorems.Numbers.{number-zero, number-below}
 use Rattle.canonical.specs.theorems.Positions.{number-one, number-lt, size-all, at-is, at-number}
@@ -36,7 +36,7 @@ ones n a l = sum-one n a (is a) l (λ x m d. is-other a x (λ e. d (sym e))) ∙
 
 module _ (up : ℕ → ℕ) (m : ℕ) (node : ℕ → ℕ) (k : ℕ) (h : TipRooted up m node k) where
   abbrev N : ℕ
-  N = size up m node k 0
+  N = copySize up m node k 0
 
   abbrev num : ℕ → ℕ
   num = number up m node k

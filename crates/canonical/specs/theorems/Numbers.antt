@@ -18,7 +18,7 @@ use Rattle.shapes.specs.theorems.AncestorLaws.{up-ind, anc-le, anc-up, anc-at-z
 use Rattle.shapes.specs.Ancestors.{anc}
 use Rattle.shapes.specs.theorems.Siblings.{Siblings}
 use Rattle.sums.specs.Tests.{first}
-use Rattle.canonical.specs.Copying.{full, low, branch, stays, size, earlier, numberIn, number}
+use Rattle.canonical.specs.Copying.{full, low, branch, stays, copySize, earlier, numberIn, number}
 use Rattle.canonical.specs.theorems.Branches.{passed, TipRooted, Branch, full-label, full-up, branch-iff-to, branch-iff-of, branch-towards, branch-above, branch-lt}
 
 pub both : (a b : Bool) → 1 ≤ bit a * bit b → T a × T b
@@ -49,8 +49,8 @@ grows m c A B s l ab na bc = omega (
 module _ (up : ℕ → ℕ) (m : ℕ) (node : ℕ → ℕ) (k : ℕ) (h : TipRooted up m node k) where
   -- ---- sizes
 
-  pub size-pos : (v : ℕ) → v < m → T (stays up m node k v) → 1 ≤ size up m node k v
-  unfolding size
+  pub size-pos : (v : ℕ) → v < m → T (stays up m node k v) → 1 ≤ copySize up m node k v
+  unfolding copySize
   size-pos v l t = omega (
     arith,
     sum-ge m (λ w. bit (stays up m node k w && anc up v w)) v l,
@@ -112,8 +112,8 @@ module _ (up : ℕ → ℕ) (m : ℕ) (node : ℕ → ℕ) (k : ℕ) (h : TipRoo
 
   -- v, if it stays, and its branches are no more than the whole
   pub size-parts : (v : ℕ) → v < m
-      → bit (stays up m node k v) + sum m (λ d. bit (branch up m node k v d) * size up m node k d) ≤ size up m node k v
-  unfolding size
+      → bit (stays up m node k v) + sum m (λ d. bit (branch up m node k v d) * copySize up m node k d) ≤ copySize up m node k v
+  unfolding copySize
   size-parts v l = omega (
     arith,
     sum-is m v (λ w. bit (stays up m node k w)) l,
@@ -153,10 +153,10 @@ module _ (up : ℕ → ℕ) (m : ℕ) (node : ℕ → ℕ) (k : ℕ) (h : TipRoo
   -- ---- earlier branches
 
   pub earlier-next : (v c d : ℕ) → c < m → Branch up m node k v c → low up m node k c < low up m node k d
-      → earlier up m node k v c + size up m node k c ≤ earlier up m node k v d
+      → earlier up m node k v c + copySize up m node k c ≤ earlier up m node k v d
   unfolding earlier
   earlier-next v c d l a q = grows m c (λ e. branch up m node k v e && ltb (low up m node k e) (low up m node k c))
-      (λ e. branch up m node k v e && ltb (low up m node k e) (low up m node k d)) (size up m node k) l
+      (λ e. branch up m node k v e && ltb (low up m node k e) (low up m node k d)) (copySize up m node k) l
       (λ e t. let p = and-iff (branch up m node k v e) _ .0 t in
       and-iff (branch up m node k v e) _ .1 (p .0, lt-iff _ _ .1 (less e (lt-iff _ _ .0 (p .1)))))
       (λ t. let q : low up m node k c < low up m node k c = lt-iff _ _ .0 (and-iff (branch up m node k v c) _ .0 t .1) in omega arith)
@@ -166,9 +166,9 @@ module _ (up : ℕ → ℕ) (m : ℕ) (node : ℕ → ℕ) (k : ℕ) (h : TipRoo
       less e p = omega arith
 
   pub earlier-all : (v c : ℕ) → c < m → Branch up m node k v c
-      → earlier up m node k v c + size up m node k c ≤ sum m (λ d. bit (branch up m node k v d) * size up m node k d)
+      → earlier up m node k v c + copySize up m node k c ≤ sum m (λ d. bit (branch up m node k v d) * copySize up m node k d)
   unfolding earlier
-  earlier-all v c l a = grows m c (λ d. branch up m node k v d && ltb (low up m node k d) (low up m node k c)) (branch up m node k v) (size up m node k) l
+  earlier-all v c l a = grows m c (λ d. branch up m node k v d && ltb (low up m node k d) (low up m node k c)) (branch up m node k v) (copySize up m node k) l
       (λ e t. and-iff (branch up m node k v e) _ .0 t .0)
       (λ t. let q : low up m node k c < low up m node k c = lt-iff _ _ .0 (and-iff (branch up m node k v c) _ .0 t .1) in omega arith)
       (branch-iff-of up m node k h v c a)
@@ -207,7 +207,7 @@ module _ (up : ℕ → ℕ) (m : ℕ) (node : ℕ → ℕ) (k : ℕ) (h : TipRoo
   -- a branch's run is inside that of its node
   pub branch-inside : (v c : ℕ) → c < m → Branch up m node k v c
       → (number up m node k v + bit (stays up m node k v) ≤ number up m node k c)
-      × (number up m node k c + size up m node k c ≤ number up m node k v + size up m node k v)
+      × (number up m node k c + copySize up m node k c ≤ number up m node k v + copySize up m node k v)
   branch-inside v c l s =
       let e = number-branch v c s in
       let a = earlier-all v c l s in
@@ -216,11 +216,11 @@ module _ (up : ℕ → ℕ) (m : ℕ) (node : ℕ → ℕ) (k : ℕ) (h : TipRoo
 
   pub inside : (v w : ℕ) → w < m → T (full up m node k w) → bit (anc up v w) ≡ 1
       → (number up m node k v ≤ number up m node k w)
-      × (number up m node k w + size up m node k w ≤ number up m node k v + size up m node k v)
+      × (number up m node k w + copySize up m node k w ≤ number up m node k v + copySize up m node k v)
   inside v =
       up-ind up (h .tree) (λ w. w < m → T (full up m node k w) → bit (anc up v w) ≡ 1
       → (number up m node k v ≤ number up m node k w)
-      × (number up m node k w + size up m node k w ≤ number up m node k v + size up m node k v))
+      × (number up m node k w + copySize up m node k w ≤ number up m node k v + copySize up m node k v))
       (λ l t o. elim (alike v 0) [
         | inl e ↦ rw (e .0) (omega arith, omega arith)
         | inr d ↦ absurd (omega (arith, anc-at-zero up (h .tree) v, d .1))
@@ -246,7 +246,7 @@ module _ (up : ℕ → ℕ) (m : ℕ) (node : ℕ → ℕ) (k : ℕ) (h : TipRoo
   -- the runs of two branches of a node follow each other by smallest label
   pub number-beside : (v w : ℕ) → v < m → w < m → T (full up m node k v) → T (full up m node k w) → (s : Siblings up v w)
       → low up m node k (s .one) < low up m node k (s .two)
-      → number up m node k v + size up m node k v ≤ number up m node k w
+      → number up m node k v + copySize up m node k v ≤ number up m node k w
   number-beside v w lv lw tv tw s q =
       let r = h .tree in
       let a : Branch up m node k (up (s .one)) (s .one) = record { pos = s .pos-one; below = refl; holds = full-up up m node k h (s .one) v (s .over-one) tv } in

@@ -18,15 +18,15 @@ use Rattle.shapes.specs.theorems.AncestorLaws.{anc-root}
 use Rattle.shapes.specs.Ancestors.{anc}
 use Rattle.shapes.specs.theorems.Siblings.{Siblings, siblings-sym, parting}
 use Rattle.sums.specs.Tests.{first}
-use Rattle.canonical.specs.Copying.{full, low, stays, size, number, at}
+use Rattle.canonical.specs.Copying.{full, low, stays, copySize, number, at}
 use Rattle.canonical.specs.theorems.Branches.{passed, TipRooted, full-up, stays-full}
 use Rattle.canonical.specs.theorems.Numbers.{both, size-pos, low-apart, inside, number-zero, number-below, number-beside}
 
 module _ (up : ℕ → ℕ) (m : ℕ) (node : ℕ → ℕ) (k : ℕ) (h : TipRooted up m node k) where
   -- the branches of two nodes beside each other come by their smallest labels
   pub beside-cases : (v w : ℕ) → v < m → w < m → T (full up m node k v) → T (full up m node k w) → (s : Siblings up v w)
-      → ((low up m node k (s .one) < low up m node k (s .two)) × (number up m node k v + size up m node k v ≤ number up m node k w))
-      ⊎ ((low up m node k (s .two) < low up m node k (s .one)) × (number up m node k w + size up m node k w ≤ number up m node k v))
+      → ((low up m node k (s .one) < low up m node k (s .two)) × (number up m node k v + copySize up m node k v ≤ number up m node k w))
+      ⊎ ((low up m node k (s .two) < low up m node k (s .one)) × (number up m node k w + copySize up m node k w ≤ number up m node k v))
   beside-cases v w lv lw tv tw s = elim (decLt (low up m node k (s .one)) (low up m node k (s .two))) [
     | yes q ↦ inl (q, number-beside up m node k h v w lv lw tv tw s q)
     | no f ↦ (
@@ -59,7 +59,7 @@ module _ (up : ℕ → ℕ) (m : ℕ) (node : ℕ → ℕ) (k : ℕ) (h : TipRoo
       fw : T (full up m node k w)
       fw = stays-full up m node k h w sw
 
-  pub number-lt : (v : ℕ) → v < m → T (stays up m node k v) → number up m node k v < size up m node k 0
+  pub number-lt : (v : ℕ) → v < m → T (stays up m node k v) → number up m node k v < copySize up m node k 0
   number-lt v l s = omega (
     arith,
     inside up m node k h 0 v l (stays-full up m node k h v s) (anc-root up (h .tree) v) .1,
@@ -68,16 +68,16 @@ module _ (up : ℕ → ℕ) (m : ℕ) (node : ℕ → ℕ) (k : ℕ) (h : TipRoo
   )
 
   -- the whole
-  pub size-all : size up m node k 0 ≡ count m (stays up m node k)
-  unfolding size
+  pub size-all : copySize up m node k 0 ≡ count m (stays up m node k)
+  unfolding copySize
   size-all = sum-ext m _ _ (λ w l. ap bit (both-true w))
     where
       both-true : (w : ℕ) → (stays up m node k w && anc up 0 w) ≡ stays up m node k w
       both-true w = same-test (stays up m node k w && anc up 0 w) (stays up m node k w) (λ t. and-iff (stays up m node k w) (anc up 0 w) .0 t .0)
           (λ t. and-iff (stays up m node k w) (anc up 0 w) .1 (t, passed (anc up 0 w) (anc-root up (h .tree) w)))
 
-  numbered : (i : ℕ) → i < size up m node k 0 → 1 ≤ sum m (λ v. bit (stays up m node k v) * is (number up m node k v) i)
-  numbered = sum-all-ones (size up m node k 0) (λ i. sum m (λ v. bit (stays up m node k v) * is (number up m node k v) i))
+  numbered : (i : ℕ) → i < copySize up m node k 0 → 1 ≤ sum m (λ v. bit (stays up m node k v) * is (number up m node k v) i)
+  numbered = sum-all-ones (copySize up m node k 0) (λ i. sum m (λ v. bit (stays up m node k v) * is (number up m node k v) i))
       (λ i l. sum-at-most-one m (λ v. bit (stays up m node k v) * is (number up m node k v) i)
       (λ v lv. product-le 1 1 _ _ (bit-le (stays up m node k v)) (bit-le (eqb (number up m node k v) i)))
       (λ v w lv lw a b.
@@ -87,24 +87,24 @@ module _ (up : ℕ → ℕ) (m : ℕ) (node : ℕ → ℕ) (k : ℕ) (h : TipRoo
       (omega (
         arith,
         size-all,
-        sum-swap (size up m node k 0) m (λ i v. bit (stays up m node k v) * is (number up m node k v) i),
-        sum-ext m (λ v. sum (size up m node k 0) (λ i. bit (stays up m node k v) * is (number up m node k v) i))
+        sum-swap (copySize up m node k 0) m (λ i v. bit (stays up m node k v) * is (number up m node k v) i),
+        sum-ext m (λ v. sum (copySize up m node k 0) (λ i. bit (stays up m node k v) * is (number up m node k v) i))
             (λ v. bit (stays up m node k v)) (λ v lv. each v lv),
       ))
     where
       each : (v : ℕ) → v < m
-          → sum (size up m node k 0) (λ i. bit (stays up m node k v) * is (number up m node k v) i) ≡ bit (stays up m node k v)
-      each v lv = sum-mul-left (size up m node k 0) (bit (stays up m node k v)) (λ i. is (number up m node k v) i) ∙
+          → sum (copySize up m node k 0) (λ i. bit (stays up m node k v) * is (number up m node k v) i) ≡ bit (stays up m node k v)
+      each v lv = sum-mul-left (copySize up m node k 0) (bit (stays up m node k v)) (λ i. is (number up m node k v) i) ∙
           elim (bit-cases (stays up m node k v)) [
             | inl z ↦ rw z (omega arith)
             | inr o ↦ (let l = number-lt v lv (passed (stays up m node k v) o) in
-                let q = sum-is (size up m node k 0) (number up m node k v) (λ i. 1) l in
-                let e = sum-ext (size up m node k 0) (λ i. is (number up m node k v) i * 1) (λ i. is (number up m node k v) i) (λ i li. omega arith) in
+                let q = sum-is (copySize up m node k 0) (number up m node k v) (λ i. 1) l in
+                let e = sum-ext (copySize up m node k 0) (λ i. is (number up m node k v) i * 1) (λ i. is (number up m node k v) i) (λ i li. omega arith) in
                 rw o (omega (arith, q, e)))
           ]
 
   -- the node with the number i
-  pub at-is : (i : ℕ) → i < size up m node k 0
+  pub at-is : (i : ℕ) → i < copySize up m node k 0
       → (at up m node k i < m) × T (stays up m node k (at up m node k i)) × (number up m node k (at up m node k i) ≡ i)
   unfolding at
   at-is i l =

@@ -25,7 +25,7 @@ use Rattle.counting.specs.Kept.{kept}
 use Rattle.counting.specs.SplitCounts.{beyondAt}
 use Rattle.counting.specs.theorems.KeptLaws.{kept-rising, all-kept-number, all-kept-at}
 use Rattle.counting.specs.theorems.PassThrough.{PassThrough, NextAbove, TakenOut}
-use Rattle.canonical.specs.Copying.{tip, stays, size, number, over, at, labelWord, copyOf}
+use Rattle.canonical.specs.Copying.{tip, stays, copySize, number, over, at, labelWord, copyOf}
 use Rattle.canonical.specs.theorems.Branches.{passed, TipRooted, Branch, full-of, tip-of, tip-label, tip-stays, two-stay, stays-cases}
 use Rattle.canonical.specs.theorems.Clusters.{some-label}
 use Rattle.canonical.specs.theorems.Positions.{number-lt, at-is, at-number}
@@ -135,7 +135,7 @@ module _ (t : Table) (g : IsTree t) where
         let p = at-is up m node n h i (omega (arith, copy-nodes up m node n h)) in
         ap (label u) (sym (p .2)) ∙ same-label (at up m node n i) (p .0) (p .1);
     parents = λ i pos l.
-        let k : i < size up m node n 0 = omega (arith, copy-nodes up m node n h) in
+        let k : i < copySize up m node n 0 = omega (arith, copy-nodes up m node n h) in
         let p = at-is up m node n h i k in
         let q = place-pos up m node n h i k pos in
         let o = is-over up m node n h (at up m node n i) q in

@@ -32,7 +32,7 @@ use Rattle.canonical.specs.Copying.{copyOf}
 use Rattle.canonical.specs.CanonicalCopy.{fromFirst, tipNode, canonicalAt, canonicalCopy}
 use Rattle.canonical.specs.theorems.Copies.{from-first-tree, from-first-nodes, from-first-tips, tip-rooted}
 use Rattle.canonical_copy.specs.lemmas.Ranks.{Rankable, RanksAre, rankOf, rank-label, rank-inner}
-use Rattle.canonical_copy.specs.lemmas.RootedCopy.{RootedArrays, CopiedInto, CopiedFrom}
+use Rattle.canonical_copy.specs.lemmas.RootedCopy.{RootedRanks, CopiedInto, CopiedFrom}
 
 -- ---- a table by its parts
 
@@ -40,7 +40,7 @@ use Rattle.canonical_copy.specs.lemmas.RootedCopy.{RootedArrays, CopiedI
 pub record RootedTable (t : Table) (m : ℕ) (ranks : List ℕ) (k : ℕ) : Type 0 where
   pub nodes-are : m ≡ nodes t
   pub words : length t ≡ 2 + 2 * nodes t
-  pub arrays : RootedArrays (parents t) (labels t) ranks k
+  pub arrays : RootedRanks (parents t) (labels t) ranks k
 
 pub record TableCopied (t : Table) (m : ℕ) (ranks : List ℕ) (k : ℕ) (old new : List ℕ) (r : ℕ) : Type 0 where
   pub copied : CopiedFrom (parents t) (labels t) ranks k old new r
@@ -49,8 +49,8 @@ module _ (t : Table) (m : ℕ) (ranks : List ℕ) (k : ℕ) (h : RootedTable t m
   pub parts-fit : length t ≡ 2 + 2 * m
   parts-fit = omega (arith, h .words, h .nodes-are)
 
-  pub lent-arrays : RootedArrays (take (2 + m - 2) (drop 2 t)) (rest (2 + m) t) ranks k
-  lent-arrays = to-parts (λ n ps ls. RootedArrays ps ls ranks k) t (tips t) m (h .words) refl (h .nodes-are) (h .arrays)
+  pub lent-arrays : RootedRanks (take (2 + m - 2) (drop 2 t)) (rest (2 + m) t) ranks k
+  lent-arrays = to-parts (λ n ps ls. RootedRanks ps ls ranks k) t (tips t) m (h .words) refl (h .nodes-are) (h .arrays)
 
   pub lent-copied : (old new : List ℕ) (r : ℕ) → CopiedFrom (take (2 + m - 2) (drop 2 t)) (rest (2 + m) t) ranks k old new r
       → TableCopied t m ranks k old new r
@@ -177,7 +177,7 @@ module _ (t : Table) (marks : List ℕ) (m k : ℕ) (h : KeptTable t marks m k) 
     parents-long : length (parents (fromFirst l t)) ≡ nodes (fromFirst l t)
     parents-long = parents-length (fromFirst l t) (g' .words)
 
-    tree-arrays : RootedArrays (parents (fromFirst l t)) (labels (fromFirst l t)) ranks k
+    tree-arrays : RootedRanks (parents (fromFirst l t)) (labels (fromFirst l t)) ranks k
     unfolding parent label
     tree-arrays = record {
       node = node;

@@ -14,13 +14,13 @@ use Rattle.shapes.specs.Ancestors.{anc}
 use Rattle.shapes.specs.theorems.AncestorLaws.{Rooted, anc-le, anc-self, anc-down, anc-trans}
 use Rattle.shapes.specs.theorems.PathLaws.{towards}
 use Rattle.tree_check.specs.Table.{word}
-use Rattle.canonical_copy.specs.lemmas.Parents.{Parents, parent-room}
+use Rattle.canonical_copy.specs.lemmas.Parents.{ParentsBefore, parent-room}
 
 module _ (ps : List ℕ) where
   -- w is v, or at or below one of its children from i on
-  pub data Seen (i v w : ℕ) : Type 0 where
-    here : w ≡ v → Seen i v w
-    child : (c : ℕ) → i ≤ c → 1 ≤ c → word ps c ≡ v → bit (anc (word ps) c w) ≡ 1 → Seen i v w
+  pub data SeenFrom (i v w : ℕ) : Type 0 where
+    here : w ≡ v → SeenFrom i v w
+    child : (c : ℕ) → i ≤ c → 1 ≤ c → word ps c ≡ v → bit (anc (word ps) c w) ≡ 1 → SeenFrom i v w
 
   -- z stands at v or below, and nothing smaller at a node that is seen
   pub record Least (before : List ℕ) (i v z : ℕ) : Type 0 where
@@ -28,7 +28,7 @@ module _ (ps : List ℕ) where
     pub node : at < length ps
     pub below : bit (anc (word ps) v at) ≡ 1
     pub stands : z ≡ word before at
-    pub least : (w : ℕ) → w < length ps → Seen i v w → z ≤ word before w
+    pub least : (w : ℕ) → w < length ps → SeenFrom i v w → z ≤ word before w
 
 -- the nodes from i on are gathered into their parents
 pub record Gathered (ps before : List ℕ) (i : ℕ) (after : List ℕ) : Type 0 where
@@ -41,7 +41,7 @@ pub record LeastBelow (ps before after : List ℕ) : Type 0 where
       → (w : ℕ) × (w < length ps) × (bit (anc (word ps) v w) ≡ 1) × (word after v ≡ word before w)
   pub least : (v w : ℕ) → v < length ps → w < length ps → bit (anc (word ps) v w) ≡ 1 → word after v ≤ word before w
 
-module _ (ps before : List ℕ) (y : Parents ps) where
+module _ (ps before : List ℕ) (y : ParentsBefore ps) where
   abbrev up : ℕ → ℕ
   up = word ps
 
@@ -60,12 +60,12 @@ module _ (ps before : List ℕ) (y : Parents ps) where
     };
   }
     where
-      own : (v : ℕ) → v < length ps → (w : ℕ) → w < length ps → Seen ps i v w → word before v ≤ word before w
+      own : (v : ℕ) → v < length ps → (w : ℕ) → w < length ps → SeenFrom ps i v w → word before v ≤ word before w
       own v l w lw (here e) = omega (arith, ap (word before) e)
       own v l w lw (child c lc p e a) = absurd (omega (arith, last, lc, lw, anc-le up r c w a))
 
   -- all at or below v is seen once its children are passed
-  all-seen : (i v w : ℕ) → i ≤ suc v → w < length ps → bit (anc up v w) ≡ 1 → Seen ps i v w
+  all-seen : (i v w : ℕ) → i ≤ suc v → w < length ps → bit (anc up v w) ≡ 1 → SeenFrom ps i v w
   all-seen i v w li lw a = elim (ℕ-discrete v w) [
     | yes e ↦ here (sym e)
     | no d ↦ (
@@ -85,7 +85,7 @@ module _ (ps before : List ℕ) (y : Parents ps) where
     lp = omega (arith, parent-room ps y c pc lc)
 
     -- what is seen from c on is seen after c, or below c
-    more : (v w : ℕ) → Seen ps c v w → Seen ps (suc c) v w ⊎ ((word ps c ≡ v) × (bit (anc up c w) ≡ 1))
+    more : (v w : ℕ) → SeenFrom ps c v w → SeenFrom ps (suc c) v w ⊎ ((word ps c ≡ v) × (bit (anc up c w) ≡ 1))
     more v w (here e) = inl (here e)
     more v w (child d i p e a) = elim (ℕ-discrete d c) [
       | yes q ↦ inr (ap up (sym q) ∙ e, subst (λ (u : ℕ). bit (anc up u w) ≡ 1) q a)

@@ -20,12 +20,12 @@ use Rattle.sums.specs.Tests.{first}
 use Rattle.shapes.specs.Ancestors.{anc}
 use Rattle.shapes.specs.theorems.AncestorLaws.{anc-trans, anc-root}
 use Rattle.tree_check.specs.Table.{word}
-use Rattle.canonical.specs.Copying.{full, low, branch, stays, size, number}
+use Rattle.canonical.specs.Copying.{full, low, branch, stays, copySize, number}
 use Rattle.canonical.specs.theorems.Branches.{TipRooted, Branch, full-of, full-up, branch-iff-to, branch-iff-of, branch-above, branch-lt, root-stays}
 use Rattle.canonical.specs.theorems.Numbers.{low-label, low-least, number-zero, inside}
 use Rattle.canonical.specs.theorems.Positions.{size-all}
 use Rattle.canonical_copy.specs.lemmas.Chains.{IsNext}
-use Rattle.canonical_copy.specs.lemmas.Rounds.{done, taken, done-iff, done-of, number-taken, taken-next, taken-round, parent-done, taken-none}
+use Rattle.canonical_copy.specs.lemmas.Rounds.{done, takenBy, done-iff, done-of, number-taken, taken-next, taken-round, parent-done, taken-none}
 
 -- a node with a smallest rank has one at it or below
 pub low-full-of : (up : ℕ → ℕ) (m : ℕ) (node : ℕ → ℕ) (k : ℕ) → TipRooted up m node k → (v : ℕ) → low up m node k v < k → T (full up m node k v)
@@ -34,19 +34,19 @@ low-full-of up m node k h v l =
     full-of up m node k h v (first k (λ x. anc up v (node x))) l (bit-T _ (first-hit k (λ x. anc up v (node x)) l))
 
 -- what the numbering reads: the arrays of a tree with k ranks that is rooted at the tip of rank 0
-pub record Ready (ps sizes bits heads nexts : List ℕ) : Type 0 where
+pub record NumberingReady (ps sizes bits heads nexts : List ℕ) : Type 0 where
   pub k : ℕ
   pub node : ℕ → ℕ
   pub rooted : TipRooted (word ps) (length ps) node k
   pub few : length ps ≤ nodeRoom
   pub labels : k ≤ tipsMost
-  pub sizes-are : (v : ℕ) → v < length ps → word sizes v ≡ size (word ps) (length ps) node k v
+  pub sizes-are : (v : ℕ) → v < length ps → word sizes v ≡ copySize (word ps) (length ps) node k v
   pub bits-are : (v : ℕ) → v < length ps → word bits v ≡ bit (stays (word ps) (length ps) node k v)
   pub heads-are : (x : ℕ) → x < k → IsNext (low (word ps) (length ps) node k) (length ps) 1 x (word heads x)
   pub nexts-are : (v : ℕ) → 1 ≤ v → v < length ps
       → IsNext (low (word ps) (length ps) node k) (length ps) (suc v) (low (word ps) (length ps) node k v) (word nexts v)
 
-module _ (ps sizes bits heads nexts : List ℕ) (y : Ready ps sizes bits heads nexts) where
+module _ (ps sizes bits heads nexts : List ℕ) (y : NumberingReady ps sizes bits heads nexts) where
   abbrev up : ℕ → ℕ
   up = word ps
 
@@ -69,7 +69,7 @@ module _ (ps sizes bits heads nexts : List ℕ) (y : Ready ps sizes bits heads n
   lo = low (word ps) (length ps) (y .node) (y .k)
 
   abbrev sz : ℕ → ℕ
-  sz = size (word ps) (length ps) (y .node) (y .k)
+  sz = copySize (word ps) (length ps) (y .node) (y .k)
 
   abbrev fullAt : ℕ → Bool
   fullAt = full (word ps) (length ps) (y .node) (y .k)
@@ -81,7 +81,7 @@ module _ (ps sizes bits heads nexts : List ℕ) (y : Ready ps sizes bits heads n
   abbrev pub Had : ℕ → ℕ → ℕ → Type 0
   Had x v d = (d ≡ 0) ⊎ T (done (word ps) (length ps) (y .node) (y .k) (y .rooted) x v d)
 
-  pub record Numbered (x v : ℕ) (nums frees : List ℕ) : Type 0 where
+  pub record NodesNumbered (x v : ℕ) (nums frees : List ℕ) : Type 0 where
     pub nums-long : length nums ≡ nodeRoom
     pub frees-long : length frees ≡ nodeRoom
     pub number-is : (d : ℕ) → d < length ps → T (full (word ps) (length ps) (y .node) (y .k) d) → Had x v d
@@ -89,7 +89,7 @@ module _ (ps sizes bits heads nexts : List ℕ) (y : Ready ps sizes bits heads n
     -- the next free number in the run of d
     pub free-is : (d : ℕ) → d < length ps → T (full (word ps) (length ps) (y .node) (y .k) d) → Had x v d
         → word frees d ≡ number (word ps) (length ps) (y .node) (y .k) d + bit (stays (word ps) (length ps) (y .node) (y .k) d)
-        + taken (word ps) (length ps) (y .node) (y .k) (y .rooted) x v d
+        + takenBy (word ps) (length ps) (y .node) (y .k) (y .rooted) x v d
 
   low-full : (v : ℕ) → lo v < k → T (fullAt v)
   low-full v l = low-full-of up m node k h v l
@@ -106,7 +106,7 @@ module _ (ps sizes bits heads nexts : List ℕ) (y : Ready ps sizes bits heads n
 
   -- ---- at the turn of node v
 
-  module _ (x v : ℕ) (nums frees : List ℕ) (n : Numbered x v nums frees) (pv : 1 ≤ v) (lv : v < length ps) where
+  module _ (x v : ℕ) (nums frees : List ℕ) (n : NodesNumbered x v nums frees) (pv : 1 ≤ v) (lv : v < length ps) where
     -- done is done, one node on; only v is new
     had-back : (d : ℕ) → d ≢ v → Had x (suc v) d → Had x v d
     had-back d ne (inl e) = inl e
@@ -116,7 +116,7 @@ module _ (ps sizes bits heads nexts : List ℕ) (y : Ready ps sizes bits heads n
     ])
 
     -- a node of another label has no turn now
-    pub numbered-skip : low (word ps) (length ps) (y .node) (y .k) v ≢ x → Numbered x (suc v) nums frees
+    pub numbered-skip : low (word ps) (length ps) (y .node) (y .k) v ≢ x → NodesNumbered x (suc v) nums frees
     numbered-skip ne = record {
       nums-long = n .nums-long;
       frees-long = n .frees-long;
@@ -127,7 +127,7 @@ module _ (ps sizes bits heads nexts : List ℕ) (y : Ready ps sizes bits heads n
         other : lo v ≢ x
         other = ne
 
-        same : (d : ℕ) → taken up m node k h x (suc v) d ≡ taken up m node k h x v d
+        same : (d : ℕ) → takenBy up m node k h x (suc v) d ≡ takenBy up m node k h x v d
         same d =
             let z = bit-no (branch up m node k d v && eqb (lo v) x) (λ t. other (eq-iff (lo v) x .0 (and-iff (branch up m node k d v) (eqb (lo v) x) .0 t .1))) in
             omega (arith, taken-next up m node k h x v d lv, ap (λ (b : ℕ). b * sz v) z)
@@ -159,13 +159,13 @@ module _ (ps sizes bits heads nexts : List ℕ) (y : Ready ps sizes bits heads n
       had-parent : Had x v (up v)
       had-parent = inr (subst (λ (z : ℕ). T (done up m node k h z v (up v))) is-low (parent-done up m node k h (up v) v s))
 
-      taken-parent : word frees (up v) ≡ num (up v) + bit (keepAt (up v)) + taken up m node k h x v (up v)
+      taken-parent : word frees (up v) ≡ num (up v) + bit (keepAt (up v)) + takenBy up m node k h x v (up v)
       taken-parent = n .free-is (up v) (omega (arith, less)) full-parent had-parent
 
       at-number : a ≡ num v
       at-number =
           ea ∙ ap (word frees) ep ∙ taken-parent
-          ∙ ap (λ (z : ℕ). num (up v) + bit (keepAt (up v)) + taken up m node k h z v (up v)) (sym is-low)
+          ∙ ap (λ (z : ℕ). num (up v) + bit (keepAt (up v)) + takenBy up m node k h z v (up v)) (sym is-low)
           ∙ sym (number-taken up m node k h (up v) v s)
 
       -- both sums fit
@@ -180,8 +180,8 @@ module _ (ps sizes bits heads nexts : List ℕ) (y : Ready ps sizes bits heads n
           )
 
       -- nothing of v's own branches is done yet
-      own-none : taken up m node k h x v v ≡ 0
-      unfolding taken
+      own-none : takenBy up m node k h x v v ≡ 0
+      unfolding takenBy
       own-none = sum-none m _ (λ d ld. rw (bit-no (branch up m node k v d && done up m node k h x v d) (λ t.
           let q = and-iff (branch up m node k v d) (done up m node k h x v d) .0 t in
           let kd = branch-iff-to up m node k h v d (q .0) in
@@ -192,25 +192,25 @@ module _ (ps sizes bits heads nexts : List ℕ) (y : Ready ps sizes bits heads n
             | inr w ↦ omega (arith, w .1, branch-lt up m node k h v d kd)
           ])) (omega arith))
 
-      taken-v : taken up m node k h x (suc v) v ≡ 0
+      taken-v : takenBy up m node k h x (suc v) v ≡ 0
       taken-v =
           let z = bit-no (branch up m node k v v && eqb (lo v) x) (λ t.
           let kd = branch-iff-to up m node k h v v (and-iff (branch up m node k v v) (eqb (lo v) x) .0 t .0) in
           omega (arith, branch-lt up m node k h v v kd)) in
           omega (arith, taken-next up m node k h x v v lv, own-none, ap (λ (b : ℕ). b * sz v) z)
 
-      taken-p : taken up m node k h x (suc v) (up v) ≡ taken up m node k h x v (up v) + sz v
+      taken-p : takenBy up m node k h x (suc v) (up v) ≡ takenBy up m node k h x v (up v) + sz v
       taken-p =
           let o = bit-T (branch up m node k (up v) v && eqb (lo v) x) (and-iff (branch up m node k (up v) v) (eqb (lo v) x) .1 (branch-iff-of up m node k h (up v) v s, eq-iff (lo v) x .1 is-low)) in
           omega (arith, taken-next up m node k h x v (up v) lv, ap (λ (b : ℕ). b * sz v) o)
 
-      taken-other : (d : ℕ) → d ≢ up v → taken up m node k h x (suc v) d ≡ taken up m node k h x v d
+      taken-other : (d : ℕ) → d ≢ up v → takenBy up m node k h x (suc v) d ≡ takenBy up m node k h x v d
       taken-other d ne =
           let z = bit-no (branch up m node k d v && eqb (lo v) x) (λ t.
           ne (sym (branch-iff-to up m node k h d v (and-iff (branch up m node k d v) (eqb (lo v) x) .0 t .0) .below))) in
           omega (arith, taken-next up m node k h x v d lv, ap (λ (b : ℕ). b * sz v) z)
 
-      pub numbered-take : Numbered x (suc v) (set nums v a) (set (set frees v (a + word bits v)) p (a + word sizes v))
+      pub numbered-take : NodesNumbered x (suc v) (set nums v a) (set (set frees v (a + word bits v)) p (a + word sizes v))
       numbered-take = record {
         nums-long = length-set nums v a ∙ n .nums-long;
         frees-long = length-set (set frees v (a + word bits v)) p (a + word sizes v) ∙ length-set frees v (a + word bits v) ∙ n .frees-long;
@@ -232,17 +232,17 @@ module _ (ps sizes bits heads nexts : List ℕ) (y : Ready ps sizes bits heads n
         ];
       }
         where
-          parent-run : (d : ℕ) → d ≡ up v → a + word sizes v ≡ num d + bit (keepAt d) + taken up m node k h x (suc v) d
+          parent-run : (d : ℕ) → d ≡ up v → a + word sizes v ≡ num d + bit (keepAt d) + takenBy up m node k h x (suc v) d
           parent-run d r = rw r (omega (arith, ea, ap (word frees) ep, taken-parent, taken-p, y .sizes-are v lv))
 
-          own-run : (d : ℕ) → d ≡ v → word (set frees v (a + word bits v)) d ≡ num d + bit (keepAt d) + taken up m node k h x (suc v) d
+          own-run : (d : ℕ) → d ≡ v → word (set frees v (a + word bits v)) d ≡ num d + bit (keepAt d) + takenBy up m node k h x (suc v) d
           own-run d w = rw w (getD-set-same frees v (a + word bits v) 0 (omega (arith, n .frees-long, y .few))
               ∙ (omega (arith, at-number, y .bits-are v lv, taken-v)))
 
   -- ---- rounds
 
   -- the next round
-  pub numbered-round : (x : ℕ) (nums frees : List ℕ) → Numbered x m nums frees → Numbered (suc x) 1 nums frees
+  pub numbered-round : (x : ℕ) (nums frees : List ℕ) → NodesNumbered x m nums frees → NodesNumbered (suc x) 1 nums frees
   numbered-round x nums frees n = record {
     nums-long = n .nums-long;
     frees-long = n .frees-long;
@@ -253,7 +253,7 @@ module _ (ps sizes bits heads nexts : List ℕ) (y : Ready ps sizes bits heads n
       some : 0 < m
       some = omega (arith, h .node-lt 0 (omega (arith, h .two)))
 
-      same : (d : ℕ) → taken up m node k h (suc x) 1 d ≡ taken up m node k h x m d
+      same : (d : ℕ) → takenBy up m node k h (suc x) 1 d ≡ takenBy up m node k h x m d
       same d =
           let z = bit-no (branch up m node k d 0 && eqb (lo 0) (suc x)) (λ t.
           let kd = branch-iff-to up m node k h d 0 (and-iff (branch up m node k d 0) (eqb (lo 0) (suc x)) .0 t .0) in
@@ -271,14 +271,14 @@ module _ (ps sizes bits heads nexts : List ℕ) (y : Ready ps sizes bits heads n
       ]
 
   -- after the last round every node with labels has its number
-  pub numbered-all : (nums frees : List ℕ) → Numbered k 1 nums frees
+  pub numbered-all : (nums frees : List ℕ) → NodesNumbered k 1 nums frees
       → (d : ℕ) → d < length ps → T (fullAt d) → word nums d ≡ num d
   numbered-all nums frees n d ld fd =
       n .number-is d ld fd (inr (done-of up m node k h k 1 d (inl (low-label up m node k h d fd .0))))
 
   -- before the first round: node 0 has the number 0, and 1 is free
   pub numbered-first : (nums frees : List ℕ) → length nums ≡ nodeRoom → length frees ≡ nodeRoom → word nums 0 ≡ 0 → word frees 0 ≡ 1
-      → Numbered 0 1 nums frees
+      → NodesNumbered 0 1 nums frees
   numbered-first nums frees a b c d = record {
     nums-long = a;
     frees-long = b;
@@ -291,7 +291,7 @@ module _ (ps sizes bits heads nexts : List ℕ) (y : Ready ps sizes bits heads n
       only v (inl e) = e
       only v (inr t) = elim (done-iff up m node k h 0 1 v t) [ inl w ↦ absurd (omega arith) | inr w ↦ omega (arith, w .1) ]
 
-      none : taken up m node k h 0 1 0 ≡ 0
+      none : takenBy up m node k h 0 1 0 ≡ 0
       none =
           let z = bit-no (branch up m node k 0 0 && eqb (lo 0) 0) (λ t.
           let kd = branch-iff-to up m node k h 0 0 (and-iff (branch up m node k 0 0) (eqb (lo 0) 0) .0 t .0) in
@@ -307,48 +307,48 @@ module _ (ps sizes bits heads nexts : List ℕ) (y : Ready ps sizes bits heads n
 
   -- nodes of other ranks have no turn
   jump-in : (f x i : ℕ) (nums frees : List ℕ) → 1 ≤ i → i + f ≤ m → ((v : ℕ) → i ≤ v → v < i + f → lo v ≢ x)
-      → Numbered x i nums frees → Numbered x (i + f) nums frees
+      → NodesNumbered x i nums frees → NodesNumbered x (i + f) nums frees
   jump-in zero x i nums frees p l h n = let e : i + 0 ≡ i = omega arith in rw e n
   jump-in (suc f) x i nums frees p l h n =
       let e : i + suc f ≡ suc i + f = omega arith in
       rw e (jump-in f x (suc i) nums frees (omega arith) (omega arith) (λ v a b. h v (omega arith) (omega arith))
       (numbered-skip x i nums frees n p (omega arith) (h i (omega arith) (omega arith))))
 
-  pub numbered-jump : (x i w : ℕ) (nums frees : List ℕ) → 1 ≤ i → IsNext lo m i x w → Numbered x i nums frees → Numbered x w nums frees
+  pub numbered-jump : (x i w : ℕ) (nums frees : List ℕ) → 1 ≤ i → IsNext lo m i x w → NodesNumbered x i nums frees → NodesNumbered x w nums frees
   numbered-jump x i w nums frees p q n =
       let f = w - i in
       let a = q .after in
       let b = q .most in
       let e : i + f ≡ w = omega arith in
-      subst (λ (j : ℕ). Numbered x j nums frees) e
+      subst (λ (j : ℕ). NodesNumbered x j nums frees) e
       (jump-in f x i nums frees p (omega arith) (λ v l u. q .none v l (omega (arith, e, u))) n)
 
 -- ---- as contracts say it
 
 -- before the round of rank x
 pub record Going (ps sizes bits heads nexts : List ℕ) (x : ℕ) (nums frees : List ℕ) : Type 0 where
-  pub state : (y : Ready ps sizes bits heads nexts) → x ≤ y .k → Numbered ps sizes bits heads nexts y x 1 nums frees
+  pub state : (y : NumberingReady ps sizes bits heads nexts) → x ≤ y .k → NodesNumbered ps sizes bits heads nexts y x 1 nums frees
 
 -- in it, at node v or after the last
-pub record Turn (ps sizes bits heads nexts : List ℕ) (x v : ℕ) (nums frees : List ℕ) : Type 0 where
+pub record NumberingTurn (ps sizes bits heads nexts : List ℕ) (x v : ℕ) (nums frees : List ℕ) : Type 0 where
   pub node : (1 ≤ v) × (v ≤ length ps)
-  pub is-low : (y : Ready ps sizes bits heads nexts) → x < y .k → v < length ps → low (word ps) (length ps) (y .node) (y .k) v ≡ x
-  pub state : (y : Ready ps sizes bits heads nexts) → x < y .k → Numbered ps sizes bits heads nexts y x v nums frees
+  pub is-low : (y : NumberingReady ps sizes bits heads nexts) → x < y .k → v < length ps → low (word ps) (length ps) (y .node) (y .k) v ≡ x
+  pub state : (y : NumberingReady ps sizes bits heads nexts) → x < y .k → NodesNumbered ps sizes bits heads nexts y x v nums frees
 
 -- a round can be made
 pub record Round (ps sizes bits heads nexts : List ℕ) (x : ℕ) (nums frees : List ℕ) : Type 0 where
-  pub ready : Ready ps sizes bits heads nexts
+  pub ready : NumberingReady ps sizes bits heads nexts
   pub rank : x < ready .k
   pub going : Going ps sizes bits heads nexts x nums frees
 
 -- all k rounds can
 pub record RanksReady (ps sizes bits heads nexts : List ℕ) (k : ℕ) : Type 0 where
-  pub ready : Ready ps sizes bits heads nexts
+  pub ready : NumberingReady ps sizes bits heads nexts
   pub ranks : ready .k ≡ k
 
 module _ (ps sizes bits heads nexts : List ℕ) (x : ℕ) where
   pub turn-first : (nums frees : List ℕ) → Round ps sizes bits heads nexts x nums frees → (v : ℕ) → v ≡ word heads x
-      → Turn ps sizes bits heads nexts x v nums frees
+      → NumberingTurn ps sizes bits heads nexts x v nums frees
   turn-first nums frees r v e =
       let q = r .ready .heads-are x (r .rank) in
       rw e (record {
@@ -358,8 +358,8 @@ module _ (ps sizes bits heads nexts : List ℕ) (x : ℕ) where
             (r .going .state y (omega arith));
       })
 
-  module _ (y : Ready ps sizes bits heads nexts) (lx : x < y .k) (v : ℕ) (nums frees : List ℕ)
-      (t : Turn ps sizes bits heads nexts x v nums frees) (lv : v < length ps) where
+  module _ (y : NumberingReady ps sizes bits heads nexts) (lx : x < y .k) (v : ℕ) (nums frees : List ℕ)
+      (t : NumberingTurn ps sizes bits heads nexts x v nums frees) (lv : v < length ps) where
     pub turn-fits : (p a : ℕ) → p ≡ word ps v → a ≡ word frees p
         → (p < nodeRoom) × (v < nodeRoom) × (a + word bits v ≤ 1025) × (a + word sizes v ≤ nodeRoom)
     turn-fits p a ep ea =
@@ -370,9 +370,9 @@ module _ (ps sizes bits heads nexts : List ℕ) (x : ℕ) where
     pub turn-later : (w : ℕ) → w ≡ word nexts v → v < w
     turn-later w e = omega (arith, e, y .nexts-are v (t .node .0) lv .after)
 
-  pub turn-next : (nums frees : List ℕ) (v : ℕ) → Turn ps sizes bits heads nexts x v nums frees → v < length ps
-      → (y : Ready ps sizes bits heads nexts) → x < y .k → (p a w : ℕ) → p ≡ word ps v → a ≡ word frees p → w ≡ word nexts v
-      → Turn ps sizes bits heads nexts x w (set nums v a) (set (set frees v (a + word bits v)) p (a + word sizes v))
+  pub turn-next : (nums frees : List ℕ) (v : ℕ) → NumberingTurn ps sizes bits heads nexts x v nums frees → v < length ps
+      → (y : NumberingReady ps sizes bits heads nexts) → x < y .k → (p a w : ℕ) → p ≡ word ps v → a ≡ word frees p → w ≡ word nexts v
+      → NumberingTurn ps sizes bits heads nexts x w (set nums v a) (set (set frees v (a + word bits v)) p (a + word sizes v))
   turn-next nums frees v t lv y₀ l₀ p a w ep ea ew =
       let q = y₀ .nexts-are v (t .node .0) lv in
       rw ew (record {
@@ -385,20 +385,20 @@ module _ (ps sizes bits heads nexts : List ℕ) (x : ℕ) where
             (numbered-take ps sizes bits heads nexts y x v nums frees (t .state y l) (t .node .0) lv (t .is-low y l lv) l p a ep ea);
       })
 
-  pub turn-last : (nums frees : List ℕ) (v : ℕ) → Turn ps sizes bits heads nexts x v nums frees → length ps ≤ v
+  pub turn-last : (nums frees : List ℕ) (v : ℕ) → NumberingTurn ps sizes bits heads nexts x v nums frees → length ps ≤ v
       → Going ps sizes bits heads nexts (x + 1) nums frees
   turn-last nums frees v t l = record {
     state = λ y lx.
         let e : v ≡ length ps = omega (arith, t .node .1) in
         let f : suc x ≡ x + 1 = omega arith in
-        subst (λ (z : ℕ). Numbered ps sizes bits heads nexts y z 1 nums frees) f
+        subst (λ (z : ℕ). NodesNumbered ps sizes bits heads nexts y z 1 nums frees) f
         (numbered-round ps sizes bits heads nexts y x nums frees
-        (subst (λ (u : ℕ). Numbered ps sizes bits heads nexts y x u nums frees) e (t .state y (omega arith))));
+        (subst (λ (u : ℕ). NodesNumbered ps sizes bits heads nexts y x u nums frees) e (t .state y (omega arith))));
   }
 
 -- each node with a rank at it or below has its number
 pub record NumbersAre (ps sizes bits heads nexts : List ℕ) (k : ℕ) (nums : List ℕ) : Type 0 where
-  pub number-is : (y : Ready ps sizes bits heads nexts) → y .k ≡ k → (v : ℕ) → v < length ps
+  pub number-is : (y : NumberingReady ps sizes bits heads nexts) → y .k ≡ k → (v : ℕ) → v < length ps
       → T (full (word ps) (length ps) (y .node) (y .k) v) → word nums v ≡ number (word ps) (length ps) (y .node) (y .k) v
 
 module _ (ps sizes bits heads nexts : List ℕ) where
@@ -406,7 +406,7 @@ module _ (ps sizes bits heads nexts : List ℕ) where
       → NumbersAre ps sizes bits heads nexts k nums
   going-all k x nums frees e g = record {
     number-is = λ y q. numbered-all ps sizes bits heads nexts y nums frees
-        (subst (λ (z : ℕ). Numbered ps sizes bits heads nexts y z 1 nums frees) (e ∙ sym q) (g .state y (omega arith)));
+        (subst (λ (z : ℕ). NodesNumbered ps sizes bits heads nexts y z 1 nums frees) (e ∙ sym q) (g .state y (omega arith)));
   }
 
   pub going-first : Going ps sizes bits heads nexts 0 (replicate nodeRoom 0) (set (replicate nodeRoom 0) 0 1)

@@ -27,8 +27,8 @@ use Rattle.canonical_copy.specs.theorems.CopyLaws.{copied-so}
 use Rattle.canonical_copy.specs.lemmas.RootedCopy.{CopiedInto}
 
 -- what the call answers and leaves
-abbrev pub Answered : List ℕ → Table → List ℕ → CopyAnswer → List ℕ → Type 0
-Answered marks t old r new = (r ≡ copyAnswer marks t (length old)) × (new ≡ afterCopy marks t old) × Copied marks t old r new
+abbrev pub CopyAnswered : List ℕ → Table → List ℕ → CopyAnswer → List ℕ → Type 0
+CopyAnswered marks t old r new = (r ≡ copyAnswer marks t (length old)) × (new ≡ afterCopy marks t old) × Copied marks t old r new
 
 module _ (marks : List ℕ) (t : Table) (old : List ℕ) where
   abbrev number : ℕ
@@ -37,10 +37,10 @@ module _ (marks : List ℕ) (t : Table) (old : List ℕ) where
   abbrev c : List ℕ
   c = canonicalCopy marks t
 
-  answered : (r : CopyAnswer) (new : List ℕ) → r ≡ copyAnswer marks t (length old) → new ≡ afterCopy marks t old → Answered marks t old r new
+  answered : (r : CopyAnswer) (new : List ℕ) → r ≡ copyAnswer marks t (length old) → new ≡ afterCopy marks t old → CopyAnswered marks t old r new
   answered r new e f = (e, f, copied-so marks t old r new e f)
 
-  refused : (k : ℕ) → refusal (copyOrder marks t (length old)) ≡ k → k ≢ 0 → Answered marks t old (record { refusal = k; words = 0 }) old
+  refused : (k : ℕ) → refusal (copyOrder marks t (length old)) ≡ k → k ≢ 0 → CopyAnswered marks t old (record { refusal = k; words = 0 }) old
   unfolding copyAnswer afterCopy
   refused k e d =
       let q : number ≢ 0 = λ z. d (sym e ∙ z) in
@@ -48,11 +48,11 @@ module _ (marks : List ℕ) (t : Table) (old : List ℕ) where
       (λ i. record { refusal = sym e i; words = sym (if-refused number (length c) 0 q) i })
       (sym (if-refused number (writtenOver c old) old q))
 
-  pub tree-away : (k : ℕ) → refusal (treeOrder t) ≡ k → k ≢ 0 → Answered marks t old (record { refusal = k; words = 0 }) old
+  pub tree-away : (k : ℕ) → refusal (treeOrder t) ≡ k → k ≢ 0 → CopyAnswered marks t old (record { refusal = k; words = 0 }) old
   tree-away k e d = refused k (unfold copyOrder in tree-refused t _ k e d) d
 
   module _ (g : IsTree t) where
-    pub marks-away : (k : ℕ) → k ≡ refusal (marksOrder marks (tips t)) → k ≢ 0 → Answered marks t old (record { refusal = k; words = 0 }) old
+    pub marks-away : (k : ℕ) → k ≡ refusal (marksOrder marks (tips t)) → k ≢ 0 → CopyAnswered marks t old (record { refusal = k; words = 0 }) old
     marks-away k e d = refused k told d
       where
         told : refusal (copyOrder marks t (length old)) ≡ k
@@ -63,7 +63,7 @@ module _ (marks : List ℕ) (t : Table) (old : List ℕ) where
       unfolding copyOrder
       then = tree-accepted t _ g ∙ refusal-kept (marksOrder marks (tips t)) _ (marks-kept marks (tips t) .1 a)
 
-      pub few-away : (k : ℕ) → k ≡ keptOf marks (tips t) → k < 2 → Answered marks t old (record { refusal = 35; words = 0 }) old
+      pub few-away : (k : ℕ) → k ≡ keptOf marks (tips t) → k < 2 → CopyAnswered marks t old (record { refusal = 35; words = 0 }) old
       few-away k e l = refused 35 (then ∙ refusal-here 35 _ _ (lt-ltb (keptOf marks (tips t)) 2 (omega (arith, e, l)))) (omega arith)
 
       module _ (two : 2 ≤ keptOf marks (tips t)) where
@@ -76,7 +76,7 @@ module _ (marks : List ℕ) (t : Table) (old : List ℕ) where
             omega (arith, o .tree .words, o .tree .tips-range, o .nodes-few)
 
         -- no word is told: the slice is too short
-        pub short-away : (w : ℕ) (new : List ℕ) → CopiedInto c old new w → w ≡ 0 → Answered marks t old (record { refusal = 36; words = 0 }) new
+        pub short-away : (w : ℕ) (new : List ℕ) → CopiedInto c old new w → w ≡ 0 → CopyAnswered marks t old (record { refusal = 36; words = 0 }) new
         short-away w new s z = elim (decLe (length c) (length old)) [
           | yes l ↦ absurd (omega (arith, s .long l .0, z, some-words))
           | no n ↦ rw (s .short (omega (arith, n)) .1)
@@ -85,7 +85,7 @@ module _ (marks : List ℕ) (t : Table) (old : List ℕ) where
 
         -- some are: the copy is written
         pub accepted : (w : ℕ) (new : List ℕ) → CopiedInto c old new w → w ≢ 0 → (x : ℕ) → x ≡ w % 65536
-            → Answered marks t old (record { refusal = 0; words = x }) new
+            → CopyAnswered marks t old (record { refusal = 0; words = x }) new
         unfolding copyAnswer afterCopy
         accepted w new s d x e = elim (decLe (length c) (length old)) [
           | no n ↦ absurd (d (s .short (omega (arith, n)) .0))

@@ -13,7 +13,7 @@ use lib.ListN.{length, set, replicate, length-set, length-replicate}
 use lib.Seq.{getD-set-same, getD-set-other}
 use Rattle.table_words.specs.Sizes.{nodeRoom}
 use Rattle.tree_check.specs.Table.{word}
-use Rattle.canonical_copy.specs.lemmas.Parents.{Parents, parent-le}
+use Rattle.canonical_copy.specs.lemmas.Parents.{ParentsBefore, parent-le}
 
 -- the parent's number if it stays, else what the parent has
 unfoldable pub aboveOf : List ℕ → List ℕ → List ℕ → List ℕ → ℕ → ℕ
@@ -41,7 +41,7 @@ above-none ps bits numbers = record {
   above-is = λ v l. absurd (omega arith);
 }
 
-module _ (ps bits numbers : List ℕ) (y : Parents ps) (v : ℕ) (above : List ℕ) (l : v < length ps)
+module _ (ps bits numbers : List ℕ) (y : ParentsBefore ps) (v : ℕ) (above : List ℕ) (l : v < length ps)
     (s : ParentNumbers ps bits numbers v above) where
   -- what stands at a parent stays, if it is not v or v's own stays
   same-of : (z w : ℕ) → (word ps w ≡ v → z ≡ word above v)

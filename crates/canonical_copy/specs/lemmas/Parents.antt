@@ -8,12 +8,12 @@ use Rattle.table_words.specs.Sizes.{nodeRoom}
 use Rattle.shapes.specs.theorems.AncestorLaws.{Rooted, parent-lt}
 use Rattle.tree_check.specs.Table.{word}
 
-pub record Parents (ps : List ℕ) : Type 0 where
+pub record ParentsBefore (ps : List ℕ) : Type 0 where
   pub rooted : Rooted (word ps)
   pub some : 1 ≤ length ps
   pub few : length ps ≤ nodeRoom
 
-module _ (ps : List ℕ) (y : Parents ps) where
+module _ (ps : List ℕ) (y : ParentsBefore ps) where
   pub parent-room : (c : ℕ) → 1 ≤ c → c < length ps → (word ps c < c) × (c < nodeRoom) × (word ps c < nodeRoom)
   parent-room c p l = omega (arith, parent-lt (word ps) (y .rooted) c p, y .few)
 

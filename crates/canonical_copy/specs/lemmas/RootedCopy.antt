@@ -24,24 +24,24 @@ use Rattle.shapes.specs.Ancestors.{anc}
 use Rattle.shapes.specs.theorems.AncestorLaws.{parent-lt}
 use Rattle.shapes.specs.theorems.Totals.{total, added-all}
 use Rattle.tree_check.specs.Table.{word}
-use Rattle.canonical.specs.Copying.{full, low, branch, tip, stays, size, number, over, at, labelWord, copyOf}
+use Rattle.canonical.specs.Copying.{full, low, branch, tip, stays, copySize, number, over, at, labelWord, copyOf}
 use Rattle.canonical.specs.theorems.Branches.{passed, TipRooted, tip-of, tip-label, root-stays, stays-full}
 use Rattle.canonical.specs.theorems.Numbers.{low-label}
 use Rattle.canonical.specs.theorems.Positions.{size-all, number-one, number-lt, at-is}
 use Rattle.canonical.specs.theorems.Over.{over-root, over-suc}
 use Rattle.canonical.specs.theorems.CopyTree.{word-tip, word-inner}
 use Rattle.canonical_copy.specs.CopyAnswer.{writtenOver}
-use Rattle.canonical_copy.specs.lemmas.Parents.{Parents, parent-le}
+use Rattle.canonical_copy.specs.lemmas.Parents.{ParentsBefore, parent-le}
 use Rattle.canonical_copy.specs.lemmas.Ranks.{rankOf, NodeRanks}
 use Rattle.canonical_copy.specs.lemmas.LeastBelow.{LeastBelow}
-use Rattle.canonical_copy.specs.lemmas.Staying.{branchAt, BranchCounts, StayBits, AtMostOne, SizesAre}
+use Rattle.canonical_copy.specs.lemmas.Staying.{branchAt, BranchCounts, StayBits, OwnAtMostOne, SizesAre}
 use Rattle.canonical_copy.specs.lemmas.Chains.{IsNext, Chainable, ChainsAre}
-use Rattle.canonical_copy.specs.lemmas.Numbering.{low-full-of, Ready, RanksReady, NumbersAre}
+use Rattle.canonical_copy.specs.lemmas.Numbering.{low-full-of, NumberingReady, RanksReady, NumbersAre}
 use Rattle.canonical_copy.specs.lemmas.ParentNumbers.{above-stays, above-gone, ParentNumbers}
-use Rattle.canonical_copy.specs.lemmas.Writing.{labelFor, Writable, Written}
+use Rattle.canonical_copy.specs.lemmas.Writing.{labelFor, Writable, CopyWritten}
 
 -- the parents and labels of a tree with k ranks, rooted at the tip of rank 0, and the rank of each label
-pub record RootedArrays (ps labels ranks : List ℕ) (k : ℕ) : Type 0 where
+pub record RootedRanks (ps labels ranks : List ℕ) (k : ℕ) : Type 0 where
   pub node : ℕ → ℕ
   pub rooted : TipRooted (word ps) (length ps) node k
   pub few : length ps ≤ nodeRoom
@@ -57,7 +57,7 @@ pub record CopiedInto (c old new : List ℕ) (r : ℕ) : Type 0 where
 
 -- .. for the copy of such a tree
 pub record CopiedFrom (ps labels ranks : List ℕ) (k : ℕ) (old new : List ℕ) (r : ℕ) : Type 0 where
-  pub into : (y : RootedArrays ps labels ranks k) → CopiedInto (copyOf (word ps) (length ps) (y .node) k) old new r
+  pub into : (y : RootedRanks ps labels ranks k) → CopiedInto (copyOf (word ps) (length ps) (y .node) k) old new r
 
 -- what stands in front and stays behind is written over
 written-over : (c old new : List ℕ) (j : ℕ) → length c ≡ j → length new ≡ length old → take j new ≡ c
@@ -70,7 +70,7 @@ written-over c old new j e l w r =
     rest = ext-getD 0 (drop j new) (drop j old) (length-drop j new ∙ ap (λ (n : ℕ). n - j) l ∙ sym (length-drop j old))
         (λ i q. getD-drop j new i 0 ∙ r (j + i) (omega arith) ∙ sym (getD-drop j old i 0))
 
-module _ (ps labels ranks : List ℕ) (k : ℕ) (y : RootedArrays ps labels ranks k) where
+module _ (ps labels ranks : List ℕ) (k : ℕ) (y : RootedRanks ps labels ranks k) where
   abbrev up : ℕ → ℕ
   up = word ps
 
@@ -93,12 +93,12 @@ module _ (ps labels ranks : List ℕ) (k : ℕ) (y : RootedArrays ps labels rank
   keeps = stays (word ps) (length ps) (y .node) k
 
   abbrev N : ℕ
-  N = size (word ps) (length ps) (y .node) k 0
+  N = copySize (word ps) (length ps) (y .node) k 0
 
   pub some-nodes : (1 ≤ length ps) × (length ps ≤ nodeRoom) × (length labels ≤ nodeRoom) × (k ≤ tipsMost)
   some-nodes = omega (arith, h .node-lt 0 (omega (arith, h .two)), y .few, y .same, y .small)
 
-  pub parents-are : Parents ps
+  pub parents-are : ParentsBefore ps
   parents-are = record { rooted = h .tree; some = some-nodes .0; few = y .few }
 
   module _ (at' : List ℕ) (a : NodeRanks labels ranks k (length labels) at') where
@@ -191,7 +191,7 @@ module _ (ps labels ranks : List ℕ) (k : ℕ) (y : RootedArrays ps labels rank
             ∙ ap₂ (λ (x : Bool) (z : ℕ). bit (x || leb 2 z)) (rank-tip v (holds v l))
             (c .counts-are v l ∙ sum-ext m _ _ (λ i li. ap bit (same-branch v i li)))
 
-        pub bits-small : AtMostOne (length ps) bits
+        pub bits-small : OwnAtMostOne (length ps) bits
         bits-small = record { long = d .long; small = λ v l. omega (arith, bits-are v l, bit-le (keeps v)) }
 
         stay-T : (v : ℕ) → v < m → word bits v ≡ 1 → T (keeps v)
@@ -200,8 +200,8 @@ module _ (ps labels ranks : List ℕ) (k : ℕ) (y : RootedArrays ps labels rank
         -- ---- sizes
 
         module _ (sizes : List ℕ) (s : SizesAre ps bits 1 sizes) where
-          sizes-are : (v : ℕ) → v < m → word sizes v ≡ size up m node k v
-          unfolding size total
+          sizes-are : (v : ℕ) → v < m → word sizes v ≡ copySize up m node k v
+          unfolding copySize total
           sizes-are v l =
               added-all up (h .tree) m (word bits) (word sizes) (s .added) v l
               ∙ sum-ext m _ _ (λ w lw. omega (
@@ -255,7 +255,7 @@ module _ (ps labels ranks : List ℕ) (k : ℕ) (y : RootedArrays ps labels rank
                 is = λ l. sym (lows-are w l) ∙ q .is l;
               }
 
-              pub ready : Ready ps sizes bits heads nexts
+              pub ready : NumberingReady ps sizes bits heads nexts
               ready = record {
                 k = k;
                 node = node;
@@ -318,7 +318,7 @@ module _ (ps labels ranks : List ℕ) (k : ℕ) (y : RootedArrays ps labels rank
                   room = room;
                 }
 
-                words-written : (old new : List ℕ) → 2 + 2 * n ≤ length old → Written at' bits numbers above (length ps) k n old new
+                words-written : (old new : List ℕ) → 2 + 2 * n ≤ length old → CopyWritten at' bits numbers above (length ps) k n old new
                     → take (2 + 2 * n) new ≡ copyOf up m node k
                 unfolding copyOf
                 words-written old new room w =
@@ -379,7 +379,7 @@ module _ (ps labels ranks : List ℕ) (k : ℕ) (y : RootedArrays ps labels rank
                           ∙ in-order-at N (λ i. labelWord up m node k (at up m node k i)) j lj))
                     ]
 
-                pub copied-into : (old new : List ℕ) → 2 + 2 * n ≤ length old → Written at' bits numbers above (length ps) k n old new
+                pub copied-into : (old new : List ℕ) → 2 + 2 * n ≤ length old → CopyWritten at' bits numbers above (length ps) k n old new
                     → (w : ℕ) → w ≡ 2 + 2 * n → CopiedInto (copyOf (word ps) (length ps) (y .node) k) old new w
                 copied-into old new room s w e = record {
                   short = λ q. absurd (omega (arith, copy-long));

@@ -14,7 +14,7 @@ use Rattle.sums.specs.theorems.BitLaws.{bit-T, bit-no, alike, sum-is}
 use Rattle.sums.specs.theorems.Products.{bit-and}
 use Rattle.sums.specs.theorems.TestLaws.{and-iff, or-iff, lt-iff, eq-iff, same-test}
 use Rattle.shapes.specs.theorems.AncestorLaws.{anc-trans}
-use Rattle.canonical.specs.Copying.{low, branch, stays, size, earlier, number}
+use Rattle.canonical.specs.Copying.{low, branch, stays, copySize, earlier, number}
 use Rattle.canonical.specs.theorems.Branches.{TipRooted, Branch, branch-iff-to, branch-above, branch-lt}
 use Rattle.canonical.specs.theorems.Numbers.{low-label, low-least, low-apart, number-branch}
 
@@ -24,8 +24,8 @@ module _ (up : ℕ → ℕ) (m : ℕ) (node : ℕ → ℕ) (k : ℕ) (h : TipRoo
   done x v d = ltb (low up m node k d) x || (eqb (low up m node k d) x && ltb d v)
 
   -- what the branches of u that are done take
-  unfoldable pub taken : ℕ → ℕ → ℕ → ℕ
-  taken x v u = sum m (λ d. bit (branch up m node k u d && done x v d) * size up m node k d)
+  unfoldable pub takenBy : ℕ → ℕ → ℕ → ℕ
+  takenBy x v u = sum m (λ d. bit (branch up m node k u d && done x v d) * copySize up m node k d)
 
   pub done-iff : (x v d : ℕ) → T (done x v d) → (low up m node k d < x) ⊎ ((low up m node k d ≡ x) × (d < v))
   unfolding done
@@ -42,9 +42,9 @@ module _ (up : ℕ → ℕ) (m : ℕ) (node : ℕ → ℕ) (k : ℕ) (h : TipRoo
       (inr (and-iff (eqb (low up m node k d) x) (ltb d v) .1 (eq-iff (low up m node k d) x .1 (b .0), lt-iff d v .1 (b .1))))
 
   -- at its turn the earlier branches of its parent are done, and no others
-  pub earlier-taken : (u v : ℕ) → Branch up m node k u v → earlier up m node k u v ≡ taken (low up m node k v) v u
-  unfolding earlier taken
-  earlier-taken u v s = sum-ext m _ _ (λ d l. ap (λ (b : Bool). bit b * size up m node k d) (same-test _ _ (there d) (back d)))
+  pub earlier-taken : (u v : ℕ) → Branch up m node k u v → earlier up m node k u v ≡ takenBy (low up m node k v) v u
+  unfolding earlier takenBy
+  earlier-taken u v s = sum-ext m _ _ (λ d l. ap (λ (b : Bool). bit b * copySize up m node k d) (same-test _ _ (there d) (back d)))
     where
       there : (d : ℕ) → T (branch up m node k u d && ltb (low up m node k d) (low up m node k v))
           → T (branch up m node k u d && done (low up m node k v) v d)
@@ -62,19 +62,19 @@ module _ (up : ℕ → ℕ) (m : ℕ) (node : ℕ → ℕ) (k : ℕ) (h : TipRoo
 
   -- so it takes the next free number of its parent
   pub number-taken : (u v : ℕ) → Branch up m node k u v
-      → number up m node k v ≡ number up m node k u + bit (stays up m node k u) + taken (low up m node k v) v u
+      → number up m node k v ≡ number up m node k u + bit (stays up m node k u) + takenBy (low up m node k v) v u
   number-taken u v s = omega (arith, number-branch up m node k h u v s, earlier-taken u v s)
 
   -- one node on: it is done if its label is the round's
   pub taken-next : (x v u : ℕ) → v < m
-      → taken x (suc v) u ≡ taken x v u + bit (branch up m node k u v && eqb (low up m node k v) x) * size up m node k v
-  unfolding taken
+      → takenBy x (suc v) u ≡ takenBy x v u + bit (branch up m node k u v && eqb (low up m node k v) x) * copySize up m node k v
+  unfolding takenBy
   taken-next x v u l =
       sum-ext m _ _ (λ d ld. each d)
-      ∙ sum-add m (λ d. bit (branch up m node k u d && done x v d) * size up m node k d)
-      (λ d. is v d * (bit (branch up m node k u d && eqb (low up m node k d) x) * size up m node k d))
-      ∙ ap (λ (y : ℕ). sum m (λ d. bit (branch up m node k u d && done x v d) * size up m node k d) + y)
-      (sum-is m v (λ d. bit (branch up m node k u d && eqb (low up m node k d) x) * size up m node k d) l)
+      ∙ sum-add m (λ d. bit (branch up m node k u d && done x v d) * copySize up m node k d)
+      (λ d. is v d * (bit (branch up m node k u d && eqb (low up m node k d) x) * copySize up m node k d))
+      ∙ ap (λ (y : ℕ). sum m (λ d. bit (branch up m node k u d && done x v d) * copySize up m node k d) + y)
+      (sum-is m v (λ d. bit (branch up m node k u d && eqb (low up m node k d) x) * copySize up m node k d) l)
     where
       step : (d : ℕ) → bit (done x (suc v) d) ≡ bit (done x v d) + is v d * bit (eqb (low up m node k d) x)
       step d = elim (alike v d) [
@@ -96,18 +96,18 @@ module _ (up : ℕ → ℕ) (m : ℕ) (node : ℕ → ℕ) (k : ℕ) (h : TipRoo
             rw (a, n .1) (omega arith))
       ]
 
-      each : (d : ℕ) → bit (branch up m node k u d && done x (suc v) d) * size up m node k d
-          ≡ bit (branch up m node k u d && done x v d) * size up m node k d
-          + is v d * (bit (branch up m node k u d && eqb (low up m node k d) x) * size up m node k d)
+      each : (d : ℕ) → bit (branch up m node k u d && done x (suc v) d) * copySize up m node k d
+          ≡ bit (branch up m node k u d && done x v d) * copySize up m node k d
+          + is v d * (bit (branch up m node k u d && eqb (low up m node k d) x) * copySize up m node k d)
       each d = simp (bit-and) (omega (
         arith,
-        ap (λ (y : ℕ). bit (branch up m node k u d) * (y * size up m node k d)) (step d),
+        ap (λ (y : ℕ). bit (branch up m node k u d) * (y * copySize up m node k d)) (step d),
       ))
 
   -- the next round
-  pub taken-round : (x u : ℕ) → taken (suc x) 0 u ≡ taken x m u
-  unfolding taken
-  taken-round x u = sum-ext m _ _ (λ d l. ap (λ (b : Bool). bit (branch up m node k u d && b) * size up m node k d)
+  pub taken-round : (x u : ℕ) → takenBy (suc x) 0 u ≡ takenBy x m u
+  unfolding takenBy
+  taken-round x u = sum-ext m _ _ (λ d l. ap (λ (b : Bool). bit (branch up m node k u d && b) * copySize up m node k d)
       (same-test (done (suc x) 0 d) (done x m d)
       (λ t. elim (done-iff (suc x) 0 d t) [
         | inl w ↦ elim (ℕ-discrete (low up m node k d) x) [
@@ -121,8 +121,8 @@ module _ (up : ℕ → ℕ) (m : ℕ) (node : ℕ → ℕ) (k : ℕ) (h : TipRoo
         | inr w ↦ done-of (suc x) 0 d (inl (omega (arith, w .0)))
       ])))
 
-  pub taken-none : (u : ℕ) → taken 0 0 u ≡ 0
-  unfolding taken
+  pub taken-none : (u : ℕ) → takenBy 0 0 u ≡ 0
+  unfolding takenBy
   taken-none u = sum-none m _ (λ d l. rw (bit-no (branch up m node k u d && done 0 0 d) (λ t.
       elim (done-iff 0 0 d (and-iff (branch up m node k u d) (done 0 0 d) .0 t .1)) [ inl w ↦ omega arith | inr w ↦ omega (arith, w .1) ])) (omega arith))
 

@@ -22,7 +22,7 @@ use Rattle.sums.specs.theorems.TestLaws.{and-iff, or-iff, lt-iff, le-iff, eq-if
 use Rattle.shapes.specs.Ancestors.{anc}
 use Rattle.shapes.specs.theorems.Totals.{Added, added-none, added-next, added-le, total}
 use Rattle.tree_check.specs.Table.{word}
-use Rattle.canonical_copy.specs.lemmas.Parents.{Parents, parent-room}
+use Rattle.canonical_copy.specs.lemmas.Parents.{ParentsBefore, parent-room}
 
 -- ---- branches
 
@@ -35,7 +35,7 @@ pub record BranchCounts (ps lows : List ℕ) (k i : ℕ) (counts : List ℕ) : T
   pub long : length counts ≡ nodeRoom
   pub counts-are : (v : ℕ) → v < length ps → word counts v ≡ count i (branchAt ps lows k v)
 
-module _ (ps lows : List ℕ) (k : ℕ) (y : Parents ps) where
+module _ (ps lows : List ℕ) (k : ℕ) (y : ParentsBefore ps) where
   one-more : (v c : ℕ) → count (suc c) (branchAt ps lows k v) ≡ count c (branchAt ps lows k v) + bit (branchAt ps lows k v c)
   one-more v c = sum-suc c (λ d. bit (branchAt ps lows k v d))
 
@@ -137,7 +137,7 @@ bits-next ranks branches k v bits z l ez s = record {
 -- ---- sizes
 
 -- what the nodes have of their own
-pub record AtMostOne (m : ℕ) (own : List ℕ) : Type 0 where
+pub record OwnAtMostOne (m : ℕ) (own : List ℕ) : Type 0 where
   pub long : length own ≡ nodeRoom
   pub small : (v : ℕ) → v < m → word own v ≤ 1
 
@@ -146,7 +146,7 @@ pub record SizesAre (ps own : List ℕ) (i : ℕ) (sizes : List ℕ) : Type 0 wh
   pub long : length sizes ≡ nodeRoom
   pub added : Added (word ps) (length ps) (word own) (word sizes) i
 
-module _ (ps own : List ℕ) (y : Parents ps) (o : AtMostOne (length ps) own) where
+module _ (ps own : List ℕ) (y : ParentsBefore ps) (o : OwnAtMostOne (length ps) own) where
   pub sizes-none : SizesAre ps own (length ps) own
   sizes-none = record { long = o .long; added = added-none (word ps) (y .rooted) (length ps) (word own) (word own) (λ v l. refl) }
 

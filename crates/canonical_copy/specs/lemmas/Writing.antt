@@ -35,7 +35,7 @@ pub record Writable (bits numbers : List ℕ) (m count : ℕ) (copy : List ℕ) 
   pub room : 2 + 2 * count ≤ length copy
 
 -- what the slice holds once the nodes below i are written
-pub record Written (ranks bits numbers above : List ℕ) (i k count : ℕ) (old new : List ℕ) : Type 0 where
+pub record CopyWritten (ranks bits numbers above : List ℕ) (i k count : ℕ) (old new : List ℕ) : Type 0 where
   pub long : length new ≡ length old
   pub tips-word : word new 0 ≡ k
   pub nodes-word : word new 1 ≡ count
@@ -45,7 +45,7 @@ pub record Written (ranks bits numbers above : List ℕ) (i k count : ℕ) (old 
   pub rest : (j : ℕ) → 2 + 2 * count ≤ j → word new j ≡ word old j
 
 pub written-none : (ranks bits numbers above : List ℕ) (k count z : ℕ) (old : List ℕ) → 2 + 2 * count ≤ length old → z ≡ count
-    → Written ranks bits numbers above 0 k count old (set (set old 0 k) 1 z)
+    → CopyWritten ranks bits numbers above 0 k count old (set (set old 0 k) 1 z)
 written-none ranks bits numbers above k count z old room e = record {
   long = length-set (set old 0 k) 1 z ∙ length-set old 0 k;
   tips-word = getD-set-other (set old 0 k) 1 0 z 0 (omega arith) ∙ getD-set-same old 0 k 0 (omega arith);
@@ -56,8 +56,8 @@ written-none ranks bits numbers above k count z old room e = record {
 }
 
 module _ (ranks bits numbers above : List ℕ) (m k count v : ℕ) (old new : List ℕ) (y : Writable bits numbers m count old) (lv : v < m)
-    (s : Written ranks bits numbers above v k count old new) where
-  pub written-skip : word bits v ≢ 1 → Written ranks bits numbers above (v + 1) k count old new
+    (s : CopyWritten ranks bits numbers above v k count old new) where
+  pub written-skip : word bits v ≢ 1 → CopyWritten ranks bits numbers above (v + 1) k count old new
   written-skip d = record {
     long = s .long;
     tips-word = s .tips-word;
@@ -81,7 +81,7 @@ module _ (ranks bits numbers above : List ℕ) (m k count v : ℕ) (old new : Li
     j = 2 + (count + word numbers v)
 
     written-set : (a b : ℕ) → a ≡ word above v → b ≡ labelFor (word ranks v) k
-        → Written ranks bits numbers above (v + 1) k count old (set (set new (2 + word numbers v) a) (2 + (count + word numbers v)) b)
+        → CopyWritten ranks bits numbers above (v + 1) k count old (set (set new (2 + word numbers v) a) (2 + (count + word numbers v)) b)
     written-set a b ea eb = record {
       long = length-set (set new i a) j b ∙ length-set new i a ∙ s .long;
       tips-word = other 0 (omega arith) (omega arith) ∙ s .tips-word;
@@ -114,5 +114,5 @@ module _ (ranks bits numbers above : List ℕ) (m k count v : ℕ) (old new : Li
         apart w lw q d = let x = y .numbers-one w v (omega arith) lv q e d in omega arith
 
     pub written-take : (u b : ℕ) → u ≡ word numbers v → b ≡ labelFor (word ranks v) k
-        → Written ranks bits numbers above (v + 1) k count old (set (set new (2 + u) (word above v)) (2 + (count + u)) b)
+        → CopyWritten ranks bits numbers above (v + 1) k count old (set (set new (2 + u) (word above v)) (2 + (count + u)) b)
     written-take u b eu eb = rw eu (written-set (word above v) b refl eb)

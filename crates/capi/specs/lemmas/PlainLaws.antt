@@ -14,7 +14,7 @@ use lib.IntN.{pos}
 use lib.Ieee.{Float, fin}
 use Rattle.trees.specs.declared.quartet.TopologyAnswer as trees-topology
 use Rattle.trees.specs.declared.quartet.Topology.the-variants.{Butterfly, Star}
-use Rattle.trees.specs.Witness.{isEdge, numberOf}
+use Rattle.trees.specs.Witness.{isEdge, witnessNumber}
 use Rattle.evidence.specs.declared.shown.EvidenceAnswer as shown
 use Rattle.counting.specs.Cases.{caseNumber}
 use Rattle.splits.specs.declared.counts.SplitCounts.{SplitCounts}
@@ -42,7 +42,7 @@ star-plain r e = rw e refl
 
 -- from the case's number and each witness's two
 pub evidence-plain : (r : shown.EvidenceAnswer) (w e i f j : ℕ) → w ≡ caseNumber (r .which) → e ≡ isEdge (r .first)
-    → i ≡ numberOf (r .first) → f ≡ isEdge (r .second) → j ≡ numberOf (r .second)
+    → i ≡ witnessNumber (r .first) → f ≡ isEdge (r .second) → j ≡ witnessNumber (r .second)
     → record {
       refusal = r .refusal;
       which = w;

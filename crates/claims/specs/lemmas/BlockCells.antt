@@ -12,16 +12,16 @@ use Rattle.sums.specs.theorems.SumLaws.{sum-ext, sum-cong}
 use Rattle.shapes.specs.Claims.{choose2}
 use Rattle.tree_check.specs.Table.{word}
 use Rattle.node_pairs.specs.theorems.Aggregates.{rowSum, columnSum, whole, squares, rowSquares, columnSquares}
-use Rattle.node_pairs.specs.theorems.Aggregates.{rowWithout, columnWithout, down, along, rest, rest-cell}
+use Rattle.node_pairs.specs.theorems.Aggregates.{rowWithout, columnWithout, down, along, otherCells, rest-cell}
 use Rattle.node_pairs.specs.theorems.CellForms.{pairsOff}
 use Rattle.node_pairs.specs.theorems.PairsOff.{pairs-off-cell}
 use Rattle.sums.specs.theorems.Products.{product-le}
 use Rattle.claims.specs.lemmas.Block.{Block, blockCell}
-use Rattle.claims.specs.lemmas.CellLines.{Line, Low, lineCell, squared}
+use Rattle.claims.specs.lemmas.CellLines.{Line, LowNumbers, lineCell, squared}
 use Rattle.claims.specs.lemmas.MatrixBounds.{cell-row-le, cell-column-le, row-without-is, column-without-is}
 use Rattle.claims.specs.lemmas.MatrixBounds.{row-le, column-le, squares-le, row-squares-le, column-squares-le}
 use Rattle.claims.specs.lemmas.MatrixBounds.{down-le, along-le}
-use Rattle.claims.specs.lemmas.CellTerms.{CellRoom, CellGives}
+use Rattle.claims.specs.lemmas.CellTerms.{TermRoom, CellGives}
 use Rattle.claims.specs.lemmas.CellSums.{pairsTerm, plusTerm, minusTerm, Terms}
 
 -- four slices hold the sums of a block: of its rows, of its columns, down its columns and along its rows
@@ -58,7 +58,7 @@ module _ (cells sums totals downs alongs : List ℕ) (d d' : ℕ) (g : Summed ce
   low = g .block .whole-few
 
   -- what the code subtracts: the cells in neither line, ..
-  rest-at : all + t - word sums i - word totals j ≡ rest d d' I i j
+  rest-at : all + t - word sums i - word totals j ≡ otherCells d d' I i j
   rest-at = omega (arith, t-is, o .all-is, g .sums-are i li, g .totals-are j lj, rest-cell d d' I i j li lj)
 
   -- .. the rest of the row ..
@@ -87,7 +87,7 @@ module _ (cells sums totals downs alongs : List ℕ) (d d' : ℕ) (g : Summed ce
 
   -- the numbers at a cell that is not empty are low
   pub cell-room : 1 ≤ t
-      → CellRoom t (word sums i) (word totals j) (word downs j) (word alongs i) all squared base
+      → TermRoom t (word sums i) (word totals j) (word downs j) (word alongs i) all squared base
   cell-room one = record {
     some = one;
     in-row = omega (arith, t-is, g .sums-are i li, cell-row-le d d' I i j lj);
@@ -153,7 +153,7 @@ sum-rows (suc d) d' f =
 
 module _ (cells sums totals downs alongs : List ℕ) (d d' : ℕ) (g : Summed cells sums totals downs alongs d d') where
   -- the sums of the rows are low, ..
-  pub sums-low : Low sums d
+  pub sums-low : LowNumbers sums d
   sums-low = record {
     inside = g .sums-long;
     few = g .block .rows-few;
@@ -161,7 +161,7 @@ module _ (cells sums totals downs alongs : List ℕ) (d d' : ℕ) (g : Summed ce
   }
 
   -- .. and of the columns
-  pub totals-low : Low totals d'
+  pub totals-low : LowNumbers totals d'
   totals-low = record {
     inside = g .totals-long;
     few = g .block .columns-few;

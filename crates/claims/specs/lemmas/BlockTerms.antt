@@ -17,7 +17,7 @@ use Rattle.node_pairs.specs.theorems.ClosedForms.{dotSquares, termSquares, pair
 use Rattle.sums.specs.theorems.Products.{product-le}
 use Rattle.claims.specs.lemmas.Block.{Block, blockCell}
 use Rattle.claims.specs.lemmas.CellLines.{Lines, AllTotals, lineSum, lineRest}
-use Rattle.claims.specs.lemmas.Filled.{filled, filled-at, length-filled}
+use Rattle.claims.specs.lemmas.Filled.{filledTo, filled-at, length-filled}
 use Rattle.claims.specs.lemmas.MatrixBounds.{cell-row-le, cell-column-le, row-without-is, column-without-is}
 use Rattle.claims.specs.lemmas.MatrixBounds.{row-le, column-le}
 use Rattle.claims.specs.lemmas.CellSums.{pairsTerm, plusTerm, minusTerm, AllTerms}
@@ -114,7 +114,7 @@ module _ (cells : List ℕ) (d d' : ℕ) (b : Block cells d d') where
 
   -- ---- the slices once they are filled
 
-  module _ (sums sums₀ : List ℕ) (long : d ≤ length sums₀) (e : sums ≡ filled (lineSum cells d' 1 d') d sums₀) where
+  module _ (sums sums₀ : List ℕ) (long : d ≤ length sums₀) (e : sums ≡ filledTo (lineSum cells d' 1 d') d sums₀) where
     -- the sums of the rows
     sums-are : (i : ℕ) → i < d → word sums i ≡ rowSum d' I i
     sums-are i l = filled-at (lineSum cells d' 1 d') d sums₀ sums long e i l ∙ sum-cong d' (row-at i)
@@ -134,7 +134,7 @@ module _ (cells : List ℕ) (d d' : ℕ) (b : Block cells d d') where
     }
 
   module _ (totals totals₀ : List ℕ) (long : d' ≤ length totals₀)
-      (e : totals ≡ filled (lineSum cells 1 d' d) d' totals₀) where
+      (e : totals ≡ filledTo (lineSum cells 1 d' d) d' totals₀) where
     -- the sums of the columns
     totals-are : (j : ℕ) → j < d' → word totals j ≡ columnSum d I j
     totals-are j l = filled-at (lineSum cells 1 d' d) d' totals₀ totals long e j l ∙ sum-cong d (column-at j)
@@ -160,10 +160,10 @@ module _ (cells : List ℕ) (d d' : ℕ) (b : Block cells d d') where
   -- all four slices
   pub summed : (sums sums₀ totals totals₀ downs downs₀ alongs alongs₀ : List ℕ)
       → d ≤ length sums₀ → d' ≤ length totals₀ → d' ≤ length downs₀ → d ≤ length alongs₀
-      → sums ≡ filled (lineSum cells d' 1 d') d sums₀
-      → totals ≡ filled (lineSum cells 1 d' d) d' totals₀
-      → downs ≡ filled (lineRest cells sums 1 d' d) d' downs₀
-      → alongs ≡ filled (lineRest cells totals d' 1 d') d alongs₀
+      → sums ≡ filledTo (lineSum cells d' 1 d') d sums₀
+      → totals ≡ filledTo (lineSum cells 1 d' d) d' totals₀
+      → downs ≡ filledTo (lineRest cells sums 1 d' d) d' downs₀
+      → alongs ≡ filledTo (lineRest cells totals d' 1 d') d alongs₀
       → Summed cells sums totals downs alongs d d'
   summed sums sums₀ totals totals₀ downs downs₀ alongs alongs₀ ls lt ld la es et ed ea = record {
     block = b;

@@ -55,7 +55,7 @@ pub record AllTotals (cells totals : List ℕ) (gap count step len : ℕ) : Type
   pub line : (i : ℕ) → i < count → Totals cells totals (i * gap) step len
 
 -- the first `len` numbers of a list are few and low
-pub record Low (xs : List ℕ) (len : ℕ) : Type 0 where
+pub record LowNumbers (xs : List ℕ) (len : ℕ) : Type 0 where
   pub inside : len ≤ length xs
   pub few : len ≤ tipsMost
   pub low : (a : ℕ) → a < len → word xs a ≤ 65536

@@ -6,7 +6,7 @@ use Rattle.table_words.specs.Sizes.{tipsMost}
 use Rattle.shapes.specs.Claims.{choose2}
 
 -- a cell t of a row and a column, in a matrix with these sums: all of them low
-pub record CellRoom (t row column down along whole squares base : ℕ) : Type 0 where
+pub record TermRoom (t row column down along whole squares base : ℕ) : Type 0 where
   pub some : 1 ≤ t
   pub in-row : t ≤ row
   pub in-column : t ≤ column

@@ -9,14 +9,14 @@ use lib.Seq.{getD-take, length-take-le}
 use Rattle.table_words.specs.lemmas.Rooms.{startRoom}
 use Rattle.tree_check.specs.Table.{word}
 use Rattle.code_lists.specs.ListedCodes.{degreeAt, innerCount, nodesSeen, innerCell}
-use Rattle.code_lists.specs.lemmas.CodesAt.{Parents, Starts, starts-suc}
+use Rattle.code_lists.specs.lemmas.CodesAt.{Parents, CodeStarts, starts-suc}
 use Rattle.code_lists.specs.lemmas.InnerNodes.{InnerNodes, inner-nodes}
 
 -- `&starts[..m + 1]`, for m nodes
 abbrev pub lentStarts : List ℕ → List ℕ → List ℕ
 lentStarts ps starts = take (length ps + 1) starts
 
-module _ (ps starts : List ℕ) (p : Parents ps) (s : Starts ps starts) where
+module _ (ps starts : List ℕ) (p : Parents ps) (s : CodeStarts ps starts) where
   pub lent-length : length (lentStarts ps starts) ≡ length ps + 1
   lent-length = length-take-le (length ps + 1) starts (omega (arith, s .long, p .few))
 

@@ -13,8 +13,8 @@ use Rattle.sums.specs.SetsOfFour.{sets2}
 use Rattle.tree_check.specs.Table.{word}
 use Rattle.node_pairs.specs.theorems.ClosedForms.{dot, dotSquares, termSquares}
 use Rattle.sums.specs.theorems.Products.{product-le}
-use Rattle.claims.specs.lemmas.CellLines.{Line, Low, lineCell, squared}
-use Rattle.claims.specs.lemmas.Filled.{filled, filled-at}
+use Rattle.claims.specs.lemmas.CellLines.{Line, LowNumbers, lineCell, squared}
+use Rattle.claims.specs.lemmas.Filled.{filledTo, filled-at}
 use Rattle.claims.specs.lemmas.MatrixBounds.{products-le}
 
 -- ---- one line with the lines before it
@@ -68,7 +68,7 @@ pub record AddRoom (cells : List ℕ) (t at gap n : ℕ) (dots : List ℕ) : Typ
 -- ---- one cell more
 
 -- cleared: no cell yet
-pub dotted-none : (cells dots dots' : List ℕ) (gap step i : ℕ) → i ≤ length dots → dots' ≡ filled (λ l. 0) i dots
+pub dotted-none : (cells dots dots' : List ℕ) (gap step i : ℕ) → i ≤ length dots → dots' ≡ filledTo (λ l. 0) i dots
     → Dotted cells dots' gap step i 0
 unfolding sum
 dotted-none cells dots dots' gap step i f e = record {
@@ -111,7 +111,7 @@ module _ (cells : List ℕ) (gap count step len : ℕ) (h : FewLines cells gap c
     }
 
     -- .. and one more cell is in every dot product
-    pub dotted-next : (dots' : List ℕ) → dots' ≡ filled (added cells dots t (a * step) gap) i dots
+    pub dotted-next : (dots' : List ℕ) → dots' ≡ filledTo (added cells dots t (a * step) gap) i dots
         → Dotted cells dots' gap step i (a + 1)
     dotted-next dots' e = record {
       is = λ l m.
@@ -187,7 +187,7 @@ module _ (cells : List ℕ) (gap step i len : ℕ) (h : FewLines cells gap (i + 
   )
 
   module _ (dots : List ℕ) (q : Dotted cells dots gap step i len) where
-    pub dots-low : i ≤ length dots → Low dots i
+    pub dots-low : i ≤ length dots → LowNumbers dots i
     dots-low long = record {
       inside = long;
       few = omega (arith, h .count-few);

@@ -47,8 +47,8 @@ abbrev pub product : ℕ → ℕ → ℕ → ℕ
 product p q r = p * q * r
 
 -- .. and the product times the sum
-abbrev pub weighed : ℕ → ℕ → ℕ → ℕ
-weighed p q r = p * q * r * (p + q + r)
+abbrev pub weighedProduct : ℕ → ℕ → ℕ → ℕ
+weighedProduct p q r = p * q * r * (p + q + r)
 
 -- ---- bounds
 
@@ -59,7 +59,7 @@ module _ (p q r : ℕ) (hp : p ≤ tipsMost) (hq : q ≤ tipsMost) (hr : r ≤ t
   pub diagonal-le : product p q r ≤ 16777216
   diagonal-le = product-le 65536 tipsMost (p * q) r pair-le hr
 
-  pub weighed-le : weighed p q r ≤ 12884901888
+  pub weighed-le : weighedProduct p q r ≤ 12884901888
   weighed-le = product-le 16777216 768 (p * q * r) (p + q + r) diagonal-le (omega (arith, hp, hq, hr))
 
 -- all cells times the products of two times three diagonals
@@ -83,7 +83,7 @@ partS3 t a b c d = t * (a * b) * (c + d)
 abbrev sumParts : (ℕ → ℕ → ℕ → ℕ → ℕ → ℕ) → ℕ → ℕ → ℕ → ℕ → ℕ → ℕ → ℕ → ℕ → ℕ → ℕ
 sumParts P p q r a b c d e f = P p q r a b + P q r p c d + P r p q e f
 
-diagonal-S2 : (p q r a b c d e f : ℕ) → 2 * sumParts partS2 p q r a b c d e f + 3 * product p q r ≡ weighed p q r
+diagonal-S2 : (p q r a b c d e f : ℕ) → 2 * sumParts partS2 p q r a b c d e f + 3 * product p q r ≡ weighedProduct p q r
 diagonal-S2 p q r a b c d e f = omega (
   arith,
   ap (λ (z : ℕ). z * (q * r)) (choose2-square p),
@@ -93,7 +93,7 @@ diagonal-S2 p q r a b c d e f = omega (
 
 -- n is the sum of all nine cells
 diagonal-S3 : (n p q r a b c d e f : ℕ) → n ≡ p + q + r + (a + b + (c + d) + (e + f))
-    → sumParts partS3 p q r a b c d e f + weighed p q r ≡ n * product p q r
+    → sumParts partS3 p q r a b c d e f + weighedProduct p q r ≡ n * product p q r
 diagonal-S3 n p q r a b c d e f h = rw h (omega arith)
 
 module _ (x0 x1 x2 y0 y1 y2 z0 z1 z2 : ℕ) where
@@ -163,29 +163,29 @@ module _ (x0 x1 x2 y0 y1 y2 z0 z1 z2 : ℕ) where
   -- a diagonal gives its product times its sum less three
   diagonals-S2 : pairS2 3 3 (threeRows x0 x1 x2 y0 y1 y2 z0 z1 z2)
       + 3 * sumDiagonals product x0 x1 x2 y0 y1 y2 z0 z1 z2
-      ≡ sumDiagonals weighed x0 x1 x2 y0 y1 y2 z0 z1 z2
+      ≡ sumDiagonals weighedProduct x0 x1 x2 y0 y1 y2 z0 z1 z2
   diagonals-S2 =
       ap (λ (z : ℕ). z + 3 * sumDiagonals product x0 x1 x2 y0 y1 y2 z0 z1 z2)
       (pairS2-three (threeRows x0 x1 x2 y0 y1 y2 z0 z1 z2)
       ∙ ap (λ (z : ℕ). 2 * z) (nine-parts termS2 partS2 (λ t p q r s. omega arith)))
-      ∙ all-S2 (sumParts partS2) product weighed diagonal-S2
+      ∙ all-S2 (sumParts partS2) product weighedProduct diagonal-S2
 
   -- a diagonal gives its product times the sum of the cells off it
   diagonals-S3 : pairS3 3 3 (threeRows x0 x1 x2 y0 y1 y2 z0 z1 z2)
-      + sumDiagonals weighed x0 x1 x2 y0 y1 y2 z0 z1 z2
+      + sumDiagonals weighedProduct x0 x1 x2 y0 y1 y2 z0 z1 z2
       ≡ (x0 + x1 + x2 + y0 + y1 + y2 + z0 + z1 + z2) * sumDiagonals product x0 x1 x2 y0 y1 y2 z0 z1 z2
   diagonals-S3 =
-      ap (λ (z : ℕ). z + sumDiagonals weighed x0 x1 x2 y0 y1 y2 z0 z1 z2)
+      ap (λ (z : ℕ). z + sumDiagonals weighedProduct x0 x1 x2 y0 y1 y2 z0 z1 z2)
       (pairS3-three (threeRows x0 x1 x2 y0 y1 y2 z0 z1 z2)
       ∙ nine-parts termS3 partS3 (λ t p q r s. omega arith))
-      ∙ all-S3 _ refl (sumParts partS3) product weighed (diagonal-S3 _)
+      ∙ all-S3 _ refl (sumParts partS3) product weighedProduct (diagonal-S3 _)
 
   -- the same from the sums p, p' of the products of three diagonals and the other three, and w, w' of their
   -- products times their sums
   module _ (p p' w w' : ℕ) (hp : p ≡ sumThree product x0 y1 z2 x1 y2 z0 x2 y0 z1)
       (hp' : p' ≡ sumThree product x0 y2 z1 x1 y0 z2 x2 y1 z0)
-      (hw : w ≡ sumThree weighed x0 y1 z2 x1 y2 z0 x2 y0 z1)
-      (hw' : w' ≡ sumThree weighed x0 y2 z1 x1 y0 z2 x2 y1 z0) where
+      (hw : w ≡ sumThree weighedProduct x0 y1 z2 x1 y2 z0 x2 y0 z1)
+      (hw' : w' ≡ sumThree weighedProduct x0 y2 z1 x1 y0 z2 x2 y1 z0) where
     pub nine-S2 : pairS2 3 3 (threeRows x0 x1 x2 y0 y1 y2 z0 z1 z2) + 3 * (p + p') ≡ w + w'
     nine-S2 =
         ap₂ (λ (a b : ℕ). pairS2 3 3 (threeRows x0 x1 x2 y0 y1 y2 z0 z1 z2) + 3 * (a + b)) hp hp'

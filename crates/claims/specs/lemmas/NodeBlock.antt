@@ -16,13 +16,13 @@ use Rattle.claims.specs.lemmas.CodeCells.{CellRoom, Crossed, cell-room, 
 -- ---- one row
 
 -- `count` cells from `at` on hold f 0, f 1, ..; those before stay
-pub record Written (old new : List ℕ) (at count : ℕ) (f : ℕ → ℕ) : Type 0 where
+pub record BlockWritten (old new : List ℕ) (at count : ℕ) (f : ℕ → ℕ) : Type 0 where
   pub cell : (j : ℕ) → j < count → word new (at + j) ≡ f j
   pub before : (k : ℕ) → k < at → word new k ≡ word old k
   pub long : length new ≡ length old
 
 pub written-first : (old : List ℕ) (at v : ℕ) (f : ℕ → ℕ) → at < length old → v ≡ f 0
-    → Written old (set old at v) at 1 f
+    → BlockWritten old (set old at v) at 1 f
 written-first old at v f l e = record {
   cell = λ j m. first j m;
   before = λ k m. getD-set-other old at k v 0 (λ q. omega arith);
@@ -36,8 +36,8 @@ written-first old at v f l e = record {
     first zero m = ap (word (set old at v)) (at-first at) ∙ getD-set-same old at v 0 l ∙ e
     first (suc j) m = absurd (omega arith)
 
-pub written-next : (old mid : List ℕ) (at j k v : ℕ) (f : ℕ → ℕ) → Written old mid at j f → k ≡ at + j
-    → k < length mid → v ≡ f j → Written old (set mid k v) at (j + 1) f
+pub written-next : (old mid : List ℕ) (at j k v : ℕ) (f : ℕ → ℕ) → BlockWritten old mid at j f → k ≡ at + j
+    → k < length mid → v ≡ f j → BlockWritten old (set mid k v) at (j + 1) f
 written-next old mid at j k v f h q l e = record {
   cell = λ i m. at-cell i m (decLt i j);
   before = λ i m. getD-set-other mid k i v 0 (λ z. omega arith) ∙ h .before i m;
@@ -52,7 +52,7 @@ written-next old mid at j k v f h q l e = record {
         ap (word (set mid k v)) r ∙ getD-set-same mid k v 0 l ∙ e ∙ ap f (sym s)
 
 -- a row of cells, and room for it from `at` on in a block of `size` cells
-pub record RowRoom (work : List ℕ) (base : ℕ) (columns : List ℕ) (size at : ℕ) : Type 0 where
+pub record BlockRowRoom (work : List ℕ) (base : ℕ) (columns : List ℕ) (size at : ℕ) : Type 0 where
   pub some : 1 ≤ length columns
   pub few : length columns ≤ tipsMost
   pub low : at ≤ 65536
@@ -83,7 +83,7 @@ module _ (work : List ℕ) (w n : ℕ) (rows columns : List ℕ) (h : NodeEdges 
   row-end i d d' l = mul-le-mul-right d' (omega arith)
 
   pub row-room : (size i : ℕ) → length rows * length columns ≤ size → i < length rows
-      → RowRoom work (word rows i * w) columns size (i * length columns)
+      → BlockRowRoom work (word rows i * w) columns size (i * length columns)
   row-room size i l m = record {
     some = h .columns-some;
     few = h .columns-few;
@@ -93,7 +93,7 @@ module _ (work : List ℕ) (w n : ℕ) (rows columns : List ℕ) (h : NodeEdges 
   }
 
   pub first-row-room : (size : ℕ) → length rows * length columns ≤ size
-      → RowRoom work (word rows 0 * w) columns size 0
+      → BlockRowRoom work (word rows 0 * w) columns size 0
   first-row-room size l =
       let r = row-room size 0 l (h .rows-some) in record {
         some = r .some;
@@ -110,7 +110,7 @@ pub record RowsFilled (work : List ℕ) (w n : ℕ) (rows columns block : List �
 
 module _ (work : List ℕ) (w n : ℕ) (rows columns : List ℕ) where
   pub own-filled : (old new : List ℕ)
-      → Written old new 0 (length columns) (ownCell work (word rows 0 * w) n (word columns))
+      → BlockWritten old new 0 (length columns) (ownCell work (word rows 0 * w) n (word columns))
       → RowsFilled work w n rows columns new 1
   unfolding codeCell
   own-filled old new h = record { cell = at }
@@ -124,7 +124,7 @@ module _ (work : List ℕ) (w n : ℕ) (rows columns : List ℕ) where
       at (suc f) j l m = absurd (omega arith)
 
   pub child-filled : (old new : List ℕ) (i base at : ℕ) → 1 ≤ i → base ≡ word rows i * w → at ≡ i * length columns
-      → Written old new at (length columns) (childCell work base (word columns))
+      → BlockWritten old new at (length columns) (childCell work base (word columns))
       → RowsFilled work w n rows columns old i → RowsFilled work w n rows columns new (i + 1)
   unfolding codeCell
   child-filled old new i base at l eb ea h r = record { cell = λ f j lf lj. cell f j lj (decLt f i) lf }

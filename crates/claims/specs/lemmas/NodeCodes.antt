@@ -10,14 +10,14 @@ use lib.Seq.{getD-take, getD-drop, length-take-le}
 use Rattle.table_words.specs.lemmas.Rooms.{codeRoom}
 use Rattle.tree_check.specs.Table.{word}
 use Rattle.code_lists.specs.ListedCodes.{degreeAt, codesBefore}
-use Rattle.code_lists.specs.lemmas.CodesAt.{Parents, Starts, EdgeList}
+use Rattle.code_lists.specs.lemmas.CodesAt.{Parents, CodeStarts, EdgeList}
 use Rattle.code_lists.specs.lemmas.CodesAt.{starts-inside, starts-suc, code-inside}
 use Rattle.claims.specs.lemmas.SumsByNode.{edgeInto}
 
 -- the edges of the codes into the nodes of a tree, and where each node's begin
 pub record CodeLists (ps starts edges : List ℕ) : Type 0 where
   pub parents : Parents ps
-  pub begins : Starts ps starts
+  pub begins : CodeStarts ps starts
   pub listed : EdgeList ps edges
   pub long : length edges ≡ codeRoom
 

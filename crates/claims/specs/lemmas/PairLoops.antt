@@ -25,16 +25,16 @@ use Rattle.claims.specs.lemmas.SumsByNode.{edgeInto, pairSumS2, pairSumS
 -- ---- two sums in step
 
 -- the first i terms of each of two sums
-pub record Summed (f g : ℕ → ℕ) (i s2 s3 : ℕ) : Type 0 where
+pub record TermsSummed (f g : ℕ → ℕ) (i s2 s3 : ℕ) : Type 0 where
   pub s2-is : s2 ≡ sum i f
   pub s3-is : s3 ≡ sum i g
 
-pub summed-none : (f g : ℕ → ℕ) → Summed f g 0 0 0
+pub summed-none : (f g : ℕ → ℕ) → TermsSummed f g 0 0 0
 unfolding sum
 summed-none f g = record { s2-is = refl; s3-is = refl }
 
-module _ (f g : ℕ → ℕ) (i s2 s3 : ℕ) (h : Summed f g i s2 s3) where
-  pub summed-next : (a b : ℕ) → a ≡ f i → b ≡ g i → Summed f g (i + 1) (s2 + a) (s3 + b)
+module _ (f g : ℕ → ℕ) (i s2 s3 : ℕ) (h : TermsSummed f g i s2 s3) where
+  pub summed-next : (a b : ℕ) → a ≡ f i → b ≡ g i → TermsSummed f g (i + 1) (s2 + a) (s3 + b)
   summed-next a b ea eb = record {
     s2-is = omega (arith, h .s2-is, ea, sum-next i f);
     s3-is = omega (arith, h .s3-is, eb, sum-next i g);
@@ -123,7 +123,7 @@ pub record NodeRow (work : List ℕ) (w n : ℕ) (rows qs starts edges : List �
   pub all-S3 : sum (length qs) (rowS3 work w n rows qs) ≤ 699170560
 
 -- .. where there are three codes or more into it
-pub record RowRoom (work : List ℕ) (w n : ℕ) (rows qs starts edges : List ℕ) (size : ℕ) : Type 0 where
+pub record NodeRowRoom (work : List ℕ) (w n : ℕ) (rows qs starts edges : List ℕ) (size : ℕ) : Type 0 where
   pub row : 3 ≤ length rows → NodeRow work w n rows qs starts edges size
 
 -- fewer codes make no claim
@@ -303,5 +303,5 @@ module _ (work : List ℕ) (w n most : ℕ) (ps starts edges qs starts' edges' :
     );
   }
 
-  pub node-room : (size : ℕ) → most * most ≤ size → RowRoom work w n (nodePart starts edges v) qs starts' edges' size
+  pub node-room : (size : ℕ) → most * most ≤ size → NodeRowRoom work w n (nodePart starts edges v) qs starts' edges' size
   node-room size k = record { row = node-row size k }

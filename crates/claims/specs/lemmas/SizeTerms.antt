@@ -10,7 +10,7 @@ use Rattle.sums.specs.Sum.{sum}
 use Rattle.sums.specs.theorems.SumLaws.{sum-cong, sum-ge, sum-mul-right, sum-next}
 use Rattle.sums.specs.theorems.Products.{product-le}
 use Rattle.shapes.specs.Claims.{choose2}
-use Rattle.node_pairs.specs.theorems.NodeSums.{others, others-and-own, node-closed}
+use Rattle.node_pairs.specs.theorems.NodeSums.{otherIndices, others-and-own, node-closed}
 use Rattle.tree_check.specs.Table.{word}
 use Rattle.claims.specs.lemmas.CellLines.{Line, lineCell, squared}
 use Rattle.claims.specs.lemmas.SumsByNode.{sizesApart}
@@ -76,7 +76,7 @@ line-squared sizes count r e = e ∙ sum-cong count (λ a. ap (λ (x : ℕ). x *
 -- ---- the terms before i
 
 pub record SizeTerms (sizes : List ℕ) (count i plus pairs : ℕ) : Type 0 where
-  pub plus-is : plus ≡ sum i (λ k. sizeTerm (word sizes k) (others count (word sizes) k))
+  pub plus-is : plus ≡ sum i (λ k. sizeTerm (word sizes k) (otherIndices count (word sizes) k))
   pub pairs-is : pairs ≡ sum i (λ k. choose2 (word sizes k))
   pub plus-most : plus ≤ i * 4294967296
   pub pairs-few : pairs ≤ i * 32768
@@ -89,7 +89,7 @@ module _ (sizes : List ℕ) (count : ℕ) (h : SizesFew sizes count) (i : ℕ) (
   pub size-low : (word sizes i ≤ sum count (word sizes)) × (sum count (word sizes) ≤ tipsMost)
   size-low = (sum-ge count (word sizes) i l, h .whole)
 
-  rest-is : (whole : ℕ) → whole ≡ sum count (word sizes) → whole - word sizes i ≡ others count (word sizes) i
+  rest-is : (whole : ℕ) → whole ≡ sum count (word sizes) → whole - word sizes i ≡ otherIndices count (word sizes) i
   rest-is whole e = omega (arith, e, others-and-own count (word sizes) i l)
 
   pub next-term : (plus pairs whole s p x : ℕ) → SizeTerms sizes count i plus pairs
@@ -98,7 +98,7 @@ module _ (sizes : List ℕ) (count : ℕ) (h : SizesFew sizes count) (i : ℕ) (
   next-term plus pairs whole s p x q e es ep ex lx lp = record {
     plus-is =
         ap₂ (λ (a b : ℕ). a + b) (q .plus-is) (ex ∙ ap₂ sizeTerm es (ap (λ (z : ℕ). whole - z) es ∙ rest-is whole e))
-        ∙ sym (sum-next i (λ k. sizeTerm (word sizes k) (others count (word sizes) k)));
+        ∙ sym (sum-next i (λ k. sizeTerm (word sizes k) (otherIndices count (word sizes) k)));
     pairs-is =
         ap₂ (λ (a b : ℕ). a + b) (q .pairs-is) (ep ∙ ap choose2 es) ∙ sym (sum-next i (λ k. choose2 (word sizes k)));
     plus-most = omega (arith, q .plus-most);

@@ -23,7 +23,7 @@ use Rattle.claims.specs.declared.totals.ClaimSums.{ClaimSums}
 use Rattle.claims.specs.lemmas.CodeCells.{Crossed, codeCell, row-start}
 use Rattle.claims.specs.lemmas.NodeCodes.{CodeLists}
 use Rattle.code_lists.specs.ListedCodes.{degreeAt}
-use Rattle.code_lists.specs.lemmas.CodesAt.{Parents, Starts, EdgeList}
+use Rattle.code_lists.specs.lemmas.CodesAt.{Parents, CodeStarts, EdgeList}
 use Rattle.claims.specs.lemmas.CodeSizes.{codeSize, SizeCell}
 use Rattle.claims.specs.lemmas.DirectedCells.{crossed-cells}
 use Rattle.claims.specs.lemmas.SumsByNode.{edgeInto, nodeSum, first-sum, second-sum, same-sum, different-sum}
@@ -66,11 +66,11 @@ pub record Summable (work : List ℕ) (k n : ℕ) (ps qs : List ℕ) : Type 0 wh
   pub different-most : sum (length ps) (nodeS3 work (length qs - 1) k ps qs) ≤ 699170560
 
 module _ (work : List ℕ) (k n : ℕ) (ps qs : List ℕ) (h : Summable work k n ps qs) where
-  pub first-lists : (starts edges : List ℕ) → Starts ps starts → EdgeList ps edges → CodeLists ps starts edges
+  pub first-lists : (starts edges : List ℕ) → CodeStarts ps starts → EdgeList ps edges → CodeLists ps starts edges
   first-lists starts edges a b =
       record { parents = h .first; begins = a; listed = b; long = b .long }
 
-  pub second-lists : (starts edges : List ℕ) → Starts qs starts → EdgeList qs edges → CodeLists qs starts edges
+  pub second-lists : (starts edges : List ℕ) → CodeStarts qs starts → EdgeList qs edges → CodeLists qs starts edges
   second-lists starts edges a b =
       record { parents = h .second; begins = a; listed = b; long = b .long }
 

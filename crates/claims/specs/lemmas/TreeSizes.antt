@@ -13,7 +13,7 @@ use Rattle.tree_check.specs.Table.{word}
 use Rattle.claims.specs.lemmas.NodeCodes.{CodeLists, nodePart, part-length, part-edge, edge-inside}
 use Rattle.code_lists.specs.ListedCodes.{degreeAt}
 use Rattle.claims.specs.lemmas.CodeSizes.{codeSize, SizeCell, SizesRoom}
-use Rattle.claims.specs.lemmas.NodeBlock.{Written}
+use Rattle.claims.specs.lemmas.NodeBlock.{BlockWritten}
 use Rattle.claims.specs.lemmas.SizeTerms.{SizesFew}
 use Rattle.claims.specs.lemmas.SumsByNode.{edgeInto, sizesApart, nodeSum, sizes-apart-ext}
 
@@ -37,7 +37,7 @@ sizes-room work step n edges size h l = record {
 
 -- the sizes as they are written in front of `new`
 module _ (work : List ℕ) (step n : ℕ) (edges old new : List ℕ)
-    (w : Written old new 0 (length edges) (codeSize work step n (word edges))) where
+    (w : BlockWritten old new 0 (length edges) (codeSize work step n (word edges))) where
   written-size : (i : ℕ) → i < length edges → word new i ≡ codeSize work step n (word edges) i
   written-size i l = ap (word new) (front i) ∙ w .cell i l
     where

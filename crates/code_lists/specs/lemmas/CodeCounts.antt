@@ -21,13 +21,13 @@ use Rattle.code_lists.specs.ListedCodes.{codesOf, degreeAt, codesBefore}
 use Rattle.code_lists.specs.lemmas.CodesAt.{Parents, degree-mono, starts-inside, starts-suc}
 
 -- the codes below k are counted at the nodes that they lead into: at node v from the number `from v` on
-pub record Counted (ps : List ℕ) (from : ℕ → ℕ) (k : ℕ) (cells : List ℕ) : Type 0 where
+pub record CountedCodes (ps : List ℕ) (from : ℕ → ℕ) (k : ℕ) (cells : List ℕ) : Type 0 where
   pub long : length cells ≡ nodeRoom
   pub at : (v : ℕ) → v < length ps → word cells v ≡ from v + degreeOf k (head (word ps)) v
 
 -- the counts of the nodes before v are added up to `at`: in the cells of `starts`, which were `old`, and of `next`, where
 -- the other nodes' counts are left
-pub record Added (ps old : List ℕ) (v at : ℕ) (next starts : List ℕ) : Type 0 where
+pub record AddedStarts (ps old : List ℕ) (v at : ℕ) (next starts : List ℕ) : Type 0 where
   pub sum-is : at ≡ codesBefore ps v
   pub long : length next ≡ nodeRoom
   pub same : length starts ≡ length old
@@ -38,7 +38,7 @@ pub record Added (ps old : List ℕ) (v at : ℕ) (next starts : List ℕ) : Typ
 
 -- all starts are, and the first code into each node has its place
 pub record StartsIn (ps old next starts : List ℕ) : Type 0 where
-  pub places : Counted ps (codesBefore ps) 0 next
+  pub places : CountedCodes ps (codesBefore ps) 0 next
   pub start : (v : ℕ) → v ≤ length ps → word starts v ≡ codesBefore ps v
   pub later : (v : ℕ) → length ps < v → word starts v ≡ word old v
 
@@ -46,20 +46,20 @@ pub record StartsIn (ps old next starts : List ℕ) : Type 0 where
 
 -- no code is counted yet
 pub counted-start : (ps : List ℕ) (from : ℕ → ℕ) (cells : List ℕ) → length cells ≡ nodeRoom
-    → ((v : ℕ) → v < length ps → word cells v ≡ from v) → Counted ps from 0 cells
+    → ((v : ℕ) → v < length ps → word cells v ≡ from v) → CountedCodes ps from 0 cells
 counted-start ps from cells l h = record { long = l; at = λ v m. h v m ∙ none v }
   where
     none : (v : ℕ) → from v ≡ from v + degreeOf 0 (head (word ps)) v
     none v = unfold degreeOf sum in omega arith
 
 -- counting begins with zeros
-pub counted-none : (ps : List ℕ) → length ps ≤ nodeRoom → Counted ps (λ v. 0) 0 (replicate nodeRoom 0)
+pub counted-none : (ps : List ℕ) → length ps ≤ nodeRoom → CountedCodes ps (λ v. 0) 0 (replicate nodeRoom 0)
 counted-none ps l = counted-start ps (λ v. 0) (replicate nodeRoom 0) (length-replicate {A = ℕ} nodeRoom 0)
     (λ v m. getD-replicate nodeRoom v 0 0 (omega arith))
 
 -- code k leads into v, and is counted there
 pub counted-next : (ps : List ℕ) (from : ℕ → ℕ) (k v : ℕ) (cells : List ℕ) → head (word ps) k ≡ v → v < nodeRoom
-    → Counted ps from k cells → Counted ps from (suc k) (set cells v (word cells v + 1))
+    → CountedCodes ps from k cells → CountedCodes ps from (suc k) (set cells v (word cells v + 1))
 counted-next ps from k v cells e l h = record {
   long = length-set cells v (word cells v + 1) ∙ h .long;
   at = λ u m. elim (ℕ-discrete u v) [
@@ -82,7 +82,7 @@ counted-next ps from k v cells e l h = record {
 
 -- the codes below k are few
 counted-few : (ps : List ℕ) (k v : ℕ) (cells : List ℕ) → Parents ps → k ≤ codesOf ps → v < length ps
-    → Counted ps (λ v. 0) k cells → word cells v < codeRoom
+    → CountedCodes ps (λ v. 0) k cells → word cells v < codeRoom
 counted-few ps k v cells p l m h = omega (
   arith,
   h .at v m,
@@ -111,13 +111,13 @@ module _ (ps : List ℕ) (p : Parents ps) (i v : ℕ) (l : 1 ≤ i) (m : i < len
   pub parent-inside : v < length ps
   parent-inside = omega (arith, e, p .before i l m)
 
-  module _ (cells : List ℕ) (h : Counted ps (λ v. 0) (2 * (i - 1)) cells) where
+  module _ (cells : List ℕ) (h : CountedCodes ps (λ v. 0) (2 * (i - 1)) cells) where
     -- the count at the parent is low, ..
     pub up-few : word cells v < codeRoom
     up-few = counted-few ps (2 * (i - 1)) v cells p (omega arith) parent-inside h
 
     -- the code into the parent is counted
-    up-counted : Counted ps (λ v. 0) (suc (2 * (i - 1))) (set cells v (word cells v + 1))
+    up-counted : CountedCodes ps (λ v. 0) (suc (2 * (i - 1))) (set cells v (word cells v + 1))
     up-counted =
         counted-next ps (λ v. 0) (2 * (i - 1)) v cells up-head (omega (arith, parent-inside, p .few)) h
 
@@ -126,7 +126,7 @@ module _ (ps : List ℕ) (p : Parents ps) (i v : ℕ) (l : 1 ≤ i) (m : i < len
     down-few = counted-few ps (suc (2 * (i - 1))) i _ p (omega arith) m up-counted
 
     -- both codes are counted
-    pub counted-edge : Counted ps (λ v. 0) (2 * (i + 1 - 1))
+    pub counted-edge : CountedCodes ps (λ v. 0) (2 * (i + 1 - 1))
         (set (set cells v (word cells v + 1)) i (word (set cells v (word cells v + 1)) i + 1))
     counted-edge = rw (two-more i l)
         (counted-next ps (λ v. 0) (suc (2 * (i - 1))) i _ down-head (omega (arith, p .few)) up-counted)
@@ -134,7 +134,7 @@ module _ (ps : List ℕ) (p : Parents ps) (i v : ℕ) (l : 1 ≤ i) (m : i < len
 -- ---- adding up
 
 -- the codes into node 0 begin at 0
-pub added-none : (ps old next : List ℕ) → Counted ps (λ v. 0) (codesOf ps) next → Added ps old 0 0 next old
+pub added-none : (ps old next : List ℕ) → CountedCodes ps (λ v. 0) (codesOf ps) next → AddedStarts ps old 0 0 next old
 added-none ps old next h = record {
   sum-is = unfold sum in refl;
   long = h .long;
@@ -145,10 +145,10 @@ added-none ps old next h = record {
   later = λ u l. refl;
 }
 
-module _ (ps old : List ℕ) (v at : ℕ) (next starts : List ℕ) (h : Added ps old v at next starts) where
+module _ (ps old : List ℕ) (v at : ℕ) (next starts : List ℕ) (h : AddedStarts ps old v at next starts) where
   -- those into node v + 1 begin where those into node v end
   pub added-next : v < length ps → v < nodeRoom → v < length starts
-      → Added ps old (v + 1) (at + word next v) (set next v at) (set starts v at)
+      → AddedStarts ps old (v + 1) (at + word next v) (set next v at) (set starts v at)
   added-next l m n = record {
     sum-is = omega (arith, h .sum-is, h .count v (omega arith) l, starts-suc ps v, ap (codesBefore ps) (add-one v));
     long = length-set next v at ∙ h .long;

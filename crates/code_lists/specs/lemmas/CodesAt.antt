@@ -28,7 +28,7 @@ pub record Parents (ps : List ℕ) : Type 0 where
   pub before : (i : ℕ) → 1 ≤ i → i < length ps → word ps i < i
 
 -- where the codes into each node begin, and where the last of all ends
-pub record Starts (ps starts : List ℕ) : Type 0 where
+pub record CodeStarts (ps starts : List ℕ) : Type 0 where
   pub long : length starts ≡ startRoom
   pub at : (v : ℕ) → v ≤ length ps → word starts v ≡ codesBefore ps v
 

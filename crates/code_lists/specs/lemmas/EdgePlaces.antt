@@ -18,12 +18,12 @@ use Rattle.node_pairs.specs.theorems.CodesOfANode.{code-before, code-last, degr
 use Rattle.tree_check.specs.Table.{word}
 use Rattle.code_lists.specs.ListedCodes.{codesOf, degreeAt, codeInto, codesBefore}
 use Rattle.code_lists.specs.lemmas.CodesAt.{Parents, degree-mono, starts-inside, starts-suc}
-use Rattle.code_lists.specs.lemmas.CodeCounts.{Counted, counted-next}
+use Rattle.code_lists.specs.lemmas.CodeCounts.{CountedCodes, counted-next}
 use Rattle.code_lists.specs.lemmas.CodeCounts.{up-head, down-head, parent-inside, two-more}
 
 -- the codes below k stand in the list, whose cells were `old`
 pub record Placed (ps old : List ℕ) (k : ℕ) (next list : List ℕ) : Type 0 where
-  pub counted : Counted ps (codesBefore ps) k next
+  pub counted : CountedCodes ps (codesBefore ps) k next
   pub same : length list ≡ length old
   pub at : (v i : ℕ) → v < length ps → i < degreeOf k (head (word ps)) v
       → word list (codesBefore ps v + i) ≡ codeAt k (head (word ps)) v i / 2
@@ -60,7 +60,7 @@ placed-inside : (ps : List ℕ) (k u i : ℕ) → k ≤ codesOf ps → i < degre
 placed-inside ps k u i l m = omega (arith, starts-suc ps u, degree-mono (head (word ps)) u k (codesOf ps) l)
 
 -- nothing stands in the list yet
-pub placed-none : (ps old next : List ℕ) → Counted ps (codesBefore ps) 0 next → Placed ps old 0 next old
+pub placed-none : (ps old next : List ℕ) → CountedCodes ps (codesBefore ps) 0 next → Placed ps old 0 next old
 placed-none ps old next h = record {
   counted = h;
   same = refl;

@@ -15,7 +15,7 @@ use Rattle.sums.specs.theorems.SumLaws.{sum-part}
 use Rattle.tree_check.specs.Table.{word}
 use Rattle.code_lists.specs.ListedCodes.{codesOf, degreeAt, codeInto, codesBefore}
 use Rattle.code_lists.specs.ListedCodes.{codesFit, startCell, edgeAt, edgeCell}
-use Rattle.code_lists.specs.lemmas.CodesAt.{Parents, Starts, EdgeList, starts-suc}
+use Rattle.code_lists.specs.lemmas.CodesAt.{Parents, CodeStarts, EdgeList, starts-suc}
 use Rattle.code_lists.specs.lemmas.CodeCounts.{StartsIn}
 use Rattle.code_lists.specs.lemmas.EdgePlaces.{EdgesIn}
 use Rattle.code_lists.specs.lemmas.FitParents.{codes-fit, fit-codes}
@@ -64,7 +64,7 @@ module _ (ps starts edges : List ℕ) where
 
   -- where the codes into a tree's nodes begin
   pub listed-starts : Fit ps starts edges → (new : List ℕ) → length new ≡ startRoom
-      → ((v : ℕ) → word new v ≡ startCell ps starts edges v) → Starts ps new
+      → ((v : ℕ) → word new v ≡ startCell ps starts edges v) → CodeStarts ps new
   listed-starts p new l h = record { long = l; at = λ v m. h v ∙ start-in p v m }
 
 -- ---- the edges

@@ -13,14 +13,14 @@ use Rattle.compare.specs.declared.input.Input.the-variants.{Bytes, Faile
 use Rattle.compare.specs.Input.{Within}
 
 -- A read of at most `most` bytes answers how many came, none at the end, or a negative number where it failed.
-abbrev pub answered : ℤ → ℕ → Input
-answered (pos n) most = Bytes (min n most)
-answered (negsuc n) most = Failed
+abbrev pub readAnswer : ℤ → ℕ → Input
+readAnswer (pos n) most = Bytes (min n most)
+readAnswer (negsuc n) most = Failed
 
 pub within-of-le : (n : ℕ) (buffer : List ℕ) → n ≤ length buffer → Within (Bytes n) buffer
 within-of-le n buffer h = (h, sym (length-take-le n buffer h))
 
-pub answered-within : (z : ℤ) (buffer : List ℕ) → Within (answered z (length buffer)) buffer
+pub answered-within : (z : ℤ) (buffer : List ℕ) → Within (readAnswer z (length buffer)) buffer
 answered-within (pos n) buffer = within-of-le _ buffer (omega arith)
 answered-within (negsuc n) buffer = tt
 

@@ -11,8 +11,8 @@ use Rattle.tree_check.specs.theorems.RootedTables.{rooted}
 use Rattle.counting.specs.ClaimSums.{codes}
 
 -- how many edges the node v has
-unfoldable pub degreeOf : Table → ℕ → ℕ
-degreeOf t v = degree (parent t) (nodes t - 1) v
+unfoldable pub nodeDegree : Table → ℕ → ℕ
+nodeDegree t v = degree (parent t) (nodes t - 1) v
 
 -- the node that the directed edge with the code c points to
 abbrev pub headOf : Table → ℕ → ℕ
@@ -20,6 +20,6 @@ headOf t c = head (parent t) c
 
 -- an edge into a node of degree d is in (d − 1)(d − 2)/2 claims
 pub claims-of-a-code : (t : Table) → IsTree t → (c : ℕ) → c < codes t
-    → sumClaimsOf (parent t) (codes t) c (λ f g. 1) ≡ (degreeOf t (headOf t c) - 1) * (degreeOf t (headOf t c) - 2) / 2
-unfolding codes degreeOf
+    → sumClaimsOf (parent t) (codes t) c (λ f g. 1) ≡ (nodeDegree t (headOf t c) - 1) * (nodeDegree t (headOf t c) - 2) / 2
+unfolding codes nodeDegree
 claims-of-a-code t g c l = claims-of-an-edge (parent t) (rooted t g) (nodes t - 1) c l

@@ -22,7 +22,7 @@ use Rattle.tree_check.specs.theorems.TreeCheck.{child-iff}
 use Rattle.tree_check.specs.theorems.RootedTables.{rooted}
 use Rattle.counting.specs.ClaimSums.{codes}
 use Rattle.counting.specs.theorems.PassThrough.{PassThrough}
-use Rattle.counting.specs.theorems.EdgeClaims.{degreeOf, headOf, claims-of-a-code}
+use Rattle.counting.specs.theorems.EdgeClaims.{nodeDegree, headOf, claims-of-a-code}
 
 module _ (t : Table) where
   abbrev kids : ℕ → ℕ
@@ -81,8 +81,8 @@ no-pairs (suc (suc (suc d))) l = absurd (omega arith)
 
 module _ (t : Table) (g : IsTree t) where
   -- it has two edges: its own, and its child's
-  two-edges : (v : ℕ) → PassThrough t v → degreeOf t v ≤ 2
-  unfolding degreeOf degree
+  two-edges : (v : ℕ) → PassThrough t v → nodeDegree t v ≤ 2
+  unfolding nodeDegree degree
   two-edges zero p = absurd (omega (arith, g .root-label, p .inner))
   two-edges (suc w) p =
       let v = suc w in
@@ -110,4 +110,4 @@ module _ (t : Table) (g : IsTree t) where
   -- an edge into a pass-through node is in no claim
   pub no-claims-through : (c : ℕ) → c < codes t → PassThrough t (headOf t c)
       → sumClaimsOf (parent t) (codes t) c (λ f g. 1) ≡ 0
-  no-claims-through c l p = claims-of-a-code t g c l ∙ no-pairs (degreeOf t (headOf t c)) (two-edges (headOf t c) p)
+  no-claims-through c l p = claims-of-a-code t g c l ∙ no-pairs (nodeDegree t (headOf t c)) (two-edges (headOf t c) p)

@@ -24,20 +24,20 @@ use Rattle.exchange_distances.specs.ExchangeAnswers.{distanceAnswer, tal
 
 -- ---- one exchange
 
-abbrev pub apart : ℕ → ℕ → ExchangeDistance
-apart number distance = record { refusal = number; distance = distance }
+abbrev pub distanceTold : ℕ → ℕ → ExchangeDistance
+distanceTold number distance = record { refusal = number; distance = distance }
 
 module _ (t : Table) (x y : ℕ) where
   told : (k : ℕ) → refusal (labelOrder t (x ∷ y ∷ [])) ≡ k
-      → apart k (ifAccepted k (exchangeDistance t x y) 0) ≡ distanceAnswer t x y
+      → distanceTold k (ifAccepted k (exchangeDistance t x y) 0) ≡ distanceAnswer t x y
   unfolding distanceAnswer
-  told k e = ap (λ (j : ℕ). apart j (ifAccepted j (exchangeDistance t x y) 0)) (sym e)
+  told k e = ap (λ (j : ℕ). distanceTold j (ifAccepted j (exchangeDistance t x y) 0)) (sym e)
 
-  refused : (k : ℕ) → refusal (labelOrder t (x ∷ y ∷ [])) ≡ k → k ≢ 0 → apart k 0 ≡ distanceAnswer t x y
-  refused k e d = ap (apart k) (sym (if-refused k (exchangeDistance t x y) 0 d)) ∙ told k e
+  refused : (k : ℕ) → refusal (labelOrder t (x ∷ y ∷ [])) ≡ k → k ≢ 0 → distanceTold k 0 ≡ distanceAnswer t x y
+  refused k e d = ap (distanceTold k) (sym (if-refused k (exchangeDistance t x y) 0 d)) ∙ told k e
 
   -- 1 to 7 and 31
-  pub distance-refused : (k : ℕ) → refusal (treeOrder t) ≡ k → k ≢ 0 → apart k 0 ≡ distanceAnswer t x y
+  pub distance-refused : (k : ℕ) → refusal (treeOrder t) ≡ k → k ≢ 0 → distanceTold k 0 ≡ distanceAnswer t x y
   unfolding labelOrder
   distance-refused k e d = refused k (tree-refused t (askedOrder (tips t) (x ∷ y ∷ [])) k e d) d
 
@@ -47,7 +47,7 @@ module _ (t : Table) (x y : ℕ) where
     asked = rw (e, en) (tree-accepted t (askedOrder (tips t) (x ∷ y ∷ [])) g)
 
     -- 10 or 11
-    pub labels-refused : k ≢ 0 → apart k 0 ≡ distanceAnswer t x y
+    pub labels-refused : k ≢ 0 → distanceTold k 0 ≡ distanceAnswer t x y
     labels-refused d = refused k asked d
 
     -- two labels of the table, as the code passes them on
@@ -60,9 +60,9 @@ module _ (t : Table) (x y : ℕ) where
           xy = λ q. c .2 1 0 (omega arith) (omega arith) (sym ex ∙ q ∙ ey);
         }
 
-    pub distance-told : k ≡ 0 → (d : ℕ) → d ≡ exchangeDistance t x y → apart 0 d ≡ distanceAnswer t x y
+    pub distance-told : k ≡ 0 → (d : ℕ) → d ≡ exchangeDistance t x y → distanceTold 0 d ≡ distanceAnswer t x y
     distance-told z d q =
-        ap (apart 0) (q ∙ sym (if-accepted 0 (exchangeDistance t x y) 0 refl)) ∙ told 0 (asked ∙ z)
+        ap (distanceTold 0) (q ∙ sym (if-accepted 0 (exchangeDistance t x y) 0 refl)) ∙ told 0 (asked ∙ z)
 
 -- ---- all exchanges
 

@@ -22,29 +22,29 @@ use Rattle.exchanges.specs.Exchanges.{exchangeDistance, tallyOf, tally}
 use Rattle.exchanges.specs.theorems.ExchangedTables.{shape, distance-moved, tally-in-shape}
 use Rattle.exchanges.specs.theorems.Others.{Two}
 use Rattle.exchanges.specs.theorems.PathSum.{pathCost}
-use Rattle.exchanges.specs.theorems.Walk.{whole, path-le}
+use Rattle.exchanges.specs.theorems.Walk.{wholeCost, path-le}
 use Rattle.exchanges.specs.theorems.Tallies.{movedBy, moved-path, moved-either, moved-le, tallyIn, tally-lt, tally-many, fours-some}
 use Rattle.exchange_distances.specs.lemmas.Powers.{square-le}
-use Rattle.exchange_distances.specs.lemmas.WalkArrays.{Reads, Walked, CostsFrom}
+use Rattle.exchange_distances.specs.lemmas.WalkArrays.{Reads, WalkedArrays, CostsFrom}
 use Rattle.exchange_distances.specs.lemmas.TableArrays.{Arrays, table-walked}
-use Rattle.exchange_distances.specs.lemmas.TallyLoops.{fallsAt, Counted, Rows, rows-next, rows-le}
-use Rattle.exchange_distances.specs.lemmas.TallyRoom.{RowRoom, whole-le}
+use Rattle.exchange_distances.specs.lemmas.TallyLoops.{fallsAt, CountedTallies, Rows, rows-next, rows-le}
+use Rattle.exchange_distances.specs.lemmas.TallyRoom.{TallyRowRoom, whole-le}
 
 -- the tally of a pair
 abbrev pub pairTally : {n : ℕ} → Shape n → ℕ → ℕ → ℕ
 pairTally {n} s x y = tallyOf n (movedBy s x y)
 
 -- eleven cells are the tallies of the shape of these arrays
-pub record Tallied (n : ℕ) (ps nodes bs qs tallies : List ℕ) : Type 0 where
+pub record ShapeTallied (n : ℕ) (ps nodes bs qs tallies : List ℕ) : Type 0 where
   pub tallies-are : (s : Shape n) → Reads n ps nodes bs qs s → tallies ≡ inOrder 11 (tallyIn s)
 
 -- .. those of the pairs below y
 pub record Tallying (n : ℕ) (ps nodes bs qs : List ℕ) (y : ℕ) (tallies : List ℕ) : Type 0 where
   pub rows : (s : Shape n) → Reads n ps nodes bs qs s → Rows (pairTally s) y tallies
 
-module _ (n : ℕ) (ps nodes bs qs : List ℕ) (h : Walked n ps nodes bs qs) where
+module _ (n : ℕ) (ps nodes bs qs : List ℕ) (h : WalkedArrays n ps nodes bs qs) where
   -- eleven cells with the pairs of all rows are the tallies
-  pub all-rows : (tallies : List ℕ) → Tallying n ps nodes bs qs n tallies → Tallied n ps nodes bs qs tallies
+  pub all-rows : (tallies : List ℕ) → Tallying n ps nodes bs qs n tallies → ShapeTallied n ps nodes bs qs tallies
   all-rows tallies r = record {
     tallies-are = λ s a.
         let b = r .rows s a in
@@ -74,13 +74,13 @@ module _ (n : ℕ) (ps nodes bs qs : List ℕ) (h : Walked n ps nodes bs qs) whe
 
       -- the distance of an exchange with y, from what its path takes
       pub distance-found : (x : ℕ) → x < n → x ≢ y
-          → (word costs (word nodes x) ≤ whole n) × ((whole n - word costs (word nodes x)) / 6 ≡ movedBy s y x)
+          → (word costs (word nodes x) ≤ wholeCost n) × ((wholeCost n - word costs (word nodes x)) / 6 ≡ movedBy s y x)
       distance-found x l d = (
         omega (arith, cost-is x l d, path-le s y x (two x l d)),
-        ap (λ (z : ℕ). (whole n - z) / 6) (cost-is x l d) ∙ sym (moved-path s y x (two x l d)),
+        ap (λ (z : ℕ). (wholeCost n - z) / 6) (cost-is x l d) ∙ sym (moved-path s y x (two x l d)),
       )
 
-      module _ (four : 4 ≤ n) (w sets : ℕ) (ew : w ≡ whole n) (es : sets ≡ fours n) where
+      module _ (four : 4 ≤ n) (w sets : ℕ) (ew : w ≡ wholeCost n) (es : sets ≡ fours n) where
         falls-is : (x : ℕ) → x < y → fallsAt w sets nodes costs x ≡ pairTally s x y
         falls-is x l = rw (ew, es, distance-found x (omega arith) (λ e. omega arith) .1)
             (sym (tally-many n (movedBy s y x) four) ∙ ap (tallyOf n) (moved-either s y x))
@@ -89,7 +89,7 @@ module _ (n : ℕ) (ps nodes bs qs : List ℕ) (h : Walked n ps nodes bs qs) whe
         falls-lt x l = rw (falls-is x l) (tally-lt n (movedBy s x y)
             (moved-le s x y (record { lx = omega arith; ly = ly; xy = λ e. omega arith })))
 
-        row-room-of : (tallies : List ℕ) → Rows (pairTally s) y tallies → RowRoom y w sets nodes costs tallies
+        row-room-of : (tallies : List ℕ) → Rows (pairTally s) y tallies → TallyRowRoom y w sets nodes costs tallies
         row-room-of tallies r = record {
           row = omega (arith, h .tips);
           few = omega (arith, ew, whole-le n (h .tips .1));
@@ -101,20 +101,20 @@ module _ (n : ℕ) (ps nodes bs qs : List ℕ) (h : Walked n ps nodes bs qs) whe
           small = λ i l. omega (arith, rows-le _ y tallies i l r, square-le y (omega (arith, h .tips)));
         }
 
-        row-next-of : (old new : List ℕ) → Rows (pairTally s) y old → Counted (fallsAt w sets nodes costs) y old new
+        row-next-of : (old new : List ℕ) → Rows (pairTally s) y old → CountedTallies (fallsAt w sets nodes costs) y old new
             → Rows (pairTally s) (y + 1) new
         row-next-of old new r d = rows-next (pairTally s) y old new (fallsAt w sets nodes costs) falls-is r d
 
   module _ (y p : ℕ) (ly : y < n) (ep : p ≡ word nodes y) (costs : List ℕ) (c : CostsFrom n ps bs qs p costs) (four : 4 ≤ n)
-      (w sets : ℕ) (ew : w ≡ whole n) (es : sets ≡ fours n) where
+      (w sets : ℕ) (ew : w ≡ wholeCost n) (es : sets ≡ fours n) where
     -- the row of y may be counted, ..
-    pub row-room : (tallies : List ℕ) → Tallying n ps nodes bs qs y tallies → RowRoom y w sets nodes costs tallies
+    pub row-room : (tallies : List ℕ) → Tallying n ps nodes bs qs y tallies → TallyRowRoom y w sets nodes costs tallies
     row-room tallies r =
         row-room-of (h .shape) (h .reads) y p ly ep costs c four w sets ew es tallies (r .rows (h .shape) (h .reads))
 
     -- .. and is one row more
     pub row-next : (old new : List ℕ) → Tallying n ps nodes bs qs y old
-        → Counted (fallsAt w sets nodes costs) y old new → Tallying n ps nodes bs qs (y + 1) new
+        → CountedTallies (fallsAt w sets nodes costs) y old new → Tallying n ps nodes bs qs (y + 1) new
     row-next old new r d = record {
       rows = λ s a. row-next-of s a y p ly ep costs c four w sets ew es old new (r .rows s a) d;
     }
@@ -122,14 +122,14 @@ module _ (n : ℕ) (ps nodes bs qs : List ℕ) (h : Walked n ps nodes bs qs) whe
 -- ---- the same of a table
 
 module _ (t : Table) (n m : ℕ) (h : Sized t n m) (nodes bs qs : List ℕ) (a : Arrays t nodes bs qs) where
-  pub lent-walked : Walked n (take (2 + m - 2) (drop 2 t)) nodes bs qs
-  lent-walked = to-parts (λ n ps ls. Walked n ps nodes bs qs) t n m (h .tree .words) (h .tips-are) (h .nodes-are)
+  pub lent-walked : WalkedArrays n (take (2 + m - 2) (drop 2 t)) nodes bs qs
+  lent-walked = to-parts (λ n ps ls. WalkedArrays n ps nodes bs qs) t n m (h .tree .words) (h .tips-are) (h .nodes-are)
       (table-walked t (h .tree) nodes bs qs a)
 
-  pub lent-tallied : (tallies : List ℕ) → Tallied n (take (2 + m - 2) (drop 2 t)) nodes bs qs tallies
+  pub lent-tallied : (tallies : List ℕ) → ShapeTallied n (take (2 + m - 2) (drop 2 t)) nodes bs qs tallies
       → tallies ≡ inOrder 11 (tally t)
   lent-tallied tallies r =
-      of-parts (λ n ps ls. Tallied n ps nodes bs qs tallies) t n m (h .tree .words) (h .tips-are) (h .nodes-are) r
+      of-parts (λ n ps ls. ShapeTallied n ps nodes bs qs tallies) t n m (h .tree .words) (h .tips-are) (h .nodes-are) r
       .tallies-are (shape t (h .tree)) (a .reads (h .tree))
       ∙ ap (inOrder 11) (fun-ext (λ i. sym (tally-in-shape t (h .tree) i)))
 
@@ -140,18 +140,18 @@ module _ (t : Table) (n m : ℕ) (h : Sized t n m) (nodes bs qs : List ℕ) (a :
         let w = lent-walked in
         omega (arith, node-lt _ _ _ _ _ w (w .shape) (w .reads) y (two .ly), w .nodes-few)
 
-    found : (word costs (word nodes y) ≤ whole (tips t)) × ((whole (tips t) - word costs (word nodes y)) / 6 ≡ movedBy (shape t (h .tree)) x y)
+    found : (word costs (word nodes y) ≤ wholeCost (tips t)) × ((wholeCost (tips t) - word costs (word nodes y)) / 6 ≡ movedBy (shape t (h .tree)) x y)
     found = distance-found (tips t) (parents t) nodes bs qs (table-walked t (h .tree) nodes bs qs a) (shape t (h .tree))
         (a .reads (h .tree)) x p (omega (arith, two .lx, h .tips-are)) ep costs
         (of-parts (λ n ps ls. CostsFrom n ps bs qs p costs) t n m (h .tree .words) (h .tips-are) (h .nodes-are) c)
         y (omega (arith, two .ly, h .tips-are)) (λ e. two .xy (sym e))
 
-    pub lent-least : word costs q ≤ whole n
+    pub lent-least : word costs q ≤ wholeCost n
     lent-least = rw (eq, h .tips-are) (found .0)
 
-    pub lent-distance : (whole n - word costs q) / 6 ≡ exchangeDistance t x y
+    pub lent-distance : (wholeCost n - word costs q) / 6 ≡ exchangeDistance t x y
     lent-distance =
-        ap₂ (λ (k v : ℕ). (whole k - word costs v) / 6) (h .tips-are) eq
+        ap₂ (λ (k v : ℕ). (wholeCost k - word costs v) / 6) (h .tips-are) eq
         ∙ found .1
         ∙ sym (distance-moved t (h .tree) x y (record {
           lx = omega (arith, two .lx, h .tips-are);

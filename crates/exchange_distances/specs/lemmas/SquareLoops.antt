@@ -15,16 +15,16 @@ use Rattle.sums.specs.theorems.SumLaws.{sum-mono, sum-const}
 use Rattle.sums.specs.theorems.BitLaws.{bit-le}
 use Rattle.shapes.specs.theorems.Shape.{Shape}
 use Rattle.tree_check.specs.Table.{word}
-use Rattle.exchanges.specs.theorems.Turns.{squares}
-use Rattle.exchanges.specs.theorems.Steps.{below, below-root}
+use Rattle.exchanges.specs.theorems.Turns.{squaresInto}
+use Rattle.exchanges.specs.theorems.Steps.{labelsBelow, below-root}
 use Rattle.exchange_distances.specs.lemmas.Powers.{square-le}
 use Rattle.exchange_distances.specs.lemmas.Loops.{Squaring, squaring-next, squaring-done}
-use Rattle.exchange_distances.specs.lemmas.WalkArrays.{SizesOf}
+use Rattle.exchange_distances.specs.lemmas.WalkArrays.{ShapeSizes}
 
 -- the parents and sizes of a tree that is small
 pub record Sizing (n : ℕ) (ps bs : List ℕ) : Type 0 where
   pub shape : Shape n
-  pub sized : SizesOf n ps bs shape
+  pub sized : ShapeSizes n ps bs shape
   pub tips : n ≤ tipsMost
   pub nodes : length ps ≤ nodesMost
 
@@ -36,7 +36,7 @@ pub record RestSquared (n : ℕ) (bs : List ℕ) (k : ℕ) (qs : List ℕ) : Typ
 -- .. and the labels of the nodes before i, added to their parents
 pub record Adding (n : ℕ) (ps bs : List ℕ) (i : ℕ) (qs : List ℕ) : Type 0 where
   pub long : length qs ≡ nodeRoom
-  pub squaring : (s : Shape n) → SizesOf n ps bs s → Squaring s (i - 1) qs
+  pub squaring : (s : Shape n) → ShapeSizes n ps bs s → Squaring s (i - 1) qs
 
 pub rest-none : (n : ℕ) (bs qs : List ℕ) → length qs ≡ nodeRoom → RestSquared n bs 0 qs
 rest-none n bs qs e = record { long = e; cells = λ v l. absurd (omega arith) }
@@ -97,9 +97,9 @@ module _ (n : ℕ) (ps bs : List ℕ) (z : Sizing n ps bs) where
         omega (
           arith,
           q .cells v (omega (arith, r .edges)),
-          square-le (n - below s v) (omega (arith, z .tips)),
-          sum-mono j (λ i. is v (s .up (suc i)) * (below s (suc i) * below s (suc i))) (λ i. 65536)
-              (λ i l. term (is v (s .up (suc i))) (below s (suc i)) (bit-le _)
+          square-le (n - labelsBelow s v) (omega (arith, z .tips)),
+          sum-mono j (λ i. is v (s .up (suc i)) * (labelsBelow s (suc i) * labelsBelow s (suc i))) (λ i. 65536)
+              (λ i l. term (is v (s .up (suc i))) (labelsBelow s (suc i)) (bit-le _)
               (omega (arith, r .not-all (suc i) (omega arith), z .tips))),
           sum-const j 65536,
         )
@@ -121,7 +121,7 @@ module _ (n : ℕ) (ps bs : List ℕ) (z : Sizing n ps bs) where
     }
 
     pub adding-done : (i : ℕ) → i ≡ length ps → Adding n ps bs i qs
-        → (s : Shape n) → SizesOf n ps bs s → (v : ℕ) → v ≤ s .edges → word qs v ≡ squares s v
+        → (s : Shape n) → ShapeSizes n ps bs s → (v : ℕ) → v ≤ s .edges → word qs v ≡ squaresInto s v
     adding-done i e h s r v l =
         let d : i - 1 ≡ s .edges = omega (arith, r .edges) in
         squaring-done s qs (rw d at (h .squaring s r)) v l

@@ -24,7 +24,7 @@ use Rattle.counting.specs.theorems.TreeSplits.{labelled, zero-here}
 use Rattle.exchanges.specs.theorems.Steps as steps
 use Rattle.exchanges.specs.theorems.ExchangedTables.{shape}
 use Rattle.exchange_distances.specs.lemmas.SpanSizes.{SpansFit, SpanSizes}
-use Rattle.exchange_distances.specs.lemmas.WalkArrays.{SizesOf, Squared, Reads, Walked}
+use Rattle.exchange_distances.specs.lemmas.WalkArrays.{ShapeSizes, Squared, Reads, WalkedArrays}
 use Rattle.exchange_distances.specs.lemmas.SquareLoops.{Sizing}
 
 -- what the code has read of a table
@@ -33,13 +33,13 @@ pub record Arrays (t : Table) (nodes bs qs : List ℕ) : Type 0 where
 
 module _ (t : Table) (g : IsTree t) where
   -- some label is at or below a node, and but for node 0 not all are
-  below-some : (v : ℕ) → v < nodes t → 1 ≤ steps.below (shape t g) v
+  below-some : (v : ℕ) → v < nodes t → 1 ≤ steps.labelsBelow (shape t g) v
   unfolding shapeOf beyond
   below-some v l =
       let r = labelled t g (nodes t) v l (omega arith) in
       omega (arith, r .2, sum-ge (tips t) (λ a. bit (beyond t v a)) (r .0) (r .1))
 
-  below-not-all : (v : ℕ) → 1 ≤ v → steps.below (shape t g) v + 1 ≤ tips t
+  below-not-all : (v : ℕ) → 1 ≤ v → steps.labelsBelow (shape t g) v + 1 ≤ tips t
   unfolding shapeOf beyond
   below-not-all v l =
       let few = g .tips-range in
@@ -72,7 +72,7 @@ module _ (t : Table) (g : IsTree t) where
 
     -- the span of a node is as long as there are labels at or below it
     size-is : (size : List ℕ) → SpanSizes (tips t) (nodes t) begin end size → (v : ℕ) → v < nodes t
-        → word size v ≡ steps.below (shape t g) v
+        → word size v ≡ steps.labelsBelow (shape t g) v
     size-is size z zero l = z .first ∙ sym (steps.below-root (shape t g))
     size-is size z (suc v) l = omega (
       arith,
@@ -83,11 +83,11 @@ module _ (t : Table) (g : IsTree t) where
       same (suc v),
     )
       where
-        same : (v : ℕ) → below t v ≡ steps.below (shape t g) v
+        same : (v : ℕ) → below t v ≡ steps.labelsBelow (shape t g) v
         same v = unfold shapeOf below beyond in refl
 
     pub table-sizes : (size : List ℕ) → SpanSizes (tips t) (nodes t) begin end size
-        → SizesOf (tips t) (parents t) size (shape t g)
+        → ShapeSizes (tips t) (parents t) size (shape t g)
     table-sizes size z = record {
       up = λ v. unfold shapeOf parent in refl;
       edges = unfold shapeOf in edges-are;
@@ -105,7 +105,7 @@ module _ (t : Table) (g : IsTree t) where
     }
 
     pub table-reads : (size square : List ℕ) → SpanSizes (tips t) (nodes t) begin end size
-        → ((s : Shape (tips t)) → SizesOf (tips t) (parents t) size s → Squared (tips t) (parents t) size square s)
+        → ((s : Shape (tips t)) → ShapeSizes (tips t) (parents t) size s → Squared (tips t) (parents t) size square s)
         → Reads (tips t) (parents t) labels size square (shape t g)
     table-reads size square z q = record {
       squared = q (shape t g) (table-sizes size z);
@@ -113,7 +113,7 @@ module _ (t : Table) (g : IsTree t) where
     }
 
   pub table-walked : (labels size square : List ℕ) → Arrays t labels size square
-      → Walked (tips t) (parents t) labels size square
+      → WalkedArrays (tips t) (parents t) labels size square
   table-walked labels size square a = record {
     shape = shape t g;
     reads = a .reads g;
@@ -143,10 +143,10 @@ module _ (t : Table) (n m : ℕ) (h : Sized t n m) where
         (table-sizing t (h .tree) labels begin end s size (here size z))
 
     pub lent-arrays : (size : List ℕ) → SpanSizes n m begin end size → (square : List ℕ)
-        → ((s : Shape n) → SizesOf n (take (2 + m - 2) (drop 2 t)) size s → Squared n (take (2 + m - 2) (drop 2 t)) size square s)
+        → ((s : Shape n) → ShapeSizes n (take (2 + m - 2) (drop 2 t)) size s → Squared n (take (2 + m - 2) (drop 2 t)) size square s)
         → Arrays t labels size square
     lent-arrays size z square q = record {
       reads = λ g. table-reads t g labels begin end s size square (here size z)
-          (of-parts (λ n ps ls. (s : Shape n) → SizesOf n ps size s → Squared n ps size square s) t n m (h .tree .words)
+          (of-parts (λ n ps ls. (s : Shape n) → ShapeSizes n ps size s → Squared n ps size square s) t n m (h .tree .words)
           (h .tips-are) (h .nodes-are) q);
     }

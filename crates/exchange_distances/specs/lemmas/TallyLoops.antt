@@ -12,23 +12,23 @@ use Rattle.sums.specs.Bits.{is}
 use Rattle.sums.specs.theorems.SumLaws.{sum-suc, sum-ext, sum-mono, sum-const}
 use Rattle.sums.specs.theorems.BitLaws.{is-self, is-other, bit-le}
 use Rattle.tree_check.specs.Table.{word}
-use Rattle.exchanges.specs.theorems.Walk.{whole}
+use Rattle.exchanges.specs.theorems.Walk.{wholeCost}
 
 -- the tally of the label x, from the costs of paths to the nodes of labels
 abbrev pub fallsAt : ℕ → ℕ → List ℕ → List ℕ → ℕ → ℕ
-fallsAt whole sets nodes costs x = 10 * ((whole - word costs (word nodes x)) / 6) / sets
+fallsAt wholeCost sets nodes costs x = 10 * ((wholeCost - word costs (word nodes x)) / 6) / sets
 
 -- of the tallies f 0 .. f (k − 1) each has been counted once more
-pub record Counted (f : ℕ → ℕ) (k : ℕ) (old new : List ℕ) : Type 0 where
+pub record CountedTallies (f : ℕ → ℕ) (k : ℕ) (old new : List ℕ) : Type 0 where
   pub long : length new ≡ 11
   pub cells : (i : ℕ) → i < 11 → word new i ≡ word old i + sum k (λ x. is (f x) i)
 
-pub counted-none : (f : ℕ → ℕ) (old : List ℕ) → length old ≡ 11 → Counted f 0 old old
+pub counted-none : (f : ℕ → ℕ) (old : List ℕ) → length old ≡ 11 → CountedTallies f 0 old old
 unfolding sum
 counted-none f old e = record { long = e; cells = λ i l. omega arith }
 
-pub counted-next : (f : ℕ → ℕ) (k : ℕ) (old new : List ℕ) (i : ℕ) → i ≡ f k → i < 11 → Counted f k old new
-    → Counted f (k + 1) old (set new i (word new i + 1))
+pub counted-next : (f : ℕ → ℕ) (k : ℕ) (old new : List ℕ) (i : ℕ) → i ≡ f k → i < 11 → CountedTallies f k old new
+    → CountedTallies f (k + 1) old (set new i (word new i + 1))
 counted-next f k old new i e l h = record {
   long = length-set new i (word new i + 1) ∙ h .long;
   cells = λ j m.
@@ -42,7 +42,7 @@ counted-next f k old new i e l h = record {
 }
 
 -- no tally is above what was there and the number of pairs
-pub counted-le : (f : ℕ → ℕ) (k : ℕ) (old new : List ℕ) (i : ℕ) → i < 11 → Counted f k old new → word new i ≤ word old i + k
+pub counted-le : (f : ℕ → ℕ) (k : ℕ) (old new : List ℕ) (i : ℕ) → i < 11 → CountedTallies f k old new → word new i ≤ word old i + k
 counted-le f k old new i l h = omega (
   arith,
   h .cells i l,
@@ -61,7 +61,7 @@ unfolding sum
 rows-none g = record { long = length-replicate {A = ℕ} 11 0; cells = λ i l. getD-replicate 11 i 0 0 l }
 
 pub rows-next : (g : ℕ → ℕ → ℕ) (y : ℕ) (old new : List ℕ) (f : ℕ → ℕ) → ((x : ℕ) → x < y → f x ≡ g x y)
-    → Rows g y old → Counted f y old new → Rows g (y + 1) new
+    → Rows g y old → CountedTallies f y old new → Rows g (y + 1) new
 rows-next g y old new f e h c = record {
   long = c .long;
   cells = λ i l.

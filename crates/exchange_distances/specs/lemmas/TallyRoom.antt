@@ -7,11 +7,11 @@ use native.Mathlib.Omega.{arith}
 use lib.ListN.{length}
 use Rattle.table_words.specs.Sizes.{nodeRoom, tipsMost}
 use Rattle.tree_check.specs.Table.{word}
-use Rattle.exchanges.specs.theorems.Walk.{whole}
+use Rattle.exchanges.specs.theorems.Walk.{wholeCost}
 use Rattle.exchange_distances.specs.lemmas.Powers.{square-le, cube-le}
 use Rattle.exchange_distances.specs.lemmas.TallyLoops.{fallsAt}
 
-pub record RowRoom (y w sets : ℕ) (nodes costs tallies : List ℕ) : Type 0 where
+pub record TallyRowRoom (y w sets : ℕ) (nodes costs tallies : List ℕ) : Type 0 where
   pub row : y < tipsMost
   pub few : w ≤ 33751040
   pub some : 1 ≤ sets
@@ -21,12 +21,12 @@ pub record RowRoom (y w sets : ℕ) (nodes costs tallies : List ℕ) : Type 0 wh
   pub long : length tallies ≡ 11
   pub small : (i : ℕ) → i < 11 → word tallies i ≤ 65536
 
-pub whole-le : (n : ℕ) → n ≤ 256 → whole n ≤ 33751040
-unfolding whole
+pub whole-le : (n : ℕ) → n ≤ 256 → wholeCost n ≤ 33751040
+unfolding wholeCost
 whole-le n l = omega (arith, square-le (n - 2) (omega arith), cube-le (n - 2) (omega arith))
 
 -- at the node p of a label
-module _ (y w sets : ℕ) (nodes costs tallies : List ℕ) (r : RowRoom y w sets nodes costs tallies) (x p : ℕ) (l : x < y)
+module _ (y w sets : ℕ) (nodes costs tallies : List ℕ) (r : TallyRowRoom y w sets nodes costs tallies) (x p : ℕ) (l : x < y)
     (e : p ≡ word nodes x) where
   pub node-room : p < nodeRoom
   node-room = omega (arith, r .node x l)

@@ -16,11 +16,11 @@ use Rattle.shapes.specs.Ancestors.{anc}
 use Rattle.shapes.specs.theorems.AncestorLaws.{anc-le}
 use Rattle.shapes.specs.theorems.Shape.{Shape}
 use Rattle.tree_check.specs.Table.{word}
-use Rattle.exchanges.specs.theorems.Turns.{squares}
+use Rattle.exchanges.specs.theorems.Turns.{squaresInto}
 use Rattle.exchanges.specs.theorems.PathSum.{cost, pathCost}
-use Rattle.exchanges.specs.theorems.Steps.{below}
+use Rattle.exchanges.specs.theorems.Steps.{labelsBelow}
 use Rattle.exchanges.specs.theorems.Bounds.{down-fits, up-fits, path-cost-le, toward-some}
-use Rattle.exchange_distances.specs.lemmas.Loops.{Given, Climbed, Swept, climb-start, climb-next, sweep-start, sweep-skip, sweep-next}
+use Rattle.exchange_distances.specs.lemmas.Loops.{Given, ClimbedTo, Swept, climb-start, climb-next, sweep-start, sweep-skip, sweep-next}
 use Rattle.exchange_distances.specs.lemmas.Loops.{sweep-done}
 use Rattle.exchange_distances.specs.lemmas.Powers.{square-le, cube-le}
 use Rattle.exchange_distances.specs.lemmas.CostRoom.{costMost, CostRoom}
@@ -28,18 +28,18 @@ use Rattle.exchange_distances.specs.lemmas.CostRoom.{costMost, CostRoom}
 -- ---- what a walk reads: the parents ps, the labels at or below each node bs, and the squares qs
 
 -- the parents and sizes of a shape
-pub record SizesOf (n : ℕ) (ps bs : List ℕ) (s : Shape n) : Type 0 where
+pub record ShapeSizes (n : ℕ) (ps bs : List ℕ) (s : Shape n) : Type 0 where
   pub up : (v : ℕ) → s .up v ≡ word ps v
   pub edges : suc (s .edges) ≡ length ps
-  pub sizes : (v : ℕ) → v ≤ s .edges → word bs v ≡ below s v
+  pub sizes : (v : ℕ) → v ≤ s .edges → word bs v ≡ labelsBelow s v
   -- some label is at or below each node, and one is not below any but node 0
-  pub some : (v : ℕ) → v ≤ s .edges → 1 ≤ below s v
-  pub not-all : (v : ℕ) → 1 ≤ v → below s v + 1 ≤ n
+  pub some : (v : ℕ) → v ≤ s .edges → 1 ≤ labelsBelow s v
+  pub not-all : (v : ℕ) → 1 ≤ v → labelsBelow s v + 1 ≤ n
 
 -- .. and its squares
 pub record Squared (n : ℕ) (ps bs qs : List ℕ) (s : Shape n) : Type 0 where
-  pub sized : SizesOf n ps bs s
-  pub sums : (v : ℕ) → v ≤ s .edges → word qs v ≡ squares s v
+  pub sized : ShapeSizes n ps bs s
+  pub sums : (v : ℕ) → v ≤ s .edges → word qs v ≡ squaresInto s v
 
 -- .. and the node of each label
 pub record Reads (n : ℕ) (ps nodes bs qs : List ℕ) (s : Shape n) : Type 0 where
@@ -47,7 +47,7 @@ pub record Reads (n : ℕ) (ps nodes bs qs : List ℕ) (s : Shape n) : Type 0 wh
   pub node : (x : ℕ) → x < n → word nodes x ≡ s .node x
 
 -- the arrays of a tree that is small
-pub record Walked (n : ℕ) (ps nodes bs qs : List ℕ) : Type 0 where
+pub record WalkedArrays (n : ℕ) (ps nodes bs qs : List ℕ) : Type 0 where
   pub shape : Shape n
   pub reads : Reads n ps nodes bs qs shape
   pub tips : (2 ≤ n) × (n ≤ tipsMost)
@@ -63,7 +63,7 @@ pub record WalkFrom (n : ℕ) (ps bs qs : List ℕ) (p : ℕ) : Type 0 where
   pub tips : n ≤ tipsMost
   pub nodes : length ps ≤ nodesMost
 
-pub walk-from : (n : ℕ) (ps nodes bs qs : List ℕ) → Walked n ps nodes bs qs → (y p : ℕ) → y < n → p ≡ word nodes y
+pub walk-from : (n : ℕ) (ps nodes bs qs : List ℕ) → WalkedArrays n ps nodes bs qs → (y p : ℕ) → y < n → p ≡ word nodes y
     → WalkFrom n ps bs qs p
 walk-from n ps nodes bs qs h y p l e = record {
   shape = h .shape;
@@ -82,7 +82,7 @@ pathMost = 275011731456
 -- ---- what it writes: the marks of nodes above p, the labels towards p, and the cost of the path from p
 
 abbrev pub Climbing : ℕ → List ℕ → List ℕ → List ℕ → ℕ → ℕ → List ℕ → List ℕ → List ℕ → Type 0
-Climbing n ps bs qs p v marks tw acc = (s : Shape n) → Squared n ps bs qs s → Climbed s p v marks tw acc
+Climbing n ps bs qs p v marks tw acc = (s : Shape n) → Squared n ps bs qs s → ClimbedTo s p v marks tw acc
 
 abbrev pub Sweeping : ℕ → List ℕ → List ℕ → List ℕ → ℕ → ℕ → List ℕ → List ℕ → List ℕ → Type 0
 Sweeping n ps bs qs p i marks tw acc = (s : Shape n) → Squared n ps bs qs s → Swept s p i marks tw acc

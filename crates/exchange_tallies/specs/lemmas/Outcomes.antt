@@ -22,13 +22,13 @@ use Rattle.exchange_distances.specs.declared.tallies.ExchangeAnswer.{ExchangeAn
 use Rattle.exchange_distances.specs.ExchangeAnswers.{talliesUnder, talliesAnswer}
 use Rattle.exchange_tallies.specs.ExchangeTallies.{exchangeOrder, exchangeAnswer, afterExchanges}
 
-abbrev pub Answered : Table → List ℕ → ExchangeAnswer → List ℕ → Type 0
-Answered t work r new = (r ≡ exchangeAnswer t (length work)) × (new ≡ afterExchanges t work)
+abbrev pub TalliesAnswered : Table → List ℕ → ExchangeAnswer → List ℕ → Type 0
+TalliesAnswered t work r new = (r ≡ exchangeAnswer t (length work)) × (new ≡ afterExchanges t work)
 
 module _ (t : Table) (work : List ℕ) where
   -- a number other than 0
   refused : (k : ℕ) → refusal (exchangeOrder t (length work)) ≡ k → k ≢ 0
-      → Answered t work (record { refusal = k; tallies = replicate 11 0 }) work
+      → TalliesAnswered t work (record { refusal = k; tallies = replicate 11 0 }) work
   unfolding exchangeAnswer talliesUnder afterExchanges
   refused k e d = (
     ap₂ (λ (n : ℕ) (l : List ℕ). record { refusal = n; tallies = l }) (sym e)
@@ -37,17 +37,17 @@ module _ (t : Table) (work : List ℕ) where
   )
 
   pub tree-away : (k : ℕ) → refusal (treeOrder t) ≡ k → k ≢ 0
-      → Answered t work (record { refusal = k; tallies = replicate 11 0 }) work
+      → TalliesAnswered t work (record { refusal = k; tallies = replicate 11 0 }) work
   tree-away k e d = refused k (unfold exchangeOrder in tree-refused t _ k e d) d
 
   module _ (g : IsTree t) (m : ℕ) (em : m ≡ nodes t) where
     pub short-away : length work < (m - 1) * (m - 1)
-        → Answered t work (record { refusal = 9; tallies = replicate 11 0 }) work
+        → TalliesAnswered t work (record { refusal = 9; tallies = replicate 11 0 }) work
     short-away l = refused 9 (unfold exchangeOrder workOrder in
         tree-accepted t _ g ∙ refusal-here 9 _ [] (lt-ltb (length work) (cellsNeeded t t) (rw em at l))) (λ e. omega arith)
 
     pub accepted : (m - 1) * (m - 1) ≤ length work → (r : ExchangeAnswer) (new : List ℕ) → r ≡ talliesAnswer t
-        → new ≡ zeroed ((m - 1) * (m - 1)) work → Answered t work r new
+        → new ≡ zeroed ((m - 1) * (m - 1)) work → TalliesAnswered t work r new
     accepted l r new er en = (answer-is, cells-are)
       where
         number : refusal (exchangeOrder t (length work)) ≡ 0

@@ -12,7 +12,7 @@ use Rattle.sums.specs.theorems.BitLaws.{ne, is-ne, is-sym, ne-sym, alike, sum-i
 use Rattle.shapes.specs.theorems.Shape.{Shape}
 use Rattle.shapes.specs.theorems.Topologies.{casesIn}
 use Rattle.shapes.specs.theorems.OneCentre.{centre-on}
-use Rattle.exchanges.specs.theorems.Others.{Two, Other, others, others2, others3, others4, others-cong}
+use Rattle.exchanges.specs.theorems.Others.{Two, Other, sumOfOthers, others2, others3, others4, others-cong}
 use Rattle.exchanges.specs.theorems.Others.{others-add, others-none, sets-parts}
 use Rattle.exchanges.specs.theorems.Products.{others2-sum, others3-sum, others2-ext, others3-ext, others4-ext}
 use Rattle.exchanges.specs.theorems.Products.{others2-add, others3-add, product2, product3, pair-first, pair-last, pair-ends}
@@ -27,23 +27,23 @@ distanceIn t x y two =
 
 module _ {n : ℕ} (t : Shape n) (x y : ℕ) where
   -- how many labels other than x and y leave the path from x to y at the node v
-  unfoldable pub leaving : ℕ → ℕ
-  leaving v = others n x y (λ a. is (place-of t x y a) v)
+  unfoldable pub leavingPath : ℕ → ℕ
+  leavingPath v = sumOfOthers n x y (λ a. is (place-of t x y a) v)
 
   -- how many leave it elsewhere
   unfoldable pub elsewhere : ℕ → ℕ
-  elsewhere v = others n x y (λ a. ne (place-of t x y a) v)
+  elsewhere v = sumOfOthers n x y (λ a. ne (place-of t x y a) v)
 
   -- how many ordered pairs of them, a label and itself included, hang in one subtree at v
-  unfoldable pub together : ℕ → ℕ
-  together v = others2 n x y (λ a b. is (place-of t x y a) v * hangs t x y a b)
+  unfoldable pub inOneSubtree : ℕ → ℕ
+  inOneSubtree v = others2 n x y (λ a b. is (place-of t x y a) v * hangs t x y a b)
 
   -- how many labels there are beside x and y
-  abbrev pub rest : ℕ
-  rest = others n x y (λ a. 1)
+  abbrev pub otherLabels : ℕ
+  otherLabels = sumOfOthers n x y (λ a. 1)
 
-  pub leaving-elsewhere : (v : ℕ) → leaving v + elsewhere v ≡ rest
-  unfolding leaving elsewhere
+  pub leaving-elsewhere : (v : ℕ) → leavingPath v + elsewhere v ≡ otherLabels
+  unfolding leavingPath elsewhere
   leaving-elsewhere v =
       sym (others-add n x y (λ a. is (place-of t x y a) v) (λ a. ne (place-of t x y a) v))
       ∙ others-cong n x y (λ a. is-ne (place-of t x y a) v)
@@ -71,7 +71,7 @@ module _ {n : ℕ} (t : Shape n) (x y : ℕ) where
 
     -- ---- sets with both
 
-    pub both-sum : others2 n x y (changed x y) + sum K (λ v. leaving v * leaving v) ≡ rest * rest
+    pub both-sum : others2 n x y (changed x y) + sum K (λ v. leavingPath v * leavingPath v) ≡ otherLabels * otherLabels
     both-sum = omega (
       arith,
       others2-add n x y (changed x y) (λ a b. is (at a) (at b)),
@@ -84,13 +84,13 @@ module _ {n : ℕ} (t : Shape n) (x y : ℕ) where
       sum-cong K (λ v. square v),
     )
       where
-        square : (v : ℕ) → others2 n x y (λ a b. is (at a) v * is (at b) v) ≡ leaving v * leaving v
-        square v = unfold leaving in product2 n x y (λ a. is (at a) v) (λ b. is (at b) v)
+        square : (v : ℕ) → others2 n x y (λ a b. is (at a) v * is (at b) v) ≡ leavingPath v * leavingPath v
+        square v = unfold leavingPath in product2 n x y (λ a. is (at a) v) (λ b. is (at b) v)
 
     -- ---- sets with one
 
     all-joined : others3 n x y (λ a b c. is (at a) (at b) * is (at b) (at c))
-        ≡ sum K (λ v. leaving v * (leaving v * leaving v))
+        ≡ sum K (λ v. leavingPath v * (leavingPath v * leavingPath v))
     all-joined =
         others3-ext n x y _ (λ a b c. sum K (λ v. is (at a) v * (is (at b) v * is (at c) v)))
         (λ a b c oa ob oc. same a b c ∙ sym (at-place a oa (λ v. is (at b) v * is (at c) v)))
@@ -104,8 +104,8 @@ module _ {n : ℕ} (t : Shape n) (x y : ℕ) where
         ]
 
         cube : (v : ℕ) → others3 n x y (λ a b c. is (at a) v * (is (at b) v * is (at c) v))
-            ≡ leaving v * (leaving v * leaving v)
-        cube v = unfold leaving in product3 n x y (λ a. is (at a) v) (λ b. is (at b) v) (λ c. is (at c) v)
+            ≡ leavingPath v * (leavingPath v * leavingPath v)
+        cube v = unfold leavingPath in product3 n x y (λ a. is (at a) v) (λ b. is (at b) v) (λ c. is (at c) v)
 
     -- a and b hang together, and c leaves elsewhere
     at-pair : (a b c : ℕ) → Other n x y a → Other n x y b
@@ -125,10 +125,10 @@ module _ {n : ℕ} (t : Shape n) (x y : ℕ) where
         ]
 
     abbrev pairs : ℕ
-    pairs = sum K (λ v. together v * elsewhere v)
+    pairs = sum K (λ v. inOneSubtree v * elsewhere v)
 
     pair-12 : others3 n x y (λ a b c. hangs t x y a b * ne (at b) (at c)) ≡ pairs
-    unfolding together elsewhere
+    unfolding inOneSubtree elsewhere
     pair-12 =
         others3-ext n x y _ (λ a b c. sum K (λ v. is (at a) v * hangs t x y a b * ne (at c) v))
         (λ a b c oa ob oc. at-pair a b c oa ob)
@@ -136,7 +136,7 @@ module _ {n : ℕ} (t : Shape n) (x y : ℕ) where
         ∙ sum-cong K (λ v. pair-first n x y (λ a b. is (at a) v * hangs t x y a b) (λ c. ne (at c) v))
 
     pair-23 : others3 n x y (λ a b c. hangs t x y b c * ne (at a) (at b)) ≡ pairs
-    unfolding together elsewhere
+    unfolding inOneSubtree elsewhere
     pair-23 =
         others3-ext n x y _ (λ a b c. sum K (λ v. is (at b) v * hangs t x y b c * ne (at a) v))
         (λ a b c oa ob oc.
@@ -149,7 +149,7 @@ module _ {n : ℕ} (t : Shape n) (x y : ℕ) where
         regroup p q r = omega arith
 
     pair-13 : others3 n x y (λ a b c. hangs t x y a c * ne (at a) (at b)) ≡ pairs
-    unfolding together elsewhere
+    unfolding inOneSubtree elsewhere
     pair-13 =
         others3-ext n x y _ (λ a b c. sum K (λ v. is (at a) v * hangs t x y a c * ne (at b) v))
         (λ a b c oa ob oc.
@@ -162,8 +162,8 @@ module _ {n : ℕ} (t : Shape n) (x y : ℕ) where
         regroup : (p q r : ℕ) → p * (q * r) ≡ p * q * r
         regroup p q r = omega arith
 
-    pub one-sum : others3 n x y (changed x) + sum K (λ v. leaving v * (leaving v * leaving v)) + 3 * pairs
-        ≡ rest * (rest * rest)
+    pub one-sum : others3 n x y (changed x) + sum K (λ v. leavingPath v * (leavingPath v * leavingPath v)) + 3 * pairs
+        ≡ otherLabels * (otherLabels * otherLabels)
     one-sum = omega (
       arith,
       others3-ext n x y
@@ -197,11 +197,11 @@ module _ {n : ℕ} (t : Shape n) (x y : ℕ) where
 
     -- what a node takes from the distance
     abbrev pub taken : ℕ → ℕ
-    taken v = 2 * (leaving v * (leaving v * leaving v)) + 3 * (leaving v * leaving v)
-        + 6 * (together v * elsewhere v)
+    taken v = 2 * (leavingPath v * (leavingPath v * leavingPath v)) + 3 * (leavingPath v * leavingPath v)
+        + 6 * (inOneSubtree v * elsewhere v)
 
     pub six-distances : 6 * distanceIn t x y two + sum K taken
-        ≡ 2 * (rest * (rest * rest)) + 3 * (rest * rest)
+        ≡ 2 * (otherLabels * (otherLabels * otherLabels)) + 3 * (otherLabels * otherLabels)
     unfolding distanceIn
     six-distances = omega (
       arith,
@@ -211,10 +211,10 @@ module _ {n : ℕ} (t : Shape n) (x y : ℕ) where
       others3-ext n x y (changed y) (changed x) (λ a b c oa ob oc. y-as-x t x y two a b c oa ob oc),
       both-sum,
       one-sum,
-      sum-add K (λ v. 2 * (leaving v * (leaving v * leaving v)) + 3 * (leaving v * leaving v))
-          (λ v. 6 * (together v * elsewhere v)),
-      sum-add K (λ v. 2 * (leaving v * (leaving v * leaving v))) (λ v. 3 * (leaving v * leaving v)),
-      sum-mul-left K 2 (λ v. leaving v * (leaving v * leaving v)),
-      sum-mul-left K 3 (λ v. leaving v * leaving v),
-      sum-mul-left K 6 (λ v. together v * elsewhere v),
+      sum-add K (λ v. 2 * (leavingPath v * (leavingPath v * leavingPath v)) + 3 * (leavingPath v * leavingPath v))
+          (λ v. 6 * (inOneSubtree v * elsewhere v)),
+      sum-add K (λ v. 2 * (leavingPath v * (leavingPath v * leavingPath v))) (λ v. 3 * (leavingPath v * leavingPath v)),
+      sum-mul-left K 2 (λ v. leavingPath v * (leavingPath v * leavingPath v)),
+      sum-mul-left K 3 (λ v. leavingPath v * leavingPath v),
+      sum-mul-left K 6 (λ v. inOneSubtree v * elsewhere v),
     )

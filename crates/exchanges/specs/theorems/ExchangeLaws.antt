@@ -29,7 +29,7 @@ use Rattle.counting.specs.theorems.PassingThrough.{taken-out-same-splits}
 use Rattle.exchanges.specs.Exchanges.{exchangedButterfly, exchangedTopology, exchangeCases, exchangeDistance}
 use Rattle.exchanges.specs.Exchanges.{tallyOf, tally}
 use Rattle.exchanges.specs.theorems.Others.{Two, others-count}
-use Rattle.exchanges.specs.theorems.Distance.{distanceIn, leaving, elsewhere, together, rest, taken, six-distances, leaving-elsewhere}
+use Rattle.exchanges.specs.theorems.Distance.{distanceIn, leavingPath, elsewhere, inOneSubtree, otherLabels, taken, six-distances, leaving-elsewhere}
 use Rattle.exchanges.specs.theorems.LargeTrees.{large-tally}
 use Rattle.exchanges.specs.theorems.ExchangedTables.{all-first, none-later, shape, distance-in-shape, distance-moved}
 
@@ -88,8 +88,8 @@ module _ (t : Table) (g : IsTree t) where
   -- pairs of labels in one branch
   pub exchange-closed-form : (x y : ℕ) → Two (tips t) x y
       → let M = tips t - 2 in
-      let s = leaving (shape t g) x y in
-      let H2 = together (shape t g) x y in
+      let s = leavingPath (shape t g) x y in
+      let H2 = inOneSubtree (shape t g) x y in
       6 * exchangeDistance t x y
       + sum (nodes t) (λ v. 2 * (s v * (s v * s v)) + 3 * (s v * s v) + 6 * (H2 v * (M - s v)))
       ≡ 2 * (M * (M * M)) + 3 * (M * M)
@@ -101,21 +101,21 @@ module _ (t : Table) (g : IsTree t) where
       ∙ ap (λ (z : ℕ). 2 * (z * (z * z)) + 3 * (z * z)) beside
     where
       s : ℕ → ℕ
-      s v = leaving (shape t g) x y v
+      s v = leavingPath (shape t g) x y v
 
       term : ℕ → ℕ
-      term v = 2 * (s v * (s v * s v)) + 3 * (s v * s v) + 6 * (together (shape t g) x y v * (tips t - 2 - s v))
+      term v = 2 * (s v * (s v * s v)) + 3 * (s v * s v) + 6 * (inOneSubtree (shape t g) x y v * (tips t - 2 - s v))
 
       nodes-here : nodes t ≡ suc (nodes t - 1)
       nodes-here = omega (arith, g .nodes-range, g .tips-range)
 
-      beside : rest (shape t g) x y ≡ tips t - 2
+      beside : otherLabels (shape t g) x y ≡ tips t - 2
       beside = omega (arith, others-count (tips t) x y two)
 
       here : (v : ℕ) → taken (shape t g) x y two v ≡ term v
       here v =
           let e : elsewhere (shape t g) x y v ≡ tips t - 2 - s v = omega (arith, leaving-elsewhere (shape t g) x y v, beside) in
-          ap (λ (z : ℕ). 2 * (s v * (s v * s v)) + 3 * (s v * s v) + 6 * (together (shape t g) x y v * z)) e
+          ap (λ (z : ℕ). 2 * (s v * (s v * s v)) + 3 * (s v * s v) + 6 * (inOneSubtree (shape t g) x y v * z)) e
 
   -- from 82 tips on no exchange moves a tree by a tenth of the sets of four
   pub large-distance : (x y : ℕ) → Two (tips t) x y → 82 ≤ tips t → tallyOf (tips t) (exchangeDistance t x y) ≡ 0

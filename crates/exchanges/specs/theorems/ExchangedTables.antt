@@ -36,7 +36,7 @@ use Rattle.exchanges.specs.theorems.Others.{Two}
 use Rattle.exchanges.specs.theorems.Exchanged.{exchanged}
 use Rattle.exchanges.specs.theorems.Distance.{distanceIn}
 use Rattle.exchanges.specs.theorems.PathSum.{pathCost}
-use Rattle.exchanges.specs.theorems.Walk.{whole, distance-whole}
+use Rattle.exchanges.specs.theorems.Walk.{wholeCost, distance-whole}
 use Rattle.exchanges.specs.theorems.Tallies.{movedBy, moved-distance, moved-le, tallyIn, tallies-all, tally-few}
 
 -- the shape of a tree table, with all its labels
@@ -77,7 +77,7 @@ module _ (t : Table) (g : IsTree t) where
     distance-moved = distance-in-shape ∙ sym (moved-distance (shape t g) x y two)
 
     -- six times the distance, from the cost of the path between the two tips
-    pub six-distances-path : 6 * exchangeDistance t x y + pathCost (shape t g) (nodeOf t x) (nodeOf t y) ≡ whole (tips t)
+    pub six-distances-path : 6 * exchangeDistance t x y + pathCost (shape t g) (nodeOf t x) (nodeOf t y) ≡ wholeCost (tips t)
     unfolding shapeOf
     six-distances-path = ap (λ (z : ℕ). 6 * z + pathCost (shape t g) (nodeOf t x) (nodeOf t y)) distance-in-shape
         ∙ distance-whole (shape t g) x y two

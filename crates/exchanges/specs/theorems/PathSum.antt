@@ -18,8 +18,8 @@ use Rattle.shapes.specs.theorems.Shape.{Shape, behindIn}
 use Rattle.shapes.specs.theorems.Counting.{sizeIn}
 use Rattle.exchanges.specs.theorems.Others.{Two, Other, others2, others-ext, others-none}
 use Rattle.exchanges.specs.theorems.SetsChanged.{place-of, hangs}
-use Rattle.exchanges.specs.theorems.Distance.{leaving, elsewhere, together, rest, taken, distanceIn, six-distances}
-use Rattle.exchanges.specs.theorems.Turns.{squares, Turn, leaving-sizes, elsewhere-sizes, together-sizes}
+use Rattle.exchanges.specs.theorems.Distance.{leavingPath, elsewhere, inOneSubtree, otherLabels, taken, distanceIn, six-distances}
+use Rattle.exchanges.specs.theorems.Turns.{squaresInto, Turn, leaving-sizes, elsewhere-sizes, together-sizes}
 
 -- what a node of the path takes: n labels, e of them behind the edge from x, f behind the edge from y, and q the squares
 unfoldable pub cost : ℕ → ℕ → ℕ → ℕ → ℕ
@@ -31,7 +31,7 @@ cost n e f q =
 unfoldable pub headCost : {n : ℕ} → Shape n → ℕ → ℕ → ℕ
 headCost {n} t p f = sum (2 * t .edges) (λ e.
     ne e f * (into (t .up) (head (t .up) f) p e
-    * cost n (sizeIn t e) (sizeIn t f) (squares t (head (t .up) f))))
+    * cost n (sizeIn t e) (sizeIn t f) (squaresInto t (head (t .up) f))))
 
 -- what the inner nodes of the path between the nodes p and q take together
 unfoldable pub pathCost : {n : ℕ} → Shape n → ℕ → ℕ → ℕ
@@ -101,7 +101,7 @@ module _ {n : ℕ} (t : Shape n) where
 
   -- the one code f from q, and the one code e from p
   turn-head-cost : (p q v e f : ℕ) → p ≤ t .edges → Turn t p q v e f
-      → headCost t p f ≡ cost n (sizeIn t e) (sizeIn t f) (squares t v)
+      → headCost t p f ≡ cost n (sizeIn t e) (sizeIn t f) (squaresInto t v)
   unfolding headCost
   turn-head-cost p q v e f lp turn =
       sum-one (2 * t .edges) e _ (turn .le) (λ c lc d. elim (alike (head (t .up) f) (head (t .up) c)) [
@@ -115,7 +115,7 @@ module _ {n : ℕ} (t : Shape n) where
       ∙ rw (ne-other e f (turn .ef), turn .hf, turn .he, turn .pe, is-self v) (omega arith)
 
   turn-cost : (p q v e f : ℕ) → p ≤ t .edges → q ≤ t .edges → Turn t p q v e f
-      → nodeCost p q v ≡ cost n (sizeIn t e) (sizeIn t f) (squares t v)
+      → nodeCost p q v ≡ cost n (sizeIn t e) (sizeIn t f) (squaresInto t v)
   turn-cost p q v e f lp lq turn =
       sum-one (2 * t .edges) f _ (turn .lf) (λ c lc d. elim (alike v (head (t .up) c)) [
         | inr g ↦ rw (g .1) (omega arith)
@@ -145,25 +145,25 @@ module _ {n : ℕ} (t : Shape n) (x y : ℕ) (two : Two n x y) where
   taken-none : (v : ℕ) → ((a : ℕ) → Other n x y a → at a ≢ v) → taken t x y two v ≡ 0
   taken-none v h = rw (no-leaving, no-together) (omega arith)
     where
-      no-leaving : leaving t x y v ≡ 0
-      no-leaving = unfold leaving in
+      no-leaving : leavingPath t x y v ≡ 0
+      no-leaving = unfold leavingPath in
           others-ext n x y _ (λ a. 0) (λ a o. is-other (at a) v (h a o)) ∙ others-none n x y _ (λ a. refl)
 
-      no-together : together t x y v ≡ 0
-      no-together = unfold together others2 in
+      no-together : inOneSubtree t x y v ≡ 0
+      no-together = unfold inOneSubtree others2 in
           others-ext n x y _ (λ a. 0)
           (λ a o. others-none n x y _ (λ b. ap (λ (z : ℕ). z * hangs t x y a b) (is-other (at a) v (h a o)) ∙ omega arith))
           ∙ others-none n x y _ (λ a. refl)
 
   taken-turn : (v e f : ℕ) → Turn t (t .node x) (t .node y) v e f
-      → cost n (sizeIn t e) (sizeIn t f) (squares t v) ≡ taken t x y two v
+      → cost n (sizeIn t e) (sizeIn t f) (squaresInto t v) ≡ taken t x y two v
   unfolding cost
   taken-turn v e f turn = rw (away, pairs, others-there)
     where
-      away : n - sizeIn t e - sizeIn t f ≡ leaving t x y v
+      away : n - sizeIn t e - sizeIn t f ≡ leavingPath t x y v
       away = omega (arith, leaving-sizes t x y two v e f turn)
 
-      pairs : squares t v - sizeIn t e * sizeIn t e - sizeIn t f * sizeIn t f ≡ together t x y v
+      pairs : squaresInto t v - sizeIn t e * sizeIn t e - sizeIn t f * sizeIn t f ≡ inOneSubtree t x y v
       pairs = omega (arith, together-sizes t x y two v e f turn)
 
       others-there : sizeIn t e + sizeIn t f - 2 ≡ elsewhere t x y v
@@ -231,5 +231,5 @@ module _ {n : ℕ} (t : Shape n) (x y : ℕ) (two : Two n x y) where
 
   -- the distance, six times, from the cost of the path
   pub distance-path : 6 * distanceIn t x y two + pathCost t (t .node x) (t .node y)
-      ≡ 2 * (rest t x y * (rest t x y * rest t x y)) + 3 * (rest t x y * rest t x y)
+      ≡ 2 * (otherLabels t x y * (otherLabels t x y * otherLabels t x y)) + 3 * (otherLabels t x y * otherLabels t x y)
   distance-path = omega (arith, six-distances t x y two, takes-path)

@@ -5,13 +5,13 @@ use Prim.Native.Nat.{ℕ, _+_, _*_}
 use Rattle.sums.specs.Sum.{sum}
 use Rattle.sums.specs.theorems.SumLaws.{sum-cong, sum-swap, sum-mul-left}
 use Rattle.sums.specs.theorems.BitLaws.{ne}
-use Rattle.exchanges.specs.theorems.Others.{Other, others, others2, others3, others4, others-ext, others-cong, others-add}
+use Rattle.exchanges.specs.theorems.Others.{Other, sumOfOthers, others2, others3, others4, others-ext, others-cong, others-add}
 use Rattle.exchanges.specs.theorems.Others.{others-mul-left, others-mul-right}
 
 module _ (n x y : ℕ) where
   pub others-sum : (K : ℕ) (f : ℕ → ℕ → ℕ)
-      → others n x y (λ a. sum K (f a)) ≡ sum K (λ v. others n x y (λ a. f a v))
-  unfolding others
+      → sumOfOthers n x y (λ a. sum K (f a)) ≡ sum K (λ v. sumOfOthers n x y (λ a. f a v))
+  unfolding sumOfOthers
   others-sum K f =
       sum-cong n (λ a. ap (λ (z : ℕ). ne x a * z) (sym (sum-mul-left K (ne y a) (f a)))
       ∙ sym (sum-mul-left K (ne x a) (λ v. ne y a * f a v)))
@@ -21,7 +21,7 @@ module _ (n x y : ℕ) where
       → others2 n x y (λ a b. sum K (f a b)) ≡ sum K (λ v. others2 n x y (λ a b. f a b v))
   unfolding others2
   others2-sum K f =
-      others-cong n x y (λ a. others-sum K (f a)) ∙ others-sum K (λ a v. others n x y (λ b. f a b v))
+      others-cong n x y (λ a. others-sum K (f a)) ∙ others-sum K (λ a v. sumOfOthers n x y (λ b. f a b v))
 
   pub others3-sum : (K : ℕ) (f : ℕ → ℕ → ℕ → ℕ → ℕ)
       → others3 n x y (λ a b c. sum K (f a b c)) ≡ sum K (λ v. others3 n x y (λ a b c. f a b c v))
@@ -58,45 +58,45 @@ module _ (n x y : ℕ) where
 
   -- ---- products
 
-  pub product2 : (p q : ℕ → ℕ) → others2 n x y (λ a b. p a * q b) ≡ others n x y p * others n x y q
+  pub product2 : (p q : ℕ → ℕ) → others2 n x y (λ a b. p a * q b) ≡ sumOfOthers n x y p * sumOfOthers n x y q
   unfolding others2
   product2 p q =
-      others-cong n x y (λ a. others-mul-left n x y (p a) q) ∙ others-mul-right n x y (others n x y q) p
+      others-cong n x y (λ a. others-mul-left n x y (p a) q) ∙ others-mul-right n x y (sumOfOthers n x y q) p
 
   pub product3 : (p q r : ℕ → ℕ)
-      → others3 n x y (λ a b c. p a * (q b * r c)) ≡ others n x y p * (others n x y q * others n x y r)
+      → others3 n x y (λ a b c. p a * (q b * r c)) ≡ sumOfOthers n x y p * (sumOfOthers n x y q * sumOfOthers n x y r)
   unfolding others3 others2
   product3 p q r =
       others-cong n x y (λ a.
       others-cong n x y (λ b. others-mul-left n x y (p a) (λ c. q b * r c))
-      ∙ others-mul-left n x y (p a) (λ b. others n x y (λ c. q b * r c))
+      ∙ others-mul-left n x y (p a) (λ b. sumOfOthers n x y (λ c. q b * r c))
       ∙ ap (λ (z : ℕ). p a * z) (unfold others2 in product2 q r))
-      ∙ others-mul-right n x y (others n x y q * others n x y r) p
+      ∙ others-mul-right n x y (sumOfOthers n x y q * sumOfOthers n x y r) p
 
   -- a pair and one
   pub pair-first : (q : ℕ → ℕ → ℕ) (r : ℕ → ℕ)
-      → others3 n x y (λ a b c. q a b * r c) ≡ others2 n x y q * others n x y r
+      → others3 n x y (λ a b c. q a b * r c) ≡ others2 n x y q * sumOfOthers n x y r
   unfolding others3 others2
   pair-first q r =
       others-cong n x y (λ a.
       others-cong n x y (λ b. others-mul-left n x y (q a b) r)
-      ∙ others-mul-right n x y (others n x y r) (q a))
-      ∙ others-mul-right n x y (others n x y r) (λ a. others n x y (q a))
+      ∙ others-mul-right n x y (sumOfOthers n x y r) (q a))
+      ∙ others-mul-right n x y (sumOfOthers n x y r) (λ a. sumOfOthers n x y (q a))
 
   pub pair-last : (q : ℕ → ℕ → ℕ) (r : ℕ → ℕ)
-      → others3 n x y (λ a b c. q b c * r a) ≡ others2 n x y q * others n x y r
+      → others3 n x y (λ a b c. q b c * r a) ≡ others2 n x y q * sumOfOthers n x y r
   unfolding others3 others2
   pair-last q r =
       others-cong n x y (λ a.
       others-cong n x y (λ b. others-mul-right n x y (r a) (q b))
-      ∙ others-mul-right n x y (r a) (λ b. others n x y (q b)))
-      ∙ others-mul-left n x y (others n x y (λ b. others n x y (q b))) r
+      ∙ others-mul-right n x y (r a) (λ b. sumOfOthers n x y (q b)))
+      ∙ others-mul-left n x y (sumOfOthers n x y (λ b. sumOfOthers n x y (q b))) r
 
   pub pair-ends : (q : ℕ → ℕ → ℕ) (r : ℕ → ℕ)
-      → others3 n x y (λ a b c. q a c * r b) ≡ others2 n x y q * others n x y r
+      → others3 n x y (λ a b c. q a c * r b) ≡ others2 n x y q * sumOfOthers n x y r
   unfolding others3 others2
   pair-ends q r =
       others-cong n x y (λ a.
       others-cong n x y (λ b. others-mul-right n x y (r b) (q a))
-      ∙ others-mul-left n x y (others n x y (q a)) r)
-      ∙ others-mul-right n x y (others n x y r) (λ a. others n x y (q a))
+      ∙ others-mul-left n x y (sumOfOthers n x y (q a)) r)
+      ∙ others-mul-right n x y (sumOfOthers n x y r) (λ a. sumOfOthers n x y (q a))

@@ -23,7 +23,7 @@ use Rattle.exchanges.specs.Exchanges.{tallyOf}
 use Rattle.exchanges.specs.theorems.Exchanged.{exchanged}
 use Rattle.exchanges.specs.theorems.Distance.{distanceIn}
 use Rattle.exchanges.specs.theorems.PathSum.{pathCost}
-use Rattle.exchanges.specs.theorems.Walk.{whole, distance-value, distance-le}
+use Rattle.exchanges.specs.theorems.Walk.{wholeCost, distance-value, distance-le}
 
 -- 'exchange the labels of .. tips .. and take the quartet distance to the unexchanged tree .. An exchanged tree is
 -- compared by its topologies': the sets of four whose topology is not that of the exchanged labels
@@ -49,7 +49,7 @@ moved-either {n} t x y = ap by (fun-ext (swapped-either x y))
 
 -- from the cost of the path
 pub moved-path : {n : ℕ} (t : Shape n) (x y : ℕ) → Two n x y
-    → movedBy t x y ≡ (whole n - pathCost t (t .node x) (t .node y)) / 6
+    → movedBy t x y ≡ (wholeCost n - pathCost t (t .node x) (t .node y)) / 6
 moved-path t x y two = moved-distance t x y two ∙ distance-value t x y two
 
 pub moved-le : {n : ℕ} (t : Shape n) (x y : ℕ) → Two n x y → movedBy t x y ≤ fours n

@@ -22,15 +22,15 @@ use Rattle.shapes.specs.theorems.EulerCentre.{into-pos}
 use Rattle.shapes.specs.theorems.Triples.{code-apart}
 use Rattle.shapes.specs.theorems.Shape.{Shape, behindIn, butterflyIn}
 use Rattle.shapes.specs.theorems.Counting.{sizeIn}
-use Rattle.exchanges.specs.theorems.Others.{Two, Other, others, others2, others-ext, others-cong, others-add, others-count, sum-parts}
+use Rattle.exchanges.specs.theorems.Others.{Two, Other, sumOfOthers, others2, others-ext, others-cong, others-add, others-count, sum-parts}
 use Rattle.exchanges.specs.theorems.Others.{others-mul-left}
 use Rattle.exchanges.specs.theorems.Products.{others2-sum, others2-ext}
 use Rattle.exchanges.specs.theorems.SetsChanged.{place-of, hangs}
-use Rattle.exchanges.specs.theorems.Distance.{leaving, elsewhere, together, leaving-elsewhere}
+use Rattle.exchanges.specs.theorems.Distance.{leavingPath, elsewhere, inOneSubtree, leaving-elsewhere}
 
 -- the squares of the numbers of labels behind the directed edges into v, added up
-unfoldable pub squares : {n : ℕ} → Shape n → ℕ → ℕ
-squares t v = sum (2 * t .edges) (λ g. is v (head (t .up) g) * (sizeIn t g * sizeIn t g))
+unfoldable pub squaresInto : {n : ℕ} → Shape n → ℕ → ℕ
+squaresInto t v = sum (2 * t .edges) (λ g. is v (head (t .up) g) * (sizeIn t g * sizeIn t g))
 
 pub record Turn {n : ℕ} (t : Shape n) (p q v e f : ℕ) : Type 0 where
   pub lv : v ≤ t .edges
@@ -112,7 +112,7 @@ module _ {n : ℕ} (t : Shape n) (x y : ℕ) (two : Two n x y) where
           λ c l h p q. omega (arith, bf, ap (λ (g : ℕ). bits g a) (y-code c l h p)),
         )
 
-    e-size : sizeIn t e ≡ 1 + others n x y (bits e)
+    e-size : sizeIn t e ≡ 1 + sumOfOthers n x y (bits e)
     e-size = omega (
       arith,
       sum-parts n x y two (bits e),
@@ -120,7 +120,7 @@ module _ {n : ℕ} (t : Shape n) (x y : ℕ) (two : Two n x y) where
       not-y e (turn .le) (turn .he) (turn .ef),
     )
 
-    f-size : sizeIn t f ≡ 1 + others n x y (bits f)
+    f-size : sizeIn t f ≡ 1 + sumOfOthers n x y (bits f)
     f-size = omega (
       arith,
       sum-parts n x y two (bits f),
@@ -129,11 +129,11 @@ module _ {n : ℕ} (t : Shape n) (x y : ℕ) (two : Two n x y) where
     )
 
     g-size : (g : ℕ) → g < 2 * t .edges → head (t .up) g ≡ v → g ≢ e → g ≢ f
-        → others n x y (bits g) ≡ sizeIn t g
+        → sumOfOthers n x y (bits g) ≡ sizeIn t g
     g-size g l h de df = omega (arith, sum-parts n x y two (bits g), not-x g l h de, not-y g l h df)
 
-    pub leaving-sizes : leaving t x y v + sizeIn t e + sizeIn t f ≡ n
-    unfolding leaving
+    pub leaving-sizes : leavingPath t x y v + sizeIn t e + sizeIn t f ≡ n
+    unfolding leavingPath
     leaving-sizes = omega (
       arith,
       e-size,
@@ -269,8 +269,8 @@ module _ {n : ℕ} (t : Shape n) (x y : ℕ) (two : Two n x y) where
         )
             (omega arith)
 
-    pub together-sizes : together t x y v + sizeIn t e * sizeIn t e + sizeIn t f * sizeIn t f ≡ squares t v
-    unfolding together squares
+    pub together-sizes : inOneSubtree t x y v + sizeIn t e * sizeIn t e + sizeIn t f * sizeIn t f ≡ squaresInto t v
+    unfolding inOneSubtree squaresInto
     together-sizes = omega (
       arith,
       others2-ext n x y (λ a b. is (at a) v * hangs t x y a b)
@@ -293,19 +293,19 @@ module _ {n : ℕ} (t : Shape n) (x y : ℕ) (two : Two n x y) where
         at-f = rw (turn .hf, is-self v) (omega arith)
 
         scaled : (g : ℕ) → others2 n x y (λ a b. beside g (bits g a * bits g b))
-            ≡ beside g (others n x y (bits g) * others n x y (bits g))
+            ≡ beside g (sumOfOthers n x y (bits g) * sumOfOthers n x y (bits g))
         scaled g = unfold others2 in
             others-cong n x y (λ a. spread (bits g a))
-            ∙ others-cong n x y (λ a. turned (ne e g) (ne f g) (is v (head (t .up) g)) (bits g a) (others n x y (bits g)))
-            ∙ others-mul-left n x y (beside g (others n x y (bits g))) (bits g)
-            ∙ regroup (ne e g) (ne f g) (is v (head (t .up) g)) (others n x y (bits g))
+            ∙ others-cong n x y (λ a. turned (ne e g) (ne f g) (is v (head (t .up) g)) (bits g a) (sumOfOthers n x y (bits g)))
+            ∙ others-mul-left n x y (beside g (sumOfOthers n x y (bits g))) (bits g)
+            ∙ regroup (ne e g) (ne f g) (is v (head (t .up) g)) (sumOfOthers n x y (bits g))
           where
-            spread : (z : ℕ) → others n x y (λ b. beside g (z * bits g b)) ≡ beside g (z * others n x y (bits g))
+            spread : (z : ℕ) → sumOfOthers n x y (λ b. beside g (z * bits g b)) ≡ beside g (z * sumOfOthers n x y (bits g))
             spread z =
                 others-cong n x y (λ b. turned (ne e g) (ne f g) (is v (head (t .up) g)) z (bits g b))
                 ∙ others-cong n x y (λ b. back (ne e g) (ne f g) (is v (head (t .up) g)) z (bits g b))
                 ∙ others-mul-left n x y (beside g z) (bits g)
-                ∙ last (ne e g) (ne f g) (is v (head (t .up) g)) z (others n x y (bits g))
+                ∙ last (ne e g) (ne f g) (is v (head (t .up) g)) z (sumOfOthers n x y (bits g))
               where
                 turned : (p q r z u : ℕ) → p * (q * (r * (z * u))) ≡ (p * (q * (r * u))) * z
                 turned p q r z u = omega arith
@@ -326,7 +326,7 @@ module _ {n : ℕ} (t : Shape n) (x y : ℕ) (two : Two n x y) where
             ≡ beside g (sizeIn t g * sizeIn t g)
         each g l = scaled g ∙ same
           where
-            same : beside g (others n x y (bits g) * others n x y (bits g)) ≡ beside g (sizeIn t g * sizeIn t g)
+            same : beside g (sumOfOthers n x y (bits g) * sumOfOthers n x y (bits g)) ≡ beside g (sizeIn t g * sizeIn t g)
             same = elim (alike e g) [
               | inl q ↦ rw (q .2) (omega arith)
               | inr de ↦ elim (alike f g) [

@@ -73,35 +73,35 @@ pub record RowsListed (t u : Table) (marks rows : List ℕ) (count : ℕ) : Type
       → (sizeOver marks (tips t) t j ≤ 1) ⊎ (sizeOver marks (tips t) t (parent t j) ≤ sizeOver marks (tips t) t j) → f j ≡ 0)
       → sum count (λ q. f (word rows q)) ≡ sum (nodes t - 2) (λ j. f (j + 2))
 
-abbrev pub alikeRow : List ℕ → Table → Table → ℕ → ℕ
-alikeRow marks t u v = sum (nodes u - 2) (λ j. alikeOver marks (tips t) t u v (j + 2))
+abbrev pub keptAlikeRow : List ℕ → Table → Table → ℕ → ℕ
+keptAlikeRow marks t u v = sum (nodes u - 2) (λ j. alikeOver marks (tips t) t u v (j + 2))
 
-abbrev pub apartRow : List ℕ → Table → Table → ℕ → ℕ
-apartRow marks t u v = sum (nodes u - 2) (λ j. apartOver marks (tips t) t u v (j + 2))
+abbrev pub keptApartRow : List ℕ → Table → Table → ℕ → ℕ
+keptApartRow marks t u v = sum (nodes u - 2) (λ j. apartOver marks (tips t) t u v (j + 2))
 
 module _ (t u : Table) (marks : List ℕ) (n : ℕ) (fb fe sb se at columns : List ℕ) (count : ℕ)
     (h : Prepared t u marks n fb fe sb se at columns count) (rows : List ℕ) (k : ℕ) (r : RowsListed t u marks rows k) where
-  pub rows-are : (sum k (λ q. alikeRow marks t u (word rows q)) ≡ sum (nodes t - 2) (λ i. alikeRow marks t u (i + 2)))
-      × (sum k (λ q. apartRow marks t u (word rows q)) ≡ sum (nodes t - 2) (λ i. apartRow marks t u (i + 2)))
+  pub rows-are : (sum k (λ q. keptAlikeRow marks t u (word rows q)) ≡ sum (nodes t - 2) (λ i. keptAlikeRow marks t u (i + 2)))
+      × (sum k (λ q. keptApartRow marks t u (word rows q)) ≡ sum (nodes t - 2) (λ i. keptApartRow marks t u (i + 2)))
   rows-are = (
-    r .enough (λ v. alikeRow marks t u v) (λ v a l e. no-row t u marks n fb fe sb se at columns count h v a l e .0),
-    r .enough (λ v. apartRow marks t u v) (λ v a l e. no-row t u marks n fb fe sb se at columns count h v a l e .1),
+    r .enough (λ v. keptAlikeRow marks t u v) (λ v a l e. no-row t u marks n fb fe sb se at columns count h v a l e .0),
+    r .enough (λ v. keptApartRow marks t u v) (λ v a l e. no-row t u marks n fb fe sb se at columns count h v a l e .1),
   )
 
   -- a part is at most the whole
   pub rows-low : (q : ℕ) → q ≤ k
-      → (sum q (λ i. alikeRow marks t u (word rows i)) ≤ 5462270) × (sum q (λ i. apartRow marks t u (word rows i)) ≤ 5462270)
+      → (sum q (λ i. keptAlikeRow marks t u (word rows i)) ≤ 5462270) × (sum q (λ i. keptApartRow marks t u (word rows i)) ≤ 5462270)
   rows-low q l = (
     omega (
       arith,
-      sum-part q k (λ i. alikeRow marks t u (word rows i)) l,
+      sum-part q k (λ i. keptAlikeRow marks t u (word rows i)) l,
       rows-are .0,
       alike-are marks t u (h .tree) (h .tree') (h .same),
       all-low marks t u (h .tree) (h .tree') (h .same),
     ),
     omega (
       arith,
-      sum-part q k (λ i. apartRow marks t u (word rows i)) l,
+      sum-part q k (λ i. keptApartRow marks t u (word rows i)) l,
       rows-are .1,
       apart-are marks t u (h .tree) (h .tree') (h .same),
       all-low marks t u (h .tree) (h .tree') (h .same),

@@ -56,13 +56,13 @@ addsAt all begin end table j = adds (spanOf all begin end j) (spanOf all begin e
 -- ---- the list, node by node
 
 -- of the first i nodes from node 2 on, the `count` that pass the test are listed
-pub record ListedTo (i count : ℕ) (test : ℕ → Bool) (listed : List ℕ) : Type 0 where
+pub record ListedEdges (i count : ℕ) (test : ℕ → Bool) (listed : List ℕ) : Type 0 where
   pub few : count ≤ i
   pub long : length listed ≡ nodeRoom
   pub node : (q : ℕ) → q < count → (2 ≤ word listed q) × (word listed q < i + 2)
   pub sums : (f : ℕ → ℕ) → sum count (λ q. f (word listed q)) ≡ sum i (λ j. bit (test (j + 2)) * f (j + 2))
 
-pub listed-none : (test : ℕ → Bool) (listed : List ℕ) → length listed ≡ nodeRoom → ListedTo 0 0 test listed
+pub listed-none : (test : ℕ → Bool) (listed : List ℕ) → length listed ≡ nodeRoom → ListedEdges 0 0 test listed
 listed-none test listed l = record {
   few = omega arith;
   long = l;
@@ -70,11 +70,11 @@ listed-none test listed l = record {
   sums = λ f. unfold sum in refl;
 }
 
-module _ (i count : ℕ) (test : ℕ → Bool) (listed : List ℕ) (l : i < nodeRoom) (h : ListedTo i count test listed) where
+module _ (i count : ℕ) (test : ℕ → Bool) (listed : List ℕ) (l : i < nodeRoom) (h : ListedEdges i count test listed) where
   same-sum : (x : ℕ) (f : ℕ → ℕ) → sum count (λ q. f (word (set listed count x) q)) ≡ sum count (λ q. f (word listed q))
   same-sum x f = sum-ext count _ _ (λ q m. ap f (getD-set-other listed count q x 0 (λ e. omega arith)))
 
-  pub listed-one : test (i + 2) ≡ true → ListedTo (i + 1) (count + 1) test (set listed count (i + 2))
+  pub listed-one : test (i + 2) ≡ true → ListedEdges (i + 1) (count + 1) test (set listed count (i + 2))
   listed-one t = record {
     few = omega (arith, h .few);
     long = length-set listed count (i + 2) ∙ h .long;
@@ -101,7 +101,7 @@ module _ (i count : ℕ) (test : ℕ → Bool) (listed : List ℕ) (l : i < node
       hit : (f : ℕ → ℕ) → bit (test (i + 2)) * f (i + 2) ≡ f (i + 2)
       hit f = rw (t, one) (omega arith)
 
-  pub listed-other : test (i + 2) ≡ false → ListedTo (i + 1) count test (set listed count (i + 2))
+  pub listed-other : test (i + 2) ≡ false → ListedEdges (i + 1) count test (set listed count (i + 2))
   listed-other t = record {
     few = omega (arith, h .few);
     long = length-set listed count (i + 2) ∙ h .long;
@@ -123,7 +123,7 @@ module _ (i count : ℕ) (test : ℕ → Bool) (listed : List ℕ) (l : i < node
 
 -- ---- the totals of a node and of its parent
 
-pub record TwoSums (all begin end : List ℕ) (j p : ℕ) : Type 0 where
+pub record EdgeTotals (all begin end : List ℕ) (j p : ℕ) : Type 0 where
   pub node : j < nodeRoom
   pub parent-node : p < nodeRoom
   pub rise : (word all (word begin j) ≤ word all (word end j)) × (word all (word begin p) ≤ word all (word end p))
@@ -133,12 +133,12 @@ pub record TwoSums (all begin end : List ℕ) (j p : ℕ) : Type 0 where
 pub record NodeSums (all begin end table : List ℕ) (m : ℕ) : Type 0 where
   pub few : (2 ≤ m) × (m ≤ nodeRoom)
   pub inside : (j : ℕ) → j < m → 2 + j < length table
-  pub sums : (j : ℕ) → 2 ≤ j → j < m → TwoSums all begin end j (word table (2 + j))
+  pub sums : (j : ℕ) → 2 ≤ j → j < m → EdgeTotals all begin end j (word table (2 + j))
 
 pub record ListedSums (all begin end table listed : List ℕ) (count : ℕ) : Type 0 where
   pub few : count ≤ nodeRoom
   pub inside : (q : ℕ) → q < count → (word listed q ≤ nodeRoom) × (2 + word listed q < length table)
-  pub sums : (q : ℕ) → q < count → TwoSums all begin end (word listed q) (word table (2 + word listed q))
+  pub sums : (q : ℕ) → q < count → EdgeTotals all begin end (word listed q) (word table (2 + word listed q))
 
 abbrev pub edgeListed : List ℕ → List ℕ → List ℕ → List ℕ → List ℕ → ℕ → ℕ
 edgeListed all begin end table listed q =
@@ -190,7 +190,7 @@ module _ (t : Table) (g : IsTree t) (marks : List ℕ) (n : ℕ) (en : n ≡ tip
     (s : SizesOf t marks n begin end all) where
   -- a node from 2 on, and its parent
   two : (j p : ℕ) → 2 ≤ j → j < nodes t → p ≡ parent t j
-      → TwoSums all begin end j p × (spanOf all begin end j ≡ sizeOver marks n t j)
+      → EdgeTotals all begin end j p × (spanOf all begin end j ≡ sizeOver marks n t j)
       × (spanOf all begin end p ≡ sizeOver marks n t (parent t j))
   two j p a l e =
       let r = g .parents-range j a l in
@@ -212,7 +212,7 @@ module _ (t : Table) (g : IsTree t) (marks : List ℕ) (n : ℕ) (en : n ≡ tip
       )
 
   at-word : (j : ℕ) → 2 ≤ j → j < nodes t
-      → TwoSums all begin end j (word t (2 + j)) × (spanOf all begin end j ≡ sizeOver marks n t j)
+      → EdgeTotals all begin end j (word t (2 + j)) × (spanOf all begin end j ≡ sizeOver marks n t j)
       × (spanOf all begin end (word t (2 + j)) ≡ sizeOver marks n t (parent t j))
   at-word j a l = two j _ a l (parent-word t j l)
 
@@ -223,7 +223,7 @@ module _ (t : Table) (g : IsTree t) (marks : List ℕ) (n : ℕ) (en : n ≡ tip
     sums = λ j a l. at-word j a (omega (arith, em)) .0;
   }
 
-  module _ (listed : List ℕ) (count : ℕ) (h : ListedTo (nodes t - 2) count (addsAt all begin end t) listed) where
+  module _ (listed : List ℕ) (count : ℕ) (h : ListedEdges (nodes t - 2) count (addsAt all begin end t) listed) where
     pub listed-node : (q : ℕ) → q < count → (2 ≤ word listed q) × (word listed q < nodes t)
     listed-node q m = let r = h .node q m in (r .0, omega (arith, r .1, g .tips-range, g .nodes-range))
 

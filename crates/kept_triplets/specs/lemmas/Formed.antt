@@ -19,12 +19,12 @@ use Rattle.tree_check.specs.lemmas.Sized.{Sized}
 use Prim.Native.Nat.{ℕ, _+_, _-_, _≤_}
 use native.Mathlib.Omega.{arith}
 use Rattle.triplets.specs.TripletAnswer.{refusedTriplets}
-use Rattle.triplets.specs.lemmas.FormedTriplets.{formed, TableFits, formed-is}
+use Rattle.triplets.specs.lemmas.FormedTriplets.{formedTriplets, TripletsFit, formed-is}
 
 -- ---- the sums of two tables, formed
 
 pub sums-fit : (t u : Table) (marks : List ℕ) (first second alike apart number : ℕ) → IsTree t
-    → KeptSumsAre t u marks first second alike apart number → TableFits (number + 1) first second alike apart
+    → KeptSumsAre t u marks first second alike apart number → TripletsFit (number + 1) first second alike apart
 sums-fit t u marks first second alike apart number g s =
     let few : number ≤ 255 = omega (arith, s .number-is, others-few marks (tips t) (let r = g .tips-range in omega arith), g .tips-range .1) in
     let e : number + 1 - 1 ≡ number = omega arith in
@@ -41,7 +41,7 @@ sums-fit t u marks first second alike apart number g s =
 
 pub counts-formed : (t u : Table) (marks : List ℕ) (first second alike apart number : ℕ)
     → KeptSumsAre t u marks first second alike apart number
-    → formed (number + 1) first second alike apart ≡ keptCounts t u marks
+    → formedTriplets (number + 1) first second alike apart ≡ keptCounts t u marks
 counts-formed t u marks first second alike apart number s =
     let e : number + 1 - 1 ≡ number = omega arith in
     formed-is (number + 1) first second alike apart _ _ _ _ _ (s .first-is) (s .second-is) (s .alike-is) (s .apart-is)

@@ -15,7 +15,7 @@ use Rattle.counting.specs.Kept.{isOther, others}
 use Rattle.counting.specs.Triplets.{tripletsOver}
 use Rattle.counting.specs.theorems.KeptTripletSums.{sizeOver, alikeOver, apartOver, total}
 use Rattle.kept_triplets.specs.lemmas.Places.{SpanLists, PlacesTo, Prefixed, all-others, column-is}
-use Rattle.kept_triplets.specs.lemmas.Edges.{addsAt, ListedTo, SizesOf, ListedSums, edgeListed, NodeSums, node-sums, listed-sums, listed-node, listed-few, listed-enough, edge-sum}
+use Rattle.kept_triplets.specs.lemmas.Edges.{addsAt, ListedEdges, SizesOf, ListedSums, edgeListed, NodeSums, node-sums, listed-sums, listed-node, listed-few, listed-enough, edge-sum}
 use Rattle.kept_triplets.specs.lemmas.Rows.{Prepared}
 use Rattle.kept_triplets.specs.lemmas.AllRows.{RowsListed, edges-are, edges-are', alike-are, apart-are}
 
@@ -71,9 +71,9 @@ module _ (t u : Table) (marks : List ℕ) (n m k : ℕ) (fb fe sb se at back : L
     pub first-nodes : NodeSums all fb fe t m
     first-nodes = node-sums t (h .tree) marks (tips t) refl fb fe all (first-sizes all o) m (h .nodes-are)
 
-    module _ (rows : List ℕ) (c : ℕ) (l : ListedTo (m - 2) c (addsAt all fb fe t) rows) where
-      l' : ListedTo (nodes t - 2) c (addsAt all fb fe t) rows
-      l' = subst (λ (x : ℕ). ListedTo (x - 2) c (addsAt all fb fe t) rows) (h .nodes-are) l
+    module _ (rows : List ℕ) (c : ℕ) (l : ListedEdges (m - 2) c (addsAt all fb fe t) rows) where
+      l' : ListedEdges (nodes t - 2) c (addsAt all fb fe t) rows
+      l' = subst (λ (x : ℕ). ListedEdges (x - 2) c (addsAt all fb fe t) rows) (h .nodes-are) l
 
       pub first-listed : ListedSums all fb fe t rows c
       first-listed = listed-sums t (h .tree) marks (tips t) refl fb fe all (first-sizes all o) rows c l'
@@ -100,9 +100,9 @@ module _ (t u : Table) (marks : List ℕ) (n m k : ℕ) (fb fe sb se at back : L
         ∙ all-others t u (h .tree) (h .tree') (h .same) marks fb fe sb se at (h .spans) (h .spans') (h .places) all
         (subst (λ (x : ℕ). Prefixed at 0 cellMost (x - 1) all) (h .tips-are) o)
 
-    module _ (columns : List ℕ) (c : ℕ) (l : ListedTo (k - 2) c (addsAt all sb se u) columns) where
-      k' : ListedTo (nodes u - 2) c (addsAt all sb se u) columns
-      k' = subst (λ (x : ℕ). ListedTo (x - 2) c (addsAt all sb se u) columns) (h .nodes-are') l
+    module _ (columns : List ℕ) (c : ℕ) (l : ListedEdges (k - 2) c (addsAt all sb se u) columns) where
+      k' : ListedEdges (nodes u - 2) c (addsAt all sb se u) columns
+      k' = subst (λ (x : ℕ). ListedEdges (x - 2) c (addsAt all sb se u) columns) (h .nodes-are') l
 
       pub second-listed : ListedSums all sb se u columns c
       second-listed = listed-sums u (h .tree') marks (tips t) (h .same) sb se all (second-sizes all o) columns c k'

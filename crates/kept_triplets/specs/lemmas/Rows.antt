@@ -29,8 +29,8 @@ use Rattle.kept_triplets.specs.lemmas.Edges.{spanOf, parent-word, size-f
 -- ---- as the code reads the sums
 
 -- the two parts of a number: the labels beyond an edge, and those that leave there
-abbrev pub low : ℕ → ℕ
-low x = x % 65536
+abbrev pub lowPart : ℕ → ℕ
+lowPart x = x % 65536
 
 abbrev pub high : ℕ → ℕ
 high x = x / 65536
@@ -38,12 +38,12 @@ high x = x / 65536
 abbrev pub restOf : List ℕ → List ℕ → List ℕ → ℕ → ℕ → ℕ
 restOf sums begin end j p = spanOf sums begin end p - spanOf sums begin end j
 
-abbrev pub alikeAt : List ℕ → List ℕ → List ℕ → ℕ → ℕ → ℕ
-alikeAt sums begin end j p = let i = low (spanOf sums begin end j) in i * (i - 1) * high (restOf sums begin end j p)
+abbrev pub keptAlikeAt : List ℕ → List ℕ → List ℕ → ℕ → ℕ → ℕ
+keptAlikeAt sums begin end j p = let i = lowPart (spanOf sums begin end j) in i * (i - 1) * high (restOf sums begin end j p)
 
-abbrev pub apartAt : List ℕ → List ℕ → List ℕ → ℕ → ℕ → ℕ
-apartAt sums begin end j p =
-    low (spanOf sums begin end j) * (low (restOf sums begin end j p) * high (spanOf sums begin end j))
+abbrev pub keptApartAt : List ℕ → List ℕ → List ℕ → ℕ → ℕ → ℕ
+keptApartAt sums begin end j p =
+    lowPart (spanOf sums begin end j) * (lowPart (restOf sums begin end j p) * high (spanOf sums begin end j))
 
 -- node j and its parent p
 pub record FourSums (sums begin end : List ℕ) (j p : ℕ) : Type 0 where
@@ -51,8 +51,8 @@ pub record FourSums (sums begin end : List ℕ) (j p : ℕ) : Type 0 where
   pub parent-node : p < nodeRoom
   pub rise : (word sums (word begin j) ≤ word sums (word end j)) × (word sums (word begin p) ≤ word sums (word end p))
   pub inside : spanOf sums begin end j ≤ spanOf sums begin end p
-  pub few : (low (spanOf sums begin end j) ≤ 256) × (high (spanOf sums begin end j) ≤ 256)
-  pub few-rest : (low (restOf sums begin end j p) ≤ 256) × (high (restOf sums begin end j p) ≤ 256)
+  pub few : (lowPart (spanOf sums begin end j) ≤ 256) × (high (spanOf sums begin end j) ≤ 256)
+  pub few-rest : (lowPart (restOf sums begin end j p) ≤ 256) × (high (restOf sums begin end j p) ≤ 256)
 
 -- each listed node of the second table, and its parent
 pub record RowSums (sums begin end second columns : List ℕ) (count : ℕ) : Type 0 where
@@ -60,36 +60,36 @@ pub record RowSums (sums begin end second columns : List ℕ) (count : ℕ) : Ty
   pub listed : (q : ℕ) → q < count → (word columns q ≤ nodeRoom) × (2 + word columns q < length second)
   pub four : (q : ℕ) → q < count → FourSums sums begin end (word columns q) (word second (2 + word columns q))
 
-abbrev pub alikeListed : List ℕ → List ℕ → List ℕ → List ℕ → List ℕ → ℕ → ℕ
-alikeListed sums begin end second columns q = alikeAt sums begin end (word columns q) (word second (2 + word columns q))
+abbrev pub keptAlikeListed : List ℕ → List ℕ → List ℕ → List ℕ → List ℕ → ℕ → ℕ
+keptAlikeListed sums begin end second columns q = keptAlikeAt sums begin end (word columns q) (word second (2 + word columns q))
 
-abbrev pub apartListed : List ℕ → List ℕ → List ℕ → List ℕ → List ℕ → ℕ → ℕ
-apartListed sums begin end second columns q = apartAt sums begin end (word columns q) (word second (2 + word columns q))
+abbrev pub keptApartListed : List ℕ → List ℕ → List ℕ → List ℕ → List ℕ → ℕ → ℕ
+keptApartListed sums begin end second columns q = keptApartAt sums begin end (word columns q) (word second (2 + word columns q))
 
 module _ (sums begin end second columns : List ℕ) (count : ℕ) (h : RowSums sums begin end second columns count) where
   -- sums over the first q listed nodes
   pub listed-low : (q : ℕ) → q ≤ count
-      → (sum q (alikeListed sums begin end second columns) ≤ 17179869184)
-      × (sum q (apartListed sums begin end second columns) ≤ 17179869184)
+      → (sum q (keptAlikeListed sums begin end second columns) ≤ 17179869184)
+      × (sum q (keptApartListed sums begin end second columns) ≤ 17179869184)
   listed-low q l = (
     omega (
       arith,
-      sum-most q 16777216 (alikeListed sums begin end second columns) (λ i m.
+      sum-most q 16777216 (keptAlikeListed sums begin end second columns) (λ i m.
           let f = h .four i (omega arith) in alike-most _ _ (f .few .0) (f .few-rest .1)),
       product-le nodeRoom 16777216 q 16777216 (omega (arith, h .few)) (omega arith),
     ),
     omega (
       arith,
-      sum-most q 16777216 (apartListed sums begin end second columns) (λ i m.
+      sum-most q 16777216 (keptApartListed sums begin end second columns) (λ i m.
           let f = h .four i (omega arith) in apart-most _ _ _ (f .few .0) (f .few-rest .0) (f .few .1)),
       product-le nodeRoom 16777216 q 16777216 (omega (arith, h .few)) (omega arith),
     ),
   )
 
 -- the parts of numbers that are read
-pub parts-few : (x x' y y' : ℕ) → x ≡ x' → y ≡ y' → x' ≤ y' → (low x' ≤ 256) × (high x' ≤ 256)
-    → (low (y' - x') ≤ 256) × (high (y' - x') ≤ 256)
-    → (x ≤ y) × ((low x ≤ 256) × (high x ≤ 256)) × ((low (y - x) ≤ 256) × (high (y - x) ≤ 256))
+pub parts-few : (x x' y y' : ℕ) → x ≡ x' → y ≡ y' → x' ≤ y' → (lowPart x' ≤ 256) × (high x' ≤ 256)
+    → (lowPart (y' - x') ≤ 256) × (high (y' - x') ≤ 256)
+    → (x ≤ y) × ((lowPart x ≤ 256) × (high x ≤ 256)) × ((lowPart (y - x) ≤ 256) × (high (y - x) ≤ 256))
 parts-few x x' y y' a b l f r = rw (a, b) (l, f, r)
 
 -- i labels beyond both edges, x that leave at the second, y that leave at the first, d that leave at both
@@ -113,7 +113,7 @@ last-few : (r y d w : ℕ) → w ≡ r + (y + d) → w ≤ 256 → d ≤ 256
 last-few r y d w e l = omega arith
 
 -- one subtraction for both parts
-halves : (d m x : ℕ) → d < 65536 → x ≡ d + 65536 * m → (low x ≡ d) × (high x ≡ m)
+halves : (d m x : ℕ) → d < 65536 → x ≡ d + 65536 * m → (lowPart x ≡ d) × (high x ≡ m)
 halves d m x l e = rw e (omega arith, omega arith)
 
 -- ---- what is prepared for the rows of two tables
@@ -297,8 +297,8 @@ module _ (t u : Table) (marks : List ℕ) (n : ℕ) (fb fe sb se at columns : Li
 
     -- node j of the second table, and its parent
     four : (j pj : ℕ) → 2 ≤ j → j < nodes u → pj ≡ parent u j
-        → FourSums sums sb se j pj × (alikeAt sums sb se j pj ≡ alikeOver marks (tips t) t u v j)
-        × (apartAt sums sb se j pj ≡ apartOver marks (tips t) t u v j)
+        → FourSums sums sb se j pj × (keptAlikeAt sums sb se j pj ≡ alikeOver marks (tips t) t u v j)
+        × (keptApartAt sums sb se j pj ≡ apartOver marks (tips t) t u v j)
     unfolding alikeOver apartOver alikeTerm apartTerm
     four j pj b m e' =
         let g = h .tree' in
@@ -344,8 +344,8 @@ module _ (t u : Table) (marks : List ℕ) (n : ℕ) (fb fe sb se at columns : Li
         }
 
     -- the columns that are not listed add nothing
-    pub row-terms : (sum count (alikeListed sums sb se u columns) ≡ sum (nodes u - 2) (λ j. alikeOver marks (tips t) t u v (j + 2)))
-        × (sum count (apartListed sums sb se u columns) ≡ sum (nodes u - 2) (λ j. apartOver marks (tips t) t u v (j + 2)))
+    pub row-terms : (sum count (keptAlikeListed sums sb se u columns) ≡ sum (nodes u - 2) (λ j. alikeOver marks (tips t) t u v (j + 2)))
+        × (sum count (keptApartListed sums sb se u columns) ≡ sum (nodes u - 2) (λ j. apartOver marks (tips t) t u v (j + 2)))
     unfolding alikeOver apartOver
     row-terms = (
       sum-ext count _ _ (λ q m. let c = h .column q m in four (word columns q) _ (c .0) (c .1) (parent-word u (word columns q) (c .1)) .1)

@@ -15,7 +15,7 @@ use borrow.Author.Tests.{eq-eqb, ne-eqb, le-leb, lt-leb}
 use Rattle.io.specs.Counts.{Counts}
 use Rattle.listings.specs.declared.figures.Figures.{Figures}
 use Rattle.listings.specs.Lines.{line}
-use Rattle.listings.specs.lemmas.Written.{Written, written, written-both}
+use Rattle.listings.specs.lemmas.Written.{TextWritten, textWritten, written-both}
 use Rattle.listings.specs.Listing.{leavesWord, claimsWord, quartetsWord, distanceWord}
 use Rattle.listings.specs.Listing.{splitsWord, tripletsWord, refusedWord}
 use Rattle.listings.specs.Listing.{firstLines, quartetLines, splitLine, tripletLine, lines, listed}
@@ -25,56 +25,56 @@ use Rattle.listings.specs.Listing.{textRoom}
 -- ---- the lines, one after the other
 
 module _ (f : Figures) (at : ℕ) (old : List ℕ) (middle : ℕ) (new : List ℕ) (end : ℕ) (last : List ℕ) where
-  pub first-lines-written : (tips : ℕ) → tips ≡ f .tips → Written at old (line leavesWord (tips ∷ [])) middle new
-      → Written middle new
+  pub first-lines-written : (tips : ℕ) → tips ≡ f .tips → TextWritten at old (line leavesWord (tips ∷ [])) middle new
+      → TextWritten middle new
       (line claimsWord (f .claims .first ∷ f .claims .second ∷ f .claims .same ∷ f .claims .different ∷ [])) end last
-      → Written at old (firstLines f) end last
+      → TextWritten at old (firstLines f) end last
   unfolding firstLines
   first-lines-written tips e h g =
       written-both at old _ middle new _ end last
-      (subst (λ (x : ℕ). Written at old (line leavesWord (x ∷ [])) middle new) e h) g
+      (subst (λ (x : ℕ). TextWritten at old (line leavesWord (x ∷ [])) middle new) e h) g
 
   pub quartet-lines-written :
-      Written at old
+      TextWritten at old
       (line quartetsWord (f .quartets .a ∷ f .quartets .b ∷ f .quartets .c ∷ f .quartets .d ∷ f .quartets .e ∷ []))
       middle new
-      → Written middle new (line distanceWord (f .distance ∷ [])) end last → Written at old (quartetLines f) end last
+      → TextWritten middle new (line distanceWord (f .distance ∷ [])) end last → TextWritten at old (quartetLines f) end last
   unfolding quartetLines
   quartet-lines-written h g = written-both at old _ middle new _ end last h g
 
   pub last-lines-written : (a b c d : ℕ)
       → a ≡ f .splits .first → b ≡ f .splits .second → c ≡ f .splits .common → d ≡ f .splits .distance
-      → Written at old (line splitsWord (a ∷ b ∷ c ∷ d ∷ [])) middle new
-      → Written middle new
+      → TextWritten at old (line splitsWord (a ∷ b ∷ c ∷ d ∷ [])) middle new
+      → TextWritten middle new
       (line tripletsWord (f .triplets .a ∷ f .triplets .b ∷ f .triplets .c ∷ f .triplets .d ∷ f .triplets .e ∷ []))
       end last
-      → Written at old (splitLine f ++ tripletLine f) end last
+      → TextWritten at old (splitLine f ++ tripletLine f) end last
   unfolding splitLine tripletLine
   last-lines-written a b c d ea eb ec ed h g =
       written-both at old (splitLine f) middle new (tripletLine f) end last (rw (← ea, ← eb, ← ec, ← ed) h) g
 
 pub lines-written : (f : Figures) (old : List ℕ) (i j k : ℕ) (one two three : List ℕ)
-    → Written 0 old (firstLines f) i one → Written i one (quartetLines f) j two
-    → Written j two (splitLine f ++ tripletLine f) k three → Written 0 old (lines f) k three
+    → TextWritten 0 old (firstLines f) i one → TextWritten i one (quartetLines f) j two
+    → TextWritten j two (splitLine f ++ tripletLine f) k three → TextWritten 0 old (lines f) k three
 unfolding lines
 lines-written f old i j k one two three a b c =
-    subst (λ (x : List ℕ). Written 0 old x k three)
+    subst (λ (x : List ℕ). TextWritten 0 old x k three)
     (sym (append-assoc (firstLines f ++ quartetLines f) (splitLine f) (tripletLine f)))
     (written-both 0 old _ j two _ k three (written-both 0 old _ i one _ j two a b) c)
 
 pub listed-accepted : (f : Figures) (old : List ℕ) (end : ℕ) (new : List ℕ) → f .refusal ≡ 0
-    → Written 0 old (lines f) end new → Written 0 old (listed f) end new
+    → TextWritten 0 old (lines f) end new → TextWritten 0 old (listed f) end new
 unfolding listed
 listed-accepted f old end new e h = rw (eq-eqb (f .refusal) 0 e, listed) h
 
 pub listed-refused : (f : Figures) (old : List ℕ) (end : ℕ) (new : List ℕ) (k : ℕ) → k ≡ f .refusal → f .refusal ≢ 0
-    → Written 0 old (line refusedWord (k ∷ [])) end new → Written 0 old (listed f) end new
+    → TextWritten 0 old (line refusedWord (k ∷ [])) end new → TextWritten 0 old (listed f) end new
 unfolding listed
 listed-refused f old end new k e d h = rw (ne-eqb (f .refusal) 0 d, listed) (rw (← e) h)
 
 -- ---- the listing in the lent buffer
 
-module _ (f : Figures) (old text : List ℕ) (n : ℕ) (new : List ℕ) (h : Written 0 text (listed f) n new)
+module _ (f : Figures) (old text : List ℕ) (n : ℕ) (new : List ℕ) (h : TextWritten 0 text (listed f) n new)
     (m : n ≤ textRoom) where
   bytes : take n new ≡ listed f
   bytes = h .text
@@ -83,9 +83,9 @@ module _ (f : Figures) (old text : List ℕ) (n : ℕ) (new : List ℕ) (h : Wri
   count = omega (arith, h .long)
 
   pub listing-fits : n ≤ length old → (r : ℕ) (last : List ℕ) → r ≡ 0 + length (take n new)
-      → last ≡ written 0 (take n new) old
+      → last ≡ textWritten 0 (take n new) old
       → (r ≡ bytesListed f old) × (last ≡ afterListing f old) × (length (listed f) ≤ textRoom)
-  unfolding bytesListed afterListing written
+  unfolding bytesListed afterListing textWritten
   listing-fits l r last er el = (
     rw (fits, bytesListed) (omega (arith, ap length bytes)),
     rw (fits, afterListing) (el ∙ after),
@@ -95,8 +95,8 @@ module _ (f : Figures) (old text : List ℕ) (n : ℕ) (new : List ℕ) (h : Wri
       fits : leb (length (listed f)) (length old) ≡ true
       fits = le-leb (length (listed f)) (length old) (omega (arith, count))
 
-      after : written 0 (take n new) old ≡ listed f ++ drop (length (listed f)) old
-      after = rw bytes (rw (zero-add, written))
+      after : textWritten 0 (take n new) old ≡ listed f ++ drop (length (listed f)) old
+      after = rw bytes (rw (zero-add, textWritten))
 
   pub listing-short : length old < n
       → (0 ≡ bytesListed f old) × (old ≡ afterListing f old) × (length (listed f) ≤ textRoom)

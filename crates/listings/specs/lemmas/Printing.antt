@@ -11,7 +11,7 @@ use Rattle.io.specs.Digits.{digits, Fewest}
 use Rattle.listings.specs.lemmas.DecimalLaws.{decimal-fewest}
 use Rattle.listings.specs.Lines.{spaced, spacedAll, line}
 use Rattle.listings.specs.lemmas.LineLaws.{spaced-none, spaced-snoc}
-use Rattle.listings.specs.lemmas.Written.{Written, written, written-both, written-after, byte-written}
+use Rattle.listings.specs.lemmas.Written.{TextWritten, textWritten, written-both, written-after, byte-written}
 
 -- ---- a number: a space, then the first k bytes of what `io::decimal` leaves
 
@@ -20,11 +20,11 @@ module _ (at : ℕ) (old ds : List ℕ) (k : ℕ) (room : at + 21 ≤ length old
   number-room = omega (arith, length-take-le k ds fits, length-set old at 32)
 
   pub number-written : (n : ℕ) → Fewest 10 1 n k → take k ds ≡ digits 10 k n → (end : ℕ) (new : List ℕ)
-      → (end ≡ at + 1 + length (take k ds)) × (new ≡ written (at + 1) (take k ds) (set old at 32))
-      → Written at old (spaced n) end new × (end ≤ at + 21)
+      → (end ≡ at + 1 + length (take k ds)) × (new ≡ textWritten (at + 1) (take k ds) (set old at 32))
+      → TextWritten at old (spaced n) end new × (end ≤ at + 21)
   unfolding spaced
   number-written n f e end new h = (
-    subst (λ (x : List ℕ). Written at old (32 ∷ x) end new) (e ∙ sym (decimal-fewest n k f))
+    subst (λ (x : List ℕ). TextWritten at old (32 ∷ x) end new) (e ∙ sym (decimal-fewest n k f))
         (written-both at old (32 ∷ []) (at + 1) (set old at 32) (take k ds) end new
         (byte-written at old 32 (omega arith))
         (rw (h .1) (written-after (at + 1) (take k ds) (set old at 32) end number-room (h .0)))),
@@ -33,33 +33,33 @@ module _ (at : ℕ) (old ds : List ℕ) (k : ℕ) (room : at + 21 ≤ length old
 
 -- ---- numbers, one after the other
 
-pub numbers-none : (at : ℕ) (old : List ℕ) → Written at old (spacedAll []) at old
+pub numbers-none : (at : ℕ) (old : List ℕ) → TextWritten at old (spacedAll []) at old
 numbers-none at old = rw spaced-none (record { long = omega arith; text = sym (append-nil (take at old)) })
 
 pub numbers-next : (at : ℕ) (old numbers : List ℕ) (i middle : ℕ) (new : List ℕ) (end : ℕ) (last : List ℕ)
-    → i < length numbers → Written at old (spacedAll (take i numbers)) middle new
-    → Written middle new (spaced (getD numbers i 0)) end last
-    → Written at old (spacedAll (take (i + 1) numbers)) end last
+    → i < length numbers → TextWritten at old (spacedAll (take i numbers)) middle new
+    → TextWritten middle new (spaced (getD numbers i 0)) end last
+    → TextWritten at old (spacedAll (take (i + 1) numbers)) end last
 numbers-next at old numbers i middle new end last l h g =
-    subst (λ (x : List ℕ). Written at old x end last) (sym more)
+    subst (λ (x : List ℕ). TextWritten at old x end last) (sym more)
     (written-both at old (spacedAll (take i numbers)) middle new (spaced (getD numbers i 0)) end last h g)
   where
     more : spacedAll (take (i + 1) numbers) ≡ spacedAll (take i numbers) ++ spaced (getD numbers i 0)
     more = rw (add-one, take-suc numbers i 0) (spaced-snoc (take i numbers) (getD numbers i 0))
 
 pub numbers-all : (at : ℕ) (old numbers : List ℕ) (i end : ℕ) (new : List ℕ) → i ≡ length numbers
-    → Written at old (spacedAll (take i numbers)) end new → Written at old (spacedAll numbers) end new
+    → TextWritten at old (spacedAll (take i numbers)) end new → TextWritten at old (spacedAll numbers) end new
 numbers-all at old numbers i end new e h =
-    subst (λ (x : List ℕ). Written at old (spacedAll x) end new)
+    subst (λ (x : List ℕ). TextWritten at old (spacedAll x) end new)
     (ap (λ (x : ℕ). take x numbers) e ∙ take-length numbers) h
 
 -- ---- a line: the word, the numbers, the line end
 
 pub line-written : (at : ℕ) (old word numbers : List ℕ) (middle : ℕ) (new : List ℕ) (end : ℕ) (last : List ℕ)
     → at + length word ≤ length old → end < length last
-    → (middle ≡ at + length word) × (new ≡ written at word old)
-    → Written middle new (spacedAll numbers) end last
-    → Written at old (line word numbers) (end + 1) (set last end 10)
+    → (middle ≡ at + length word) × (new ≡ textWritten at word old)
+    → TextWritten middle new (spacedAll numbers) end last
+    → TextWritten at old (line word numbers) (end + 1) (set last end 10)
 unfolding line
 line-written at old word numbers middle new end last l m h g =
     written-both at old word middle new (spacedAll numbers ++ (10 ∷ [])) (end + 1) (set last end 10)

@@ -11,16 +11,16 @@ use lib.Seq.{take-suc, take-all, take-append-seam, take-suc-set, length-take-le}
 use lib.Seq.{drop-cons, append-snoc, set-append-seam}
 
 -- the text with the bytes at a position
-unfoldable pub written : ℕ → List ℕ → List ℕ → List ℕ
-written at bytes old = take at old ++ (bytes ++ drop (at + length bytes) old)
+unfoldable pub textWritten : ℕ → List ℕ → List ℕ → List ℕ
+textWritten at bytes old = take at old ++ (bytes ++ drop (at + length bytes) old)
 
 -- the text that ended at `at` has the bytes after it, and ends at `end`
-pub record Written (at : ℕ) (old bytes : List ℕ) (end : ℕ) (new : List ℕ) : Type 0 where
+pub record TextWritten (at : ℕ) (old bytes : List ℕ) (end : ℕ) (new : List ℕ) : Type 0 where
   pub long : end ≡ at + length bytes
   pub text : take end new ≡ take at old ++ bytes
 
 pub written-both : (at : ℕ) (old a : List ℕ) (middle : ℕ) (new b : List ℕ) (end : ℕ) (last : List ℕ)
-    → Written at old a middle new → Written middle new b end last → Written at old (a ++ b) end last
+    → TextWritten at old a middle new → TextWritten middle new b end last → TextWritten at old (a ++ b) end last
 written-both at old a middle new b end last h g = record {
   long = omega (arith, h .long, g .long, length-append a b);
   text = g .text ∙ ap (λ (x : List ℕ). x ++ b) (h .text) ∙ append-assoc (take at old) a b;
@@ -34,8 +34,8 @@ front-length at bytes old i e l =
     omega (arith, length-append (take at old) bytes, length-take-le at old (omega arith))
 
 written-is : (at : ℕ) (bytes old : List ℕ) (i : ℕ) → length bytes ≡ i
-    → written at bytes old ≡ take at old ++ bytes ++ drop (at + i) old
-unfolding written
+    → textWritten at bytes old ≡ take at old ++ bytes ++ drop (at + i) old
+unfolding textWritten
 written-is at bytes old i e =
     sym (append-assoc (take at old) bytes (drop (at + length bytes) old))
     ∙ ap (λ (x : ℕ). take at old ++ bytes ++ drop (at + x) old) e
@@ -49,14 +49,14 @@ front-next front old n b e l =
     ∙ sym (append-snoc front b (drop (suc n) old))
     ∙ ap (λ (x : ℕ). front ++ (b ∷ []) ++ drop x old) (sym (add-one n))
 
-pub written-none : (at : ℕ) (bytes old : List ℕ) → old ≡ written at (take 0 bytes) old
+pub written-none : (at : ℕ) (bytes old : List ℕ) → old ≡ textWritten at (take 0 bytes) old
 written-none at bytes old = sym (written-is at [] old 0 refl ∙ none)
   where
     none : take at old ++ [] ++ drop (at + 0) old ≡ old
     none = rw (append-nil, add-zero) (take-append-drop at old)
 
 pub written-next : (at : ℕ) (bytes old : List ℕ) (i : ℕ) → at + length bytes ≤ length old → i < length bytes
-    → set (written at (take i bytes) old) (at + i) (getD bytes i 0) ≡ written at (take (i + 1) bytes) old
+    → set (textWritten at (take i bytes) old) (at + i) (getD bytes i 0) ≡ textWritten at (take (i + 1) bytes) old
 written-next at bytes old i l k =
     let b = getD bytes i 0 in
     let now = length-take-le i bytes (omega arith) in
@@ -75,13 +75,13 @@ written-next at bytes old i l k =
     sum a i = omega arith
 
 pub written-all : (at : ℕ) (bytes old : List ℕ) (i : ℕ) → i ≡ length bytes
-    → written at (take i bytes) old ≡ written at bytes old
-written-all at bytes old i e = ap (λ (x : List ℕ). written at x old) (take-all i bytes (omega arith))
+    → textWritten at (take i bytes) old ≡ textWritten at bytes old
+written-all at bytes old i e = ap (λ (x : List ℕ). textWritten at x old) (take-all i bytes (omega arith))
 
 -- ---- what is written comes after the text
 
 pub written-after : (at : ℕ) (bytes old : List ℕ) (end : ℕ) → at + length bytes ≤ length old
-    → end ≡ at + length bytes → Written at old bytes end (written at bytes old)
+    → end ≡ at + length bytes → TextWritten at old bytes end (textWritten at bytes old)
 written-after at bytes old end l e = record {
   long = e;
   text =
@@ -92,5 +92,5 @@ written-after at bytes old end l e = record {
 }
 
 pub byte-written : (at : ℕ) (old : List ℕ) (b : ℕ) → at < length old
-    → Written at old (b ∷ []) (at + 1) (set old at b)
+    → TextWritten at old (b ∷ []) (at + 1) (set old at b)
 byte-written at old b l = record { long = refl; text = rw add-one (take-suc-set old at b l) }

@@ -24,7 +24,7 @@ use Rattle.one_label.specs.declared.answers.FiveCounts.{FiveCounts}
 use Rattle.one_label.specs.FiveAnswers.{Counts, countsOf}
 use Rattle.one_label.specs.Changes.{restores, changeOrder, marksAfter}
 use Rattle.one_label.specs.theorems.ChangeLaws.{Fresh, answerCounts, answer-number, answer-counts, change-check, fresh-changed, fresh-number as change-number}
-use Rattle.mark_changes.specs.theorems.Sequences.{tableCounts, LabelWish, Shown, answered, marksLeft, afterWish, afterWishes, CountedAfresh}
+use Rattle.mark_changes.specs.theorems.Sequences.{tableCounts, LabelWish, CallerState, answerTo, marksLeft, afterWish, afterWishes, CountedAfresh}
 
 -- five counts that are those of each case
 five-of : (c : FiveCounts) (r : Counts) → ((k : Case) → countsOf c k ≡ r k) → c ≡ record { a = r A; b = r B; c = r C; d = r D; e = r E }
@@ -32,18 +32,18 @@ five-of c r h = rw (sym (h A), sym (h B), sym (h C), sym (h D), sym (h E)) refl
 
 -- ---- one call
 
-abbrev Right : Table → Table → Shown → Type 0
+abbrev Right : Table → Table → CallerState → Type 0
 Right t u s = Fresh t u (s .marks) (countsOf (s .counts))
 
-module _ (t u : Table) (p : IsPair t u) (s : Shown) (f : Right t u s) (w : LabelWish) where
+module _ (t u : Table) (p : IsPair t u) (s : CallerState) (f : Right t u s) (w : LabelWish) where
   abbrev number : ℕ
   number = refusal (changeOrder t u (s .marks) (s .counts) (w .label) (w .wish))
 
-  told : answered t u s w .refusal ≡ number
+  told : answerTo t u s w .refusal ≡ number
   told = answer-number t u (s .marks) (s .counts) (w .label) (w .wish)
 
   -- the marks and the counts of an accepted call are those of a fresh count
-  accepted-right : number ≡ 0 → Fresh t u (marksLeft t u s w) (countsOf (answerCounts (answered t u s w)))
+  accepted-right : number ≡ 0 → Fresh t u (marksLeft t u s w) (countsOf (answerCounts (answerTo t u s w)))
   unfolding marksAfter
   accepted-right e =
       let a = change-check t u (s .marks) (s .counts) (w .label) (w .wish) .0 e in
@@ -56,14 +56,14 @@ module _ (t u : Table) (p : IsPair t u) (s : Shown) (f : Right t u s) (w : Label
   right-after : Right t u (afterWish t u s w)
   unfolding afterWish
   right-after = elim (ℕ-discrete number 0) [
-    | yes e ↦ rw (if-accepted (answered t u s w .refusal) (answerCounts (answered t u s w)) (s .counts) (told ∙ e)) (accepted-right e)
-    | no d ↦ rw (if-refused (answered t u s w .refusal) (answerCounts (answered t u s w)) (s .counts) (λ q. d (sym told ∙ q)))
+    | yes e ↦ rw (if-accepted (answerTo t u s w .refusal) (answerCounts (answerTo t u s w)) (s .counts) (told ∙ e)) (accepted-right e)
+    | no d ↦ rw (if-refused (answerTo t u s w .refusal) (answerCounts (answerTo t u s w)) (s .counts) (λ q. d (sym told ∙ q)))
         (unfold marksAfter in rw (if-refused number (set (s .marks) (w .label) (bit (restores (w .wish)))) (s .marks) d) f)
   ]
 
 -- ---- any number of calls
 
-right-always : (t u : Table) → IsPair t u → (s : Shown) → Right t u s → (ws : List LabelWish) → Right t u (afterWishes t u s ws)
+right-always : (t u : Table) → IsPair t u → (s : CallerState) → Right t u s → (ws : List LabelWish) → Right t u (afterWishes t u s ws)
 unfolding afterWishes
 right-always t u p s f [] = f
 right-always t u p s f (w ∷ ws) = right-always t u p (afterWish t u s w) (right-after t u p s f w) ws
@@ -74,7 +74,7 @@ module _ (t u : Table) (cells : ℕ) (p : PairWithCells t u cells) where
       five-of c (quartets (kept marks (tips t)) t u) (f .counted)
       ∙ ap tableCounts (sym (accepted t u marks cells (record { with-cells = p; marked = f .marked })))
 
-  holds : (s : Shown) → Right t u s → CountedAfresh t u cells s
+  holds : (s : CallerState) → Right t u s → CountedAfresh t u cells s
   holds s f = record {
     fresh-number = demand-three t u (s .marks) cells .number
         ∙ pair-check t u (s .marks) cells .1 (record { with-cells = p; marked = f .marked });
@@ -87,7 +87,7 @@ module _ (t u : Table) (cells : ℕ) (p : PairWithCells t u cells) where
     next-counts = λ w e. table-is _ _ (accepted-right t u (p .pair) s f w (sym (told t u (p .pair) s f w) ∙ e));
   }
     where
-      next : (w : LabelWish) → (answered t u s w .refusal ≡ 0) ⊎ ((answered t u s w .refusal ≡ 10) ⊎ (answered t u s w .refusal ≡ 33))
+      next : (w : LabelWish) → (answerTo t u s w .refusal ≡ 0) ⊎ ((answerTo t u s w .refusal ≡ 10) ⊎ (answerTo t u s w .refusal ≡ 33))
       next w =
           let q = told t u (p .pair) s f w in
           elim (change-number t u (p .pair) (s .marks) (s .counts) f (w .label) (w .wish)) [

@@ -24,37 +24,37 @@ pub record LabelWish : Type 0 where
   pub wish : Wish
 
 -- the marks and the counts that a caller has
-pub record Shown : Type 0 where
+pub record CallerState : Type 0 where
   pub marks : List ℕ
   pub counts : FiveCounts
 
 -- what `change_mark` answers to a wish, and the marks that it leaves
-abbrev pub answered : Table → Table → Shown → LabelWish → FiveAnswer
-answered t u s w = changeAnswer t u (s .marks) (s .counts) (w .label) (w .wish)
+abbrev pub answerTo : Table → Table → CallerState → LabelWish → FiveAnswer
+answerTo t u s w = changeAnswer t u (s .marks) (s .counts) (w .label) (w .wish)
 
-abbrev pub marksLeft : Table → Table → Shown → LabelWish → List ℕ
+abbrev pub marksLeft : Table → Table → CallerState → LabelWish → List ℕ
 marksLeft t u s w = marksAfter t u (s .marks) (s .counts) (w .label) (w .wish)
 
 -- after a call: the marks that it leaves, and the counts of its answer, or those that stood if it told a number
-unfoldable pub afterWish : Table → Table → Shown → LabelWish → Shown
+unfoldable pub afterWish : Table → Table → CallerState → LabelWish → CallerState
 afterWish t u s w = record {
   marks = marksLeft t u s w;
-  counts = ifAccepted (answered t u s w .refusal) (answerCounts (answered t u s w)) (s .counts);
+  counts = ifAccepted (answerTo t u s w .refusal) (answerCounts (answerTo t u s w)) (s .counts);
 }
 
 -- .. and after any number of calls
-unfoldable pub afterWishes : Table → Table → Shown → List LabelWish → Shown
+unfoldable pub afterWishes : Table → Table → CallerState → List LabelWish → CallerState
 afterWishes t u s [] = s
 afterWishes t u s (w ∷ ws) = afterWishes t u (afterWish t u s w) ws
 
 -- what the sequence theorem says of the marks and the counts that a caller has
-pub record CountedAfresh (t u : Table) (cells : ℕ) (s : Shown) : Type 0 where
+pub record CountedAfresh (t u : Table) (cells : ℕ) (s : CallerState) : Type 0 where
   -- the quartet table under these marks is accepted, and tells these counts
   pub fresh-number : quartetAnswer t u (s .marks) cells .refusal ≡ 0
   pub fresh-counts : s .counts ≡ tableCounts (quartetAnswer t u (s .marks) cells)
   -- whatever is wished next, the number is 0, 10 or 33, and so never 34
-  pub next-number : (w : LabelWish) → (answered t u s w .refusal ≡ 0) ⊎ ((answered t u s w .refusal ≡ 10) ⊎ (answered t u s w .refusal ≡ 33))
-  pub never-34 : (w : LabelWish) → answered t u s w .refusal ≢ 34
+  pub next-number : (w : LabelWish) → (answerTo t u s w .refusal ≡ 0) ⊎ ((answerTo t u s w .refusal ≡ 10) ⊎ (answerTo t u s w .refusal ≡ 33))
+  pub never-34 : (w : LabelWish) → answerTo t u s w .refusal ≢ 34
   -- if it is 0, the answer's counts are those of the quartet table under the marks that the call leaves
-  pub next-counts : (w : LabelWish) → answered t u s w .refusal ≡ 0
-      → answerCounts (answered t u s w) ≡ tableCounts (quartetAnswer t u (marksLeft t u s w) cells)
+  pub next-counts : (w : LabelWish) → answerTo t u s w .refusal ≡ 0
+      → answerCounts (answerTo t u s w) ≡ tableCounts (quartetAnswer t u (marksLeft t u s w) cells)

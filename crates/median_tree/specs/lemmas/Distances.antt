@@ -12,7 +12,7 @@ use Rattle.tree_check.specs.theorems.RefusalLaws.{if-accepted}
 use Rattle.tree_lists.specs.TreeLists.{treesOf, treeAt, edgesAt}
 use Rattle.tree_lists.specs.theorems.ListLaws.{largest-ge}
 use Rattle.tree_lists.specs.theorems.ListCheck.{IsTreeList}
-use Rattle.tree_lists.specs.lemmas.Starts.{Starts}
+use Rattle.tree_lists.specs.lemmas.Starts.{TableStarts}
 use Rattle.marks.specs.theorems.Ones.{ones, ones-marks, ones-taken}
 use Rattle.counting.specs.Labels.{all}
 use Rattle.counting.specs.Kept.{kept}
@@ -23,7 +23,7 @@ use Rattle.tree_pairs.specs.Crossings.{crossedKept, afterCrossings}
 use Rattle.quartets.specs.declared.tables.QuartetTable.{QuartetTable}
 use Rattle.quartets.specs.QuartetAnswer.{quartetAnswer}
 use Rattle.quartets.specs.theorems.AllMarksOne.{all-marks-one, ones-marked}
-use Rattle.median_tree.specs.Nearest.{apart, listCells}
+use Rattle.median_tree.specs.Nearest.{distanceOf, listCells}
 use Rattle.median_tree.specs.lemmas.SameCells.{SameFrom, same-later, same-crossed}
 
 module _ (t u : Table) (p : IsPair t u) (n : ℕ) (e : n ≡ tips t) where
@@ -57,10 +57,10 @@ module _ (t u : Table) (p : IsPair t u) (n : ℕ) (e : n ≡ tips t) where
 -- ---- two trees of a list
 
 -- a list that is ready to be summed: its starts, its n, and cells enough
-pub record Ready (list starts : List ℕ) (n cells : ℕ) : Type 0 where
+pub record ListReady (list starts : List ℕ) (n cells : ℕ) : Type 0 where
   pub list-is : IsTreeList list
   pub has-word : 1 ≤ length list
-  pub starts-are : Starts list (treesOf list) starts
+  pub starts-are : TableStarts list (treesOf list) starts
   pub tips-is : n ≡ tips (treeAt list 0)
   pub room : listCells list ≤ cells
 
@@ -78,7 +78,7 @@ module _ (list : List ℕ) (s : IsTreeList list) (i j : ℕ) (li : i < treesOf l
   list-room = mul-le-mul (largest-ge (treesOf list) (edgesAt list) i li) (largest-ge (treesOf list) (edgesAt list) j lj)
 
 -- .. as they are lent
-module _ (list starts : List ℕ) (n cells : ℕ) (w : Ready list starts n cells) (i j : ℕ) (li : i < treesOf list) (lj : j < treesOf list)
+module _ (list starts : List ℕ) (n cells : ℕ) (w : ListReady list starts n cells) (i j : ℕ) (li : i < treesOf list) (lj : j < treesOf list)
     (t u : Table) (et : t ≡ treeAt list i) (eu : u ≡ treeAt list j) where
   pub pair-ready : IsPair t u × (n ≡ tips t) × (cellsNeeded t u ≤ cells)
   pair-ready = rw (et, eu) (
@@ -88,8 +88,8 @@ module _ (list starts : List ℕ) (n cells : ℕ) (w : Ready list starts n cells
   )
 
   pub told-apart : (old new : List ℕ) (r : ℕ) → r ≡ distance (all (tips t)) t u → SameFrom (cellsNeeded t u) old new
-      → (r ≡ apart list i j) × SameFrom (listCells list) old new
-  unfolding apart
+      → (r ≡ distanceOf list i j) × SameFrom (listCells list) old new
+  unfolding distanceOf
   told-apart old new r e f = (
     e ∙ ap (λ (m : ℕ). distance (all m) t u) (ap tips et ∙ w .list-is .same-tips i li)
         ∙ ap₂ (λ (x y : Table). distance (all (tips (treeAt list 0))) x y) et eu,
@@ -97,8 +97,8 @@ module _ (list starts : List ℕ) (n cells : ℕ) (w : Ready list starts n cells
   )
 
 -- a call leaves the list ready
-pub ready-still : {list starts : List ℕ} {n k : ℕ} {old new : List ℕ} → Ready list starts n (length old) → SameFrom k old new
-    → Ready list starts n (length new)
+pub ready-still : {list starts : List ℕ} {n k : ℕ} {old new : List ℕ} → ListReady list starts n (length old) → SameFrom k old new
+    → ListReady list starts n (length new)
 ready-still w f = record {
   list-is = w .list-is;
   has-word = w .has-word;

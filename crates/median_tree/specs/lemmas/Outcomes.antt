@@ -20,18 +20,18 @@ use Rattle.tree_lists.specs.lemmas.Starts.{starts-known}
 use Rattle.pair_check.specs.Clearing.{zeroed}
 use Rattle.median_tree.specs.declared.median.NearestAnswer.{NearestAnswer}
 use Rattle.median_tree.specs.Least.{firstLeast}
-use Rattle.median_tree.specs.Nearest.{apart, sumTo, listCells, nearestOrder, refusedNearest, nearestAnswer, afterNearest}
+use Rattle.median_tree.specs.Nearest.{distanceOf, sumTo, listCells, nearestOrder, refusedNearest, nearestAnswer, afterNearest}
 use Rattle.median_tree.specs.theorems.NearestLaws.{list-away, few-cells, cells-enough, nearest-told}
 use Rattle.median_tree.specs.lemmas.SameCells.{SameFrom, cleared-after}
-use Rattle.median_tree.specs.lemmas.Distances.{Ready}
+use Rattle.median_tree.specs.lemmas.Distances.{ListReady}
 use Rattle.median_tree.specs.lemmas.RowSums.{Sums, least-alike}
 
-abbrev pub Answered : List ℕ → List ℕ → NearestAnswer → List ℕ → Type 0
-Answered list work r new = (r ≡ nearestAnswer list (length work)) × (new ≡ afterNearest list work)
+abbrev pub NearestAnswered : List ℕ → List ℕ → NearestAnswer → List ℕ → Type 0
+NearestAnswered list work r new = (r ≡ nearestAnswer list (length work)) × (new ≡ afterNearest list work)
 
 module _ (list work : List ℕ) where
   turned-away : (k : ℕ) → refusal (nearestOrder list (length work)) ≡ k → k ≢ 0 → (r : NearestAnswer) → r ≡ refusedNearest k
-      → Answered list work r work
+      → NearestAnswered list work r work
   unfolding nearestAnswer afterNearest
   turned-away k e d r h = (
     h ∙ ap refusedNearest (sym e) ∙ sym (if-refused _ _ _ (λ z. d (sym e ∙ z))),
@@ -43,7 +43,7 @@ module _ (list work : List ℕ) where
     number = ap (λ (x : TreeList). x .refusal) ec ∙ number-told list
 
     -- 38 and 39
-    pub refused-list : c .refusal ≢ 0 → (r : NearestAnswer) → r ≡ refusedNearest (c .refusal) → Answered list work r work
+    pub refused-list : c .refusal ≢ 0 → (r : NearestAnswer) → r ≡ refusedNearest (c .refusal) → NearestAnswered list work r work
     refused-list d r h =
         turned-away (c .refusal) (list-away list (length work) (λ z. d (number ∙ z)) ∙ sym number) d r h
 
@@ -77,7 +77,7 @@ module _ (list work : List ℕ) where
       cells-told = ap₂ (λ (x y : ℕ). x * y) edges-told edges-told
 
       -- 9
-      pub short-work : length work < c .edges * c .edges → (r : NearestAnswer) → r ≡ refusedNearest 9 → Answered list work r work
+      pub short-work : length work < c .edges * c .edges → (r : NearestAnswer) → r ≡ refusedNearest 9 → NearestAnswered list work r work
       short-work l r h =
           turned-away 9 (few-cells list (length work) list-is (subst (λ (x : ℕ). length work < x) cells-told l)) (λ e. omega (arith, e)) r h
 
@@ -85,7 +85,7 @@ module _ (list work : List ℕ) where
         enough : listCells list ≤ length work
         enough = subst (λ (x : ℕ). x ≤ length work) cells-told room
 
-        pub ready : Ready list (c .starts) (c .tips) (length work)
+        pub ready : ListReady list (c .starts) (c .tips) (length work)
         ready = record {
           list-is = list-is;
           has-word = has-word list (list-is .some-trees);
@@ -95,13 +95,13 @@ module _ (list work : List ℕ) where
         }
 
         -- told, and cleared
-        pub nearest-found : (sums between after : List ℕ) → Sums (apart list) (c .trees) 0 sums → SameFrom (listCells list) work between
+        pub nearest-found : (sums between after : List ℕ) → Sums (distanceOf list) (c .trees) 0 sums → SameFrom (listCells list) work between
             → after ≡ zeroed (c .edges * c .edges) between → (p q : ℕ) → p ≡ firstLeast (word sums) (c .trees) → p < c .trees
-            → q ≡ p % 65536 → Answered list work (record { refusal = 0; position = q; sum = word sums p }) after
+            → q ≡ p % 65536 → NearestAnswered list work (record { refusal = 0; position = q; sum = word sums p }) after
         nearest-found sums between after h same cleared p q ep lp eq = (answer, cells)
           where
             at : (a : ℕ) → a < c .trees → word sums a ≡ sumTo list a
-            at a l = unfold sumTo in (h .not-yet a (omega arith) l ∙ ap (λ (j : ℕ). sum j (apart list a)) trees-told)
+            at a l = unfold sumTo in (h .not-yet a (omega arith) l ∙ ap (λ (j : ℕ). sum j (distanceOf list a)) trees-told)
 
             place : p ≡ firstLeast (sumTo list) (treesOf list)
             place = ep ∙ least-alike (word sums) (sumTo list) (c .trees) at ∙ ap (firstLeast (sumTo list)) trees-told

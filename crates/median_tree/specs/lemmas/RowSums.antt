@@ -14,10 +14,10 @@ use Rattle.sums.specs.theorems.SumLaws.{sum-suc, sum-mono, sum-const}
 use Rattle.tree_check.specs.Table.{word}
 use Rattle.tree_lists.specs.TreeLists.{treesMost, treesOf}
 use Rattle.median_tree.specs.Least.{firstLeast}
-use Rattle.median_tree.specs.Nearest.{apart}
+use Rattle.median_tree.specs.Nearest.{distanceOf}
 use Rattle.median_tree.specs.theorems.LeastLaws.{less, no-less, least-of-one, is-first-least, least-only}
 use Rattle.median_tree.specs.theorems.NearestLaws.{apart-either, apart-self, apart-most}
-use Rattle.median_tree.specs.lemmas.Distances.{Ready}
+use Rattle.median_tree.specs.lemmas.Distances.{ListReady}
 
 -- the trees below i are summed among one another, and tree i against those below j, on both sides
 pub record Sums (d : ℕ → ℕ → ℕ) (i j : ℕ) (cells : List ℕ) : Type 0 where
@@ -131,11 +131,11 @@ least-keeps f i p e l =
 
 -- ---- of a list
 
-module _ (list starts : List ℕ) (n cells : ℕ) (w : Ready list starts n cells) (i : ℕ) (li : i < treesOf list) where
+module _ (list starts : List ℕ) (n cells : ℕ) (w : ListReady list starts n cells) (i : ℕ) (li : i < treesOf list) where
   -- the first sum is added to, and the second
-  module _ (j : ℕ) (lj : j < i) (sums : List ℕ) (h : Sums (apart list) i j sums) (x : ℕ) (e : x ≡ apart list i j) where
+  module _ (j : ℕ) (lj : j < i) (sums : List ℕ) (h : Sums (distanceOf list) i j sums) (x : ℕ) (e : x ≡ distanceOf list i j) where
     small : (a : ℕ) → a ≤ i → word sums a ≤ 2796682240
-    small a la = sums-small (apart list) i j sums h 174792640 (treesOf list) (w .list-is .few-trees) li (omega arith)
+    small a la = sums-small (distanceOf list) i j sums h 174792640 (treesOf list) (w .list-is .few-trees) li (omega arith)
         (apart-most list (w .list-is)) a la
 
     most : x ≤ 174792640
@@ -155,13 +155,13 @@ module _ (list starts : List ℕ) (n cells : ℕ) (w : Ready list starts n cells
       | no d ↦ omega (arith, small b lb, most, getD-set-other sums a b (word sums a + x) 0 d)
     ]
 
-    pub added : Sums (apart list) i (j + 1)
+    pub added : Sums (distanceOf list) i (j + 1)
         (set (set sums i (word sums i + x)) j (word (set sums i (word sums i + x)) j + x))
-    added = sums-next (apart list) i j sums h lj (omega (arith, w .list-is .few-trees)) x e (apart-either list i j)
+    added = sums-next (distanceOf list) i j sums h lj (omega (arith, w .list-is .few-trees)) x e (apart-either list i j)
 
-  pub row-done : (sums : List ℕ) (j : ℕ) → j ≡ i → Sums (apart list) i j sums → Sums (apart list) (i + 1) 0 sums
-  row-done sums j e h = sums-row (apart list) i sums (apart-self list (w .list-is) i li)
-      (subst (λ (m : ℕ). Sums (apart list) i m sums) e h)
+  pub row-done : (sums : List ℕ) (j : ℕ) → j ≡ i → Sums (distanceOf list) i j sums → Sums (distanceOf list) (i + 1) 0 sums
+  row-done sums j e h = sums-row (distanceOf list) i sums (apart-self list (w .list-is) i li)
+      (subst (λ (m : ℕ). Sums (distanceOf list) i m sums) e h)
 
 -- functions that agree below k have the same first least position
 pub least-alike : (f g : ℕ → ℕ) (k : ℕ) → ((a : ℕ) → a < k → f a ≡ g a) → firstLeast f k ≡ firstLeast g k

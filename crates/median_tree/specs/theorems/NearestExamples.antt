@@ -18,7 +18,7 @@ use Rattle.trees.specs.Topology.{butterfly, partner, named, topology}
 use Rattle.walks.specs.theorems.WalkExamples.{P, Q, R, W, ThreeTips}
 use Rattle.counting.specs.Cases.{caseOf, isCase, topologyAt, quartets}
 use Rattle.median_tree.specs.Least.{firstLeast}
-use Rattle.median_tree.specs.Nearest.{apart, sumTo, listCells, nearestOrder, nearestAnswer}
+use Rattle.median_tree.specs.Nearest.{distanceOf, sumTo, listCells, nearestOrder, nearestAnswer}
 
 abbrev told : List ℕ → ℕ → List ℕ
 told list cells = let r = nearestAnswer list cells in r .refusal ∷ r .position ∷ r .sum ∷ []
@@ -31,7 +31,7 @@ pub lists-told :
     ≡ (0 ∷ 1 ∷ 4 ∷ []) ∷ (0 ∷ 0 ∷ 2 ∷ []) ∷ (0 ∷ 0 ∷ 0 ∷ []) ∷ (9 ∷ 0 ∷ 0 ∷ []) ∷ (9 ∷ 0 ∷ 0 ∷ []) ∷ []
 unfolding
     nearestAnswer nearestOrder ifAccepted refusal listOrder listCells largest edgesAt wrongTree treeAt startOf tableLength firstTable treesOf
-    firstLeast sumTo apart
+    firstLeast sumTo distanceOf
     treeOrder arraysOrder tipsFit nodesFit parentFits labelFits standing labelsFit labelsOnce isChild children misplaced
     quartets topologyAt isCase caseOf topology named partner butterfly parts parted sets2 sets3 sets4 sum bit some every
     ancIn anc tips nodes parents labels parent label nodeBelow nodeOf

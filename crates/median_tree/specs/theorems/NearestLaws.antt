@@ -27,14 +27,14 @@ use Rattle.counting.specs.theorems.TipLabels.{alone-at}
 use Rattle.counting.specs.theorems.QuartetTheorem.{QuartetTheorem, quartet-theorem}
 use Rattle.metric.specs.theorems.TreesExchanged.{trees-exchanged}
 use Rattle.median_tree.specs.Least.{firstLeast}
-use Rattle.median_tree.specs.Nearest.{apart, sumTo, listCells, nearestOrder, nearestOf, refusedNearest, nearestAnswer}
+use Rattle.median_tree.specs.Nearest.{distanceOf, sumTo, listCells, nearestOrder, nearestOf, refusedNearest, nearestAnswer}
 use Rattle.median_tree.specs.theorems.LeastLaws.{IsFirstLeast, is-first-least, least-only}
 
 -- ---- distances and sums
 
 -- from either of two trees the distance is the same
-pub apart-either : (list : List ℕ) (i j : ℕ) → apart list i j ≡ apart list j i
-unfolding apart
+pub apart-either : (list : List ℕ) (i j : ℕ) → distanceOf list i j ≡ distanceOf list j i
+unfolding distanceOf
 apart-either list i j = trees-exchanged (all (tips (treeAt list 0))) (treeAt list j) (treeAt list i) .distance-stays
 
 module _ (list : List ℕ) (s : IsTreeList list) where
@@ -44,14 +44,14 @@ module _ (list : List ℕ) (s : IsTreeList list) where
       (s .same-tips i li ∙ sym (s .same-tips j lj)) (all-of (tips (treeAt list 0)) (tips (treeAt list i)) (s .same-tips i li))
 
   -- a tree is at distance 0 from itself
-  pub apart-self : (i : ℕ) → i < treesOf list → apart list i i ≡ 0
-  unfolding apart
+  pub apart-self : (i : ℕ) → i < treesOf list → distanceOf list i i ≡ 0
+  unfolding distanceOf
   apart-self i l =
       let q = theorem i i l l in
       sym (q .distance-counts) ∙ q .distance-zero .1 (same-splits-refl _ _ _)
 
-  pub apart-most : (i j : ℕ) → i < treesOf list → j < treesOf list → apart list i j ≤ 174792640
-  unfolding apart
+  pub apart-most : (i j : ℕ) → i < treesOf list → j < treesOf list → distanceOf list i j ≤ 174792640
+  unfolding distanceOf
   apart-most i j li lj =
       let q = theorem i j li lj in
       omega (arith, q .total, q .all-most, q .B-counts, q .C-counts, q .D-counts)
@@ -61,7 +61,7 @@ module _ (list : List ℕ) (s : IsTreeList list) where
   unfolding sumTo
   sum-most i l = omega (
     arith,
-    sum-mono (treesOf list) (apart list i) (λ j. 174792640) (λ j m. apart-most i j l m),
+    sum-mono (treesOf list) (distanceOf list i) (λ j. 174792640) (λ j m. apart-most i j l m),
     sum-const (treesOf list) 174792640,
     s .few-trees,
   )
@@ -76,7 +76,7 @@ module _ (list : List ℕ) (s : IsTreeList list) where
   -- with fewer than four tips every sum is 0
   pub few-tips : tips (treeAt list 0) < 4 → (i : ℕ) → i < treesOf list → sumTo list i ≡ 0
   unfolding sumTo
-  few-tips few i l = sum-none (treesOf list) (apart list i) (λ j m. unfold apart in
+  few-tips few i l = sum-none (treesOf list) (distanceOf list i) (λ j m. unfold distanceOf in
       (let none = few-labels (all (tips (treeAt list 0))) (treeAt list i) (treeAt list j) (s .tree i l) (s .tree j m)
       (s .same-tips i l ∙ sym (s .same-tips j m)) (all-of (tips (treeAt list 0)) (tips (treeAt list i)) (s .same-tips i l)) few in
       omega (arith, none .counts B, none .counts C, none .counts D)))
@@ -103,8 +103,8 @@ module _ (list other : List ℕ) (s : IsTreeList list) (o : IsTreeList other) (h
   alone i l = alone-at (all n) (treeAt list i) (treeAt other i) (s .tree i l) (o .tree i (there i l)) (same-n i l)
       (all-of n (tips (treeAt list i)) (s .same-tips i l)) (h .splits i l)
 
-  same-apart : (i j : ℕ) → i < treesOf list → j < treesOf list → apart list i j ≡ apart other i j
-  unfolding apart
+  same-apart : (i j : ℕ) → i < treesOf list → j < treesOf list → distanceOf list i j ≡ distanceOf other i j
+  unfolding distanceOf
   same-apart i j l m =
       alone i l .as-first (treeAt list j) (s .tree j m) (s .same-tips i l ∙ sym (s .same-tips j m)) .distance
       ∙ alone j m .as-second (treeAt other i) (o .tree i (there i l)) (sym (same-n i l) ∙ s .same-tips i l ∙ sym (s .same-tips j m)) .distance
@@ -114,8 +114,8 @@ module _ (list other : List ℕ) (s : IsTreeList list) (o : IsTreeList other) (h
   pub same-sums : (i : ℕ) → i < treesOf list → sumTo list i ≡ sumTo other i
   unfolding sumTo
   same-sums i l =
-      sum-ext (treesOf list) (apart list i) (apart other i) (λ j m. same-apart i j l m)
-      ∙ ap (λ (k : ℕ). sum k (apart other i)) (h .trees)
+      sum-ext (treesOf list) (distanceOf list i) (distanceOf other i) (λ j m. same-apart i j l m)
+      ∙ ap (λ (k : ℕ). sum k (distanceOf other i)) (h .trees)
 
 -- ---- the order
 

@@ -62,8 +62,8 @@ unfoldable pub struckOut : (ℕ → ℕ → ℕ) → ℕ → ℕ → ℕ → ℕ
 struckOut I i i' f a = ne i f * (ne i' a * I f a)
 
 -- all cells but those of row i and of column i'
-unfoldable pub rest : ℕ → ℕ → (ℕ → ℕ → ℕ) → ℕ → ℕ → ℕ
-rest d d' I i i' = whole d d' (struckOut I i i')
+unfoldable pub otherCells : ℕ → ℕ → (ℕ → ℕ → ℕ) → ℕ → ℕ → ℕ
+otherCells d d' I i i' = whole d d' (struckOut I i i')
 
 -- ---- what was left out comes back
 
@@ -88,8 +88,8 @@ struck-column d I i i' a =
     sum-cong d (λ f. mul-left-comm (ne i f) (ne i' a) (I f a)) ∙ sum-mul-left d (ne i' a) _
 
 pub rest-cell : (d d' : ℕ) (I : ℕ → ℕ → ℕ) (i i' : ℕ) → i < d → i' < d'
-    → rest d d' I i i' + rowSum d' I i + columnSum d I i' ≡ whole d d' I + I i i'
-unfolding rest
+    → otherCells d d' I i i' + rowSum d' I i + columnSum d I i' ≡ whole d d' I + I i i'
+unfolding otherCells
 rest-cell d d' I i i' l l' = omega (
   arith,
   sum-cong d (λ f. struck-row d' I i i' f),

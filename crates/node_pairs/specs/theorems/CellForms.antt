@@ -10,7 +10,7 @@ use Rattle.sums.specs.theorems.BitLaws.{ne, ne-sym}
 use Rattle.sums.specs.theorems.Grids.{grid-mul-left, grid-sum}
 use Rattle.shapes.specs.Claims.{choose2}
 use Rattle.node_pairs.specs.theorems.Cells.{apart, sumApart, pairS2, pairS3}
-use Rattle.node_pairs.specs.theorems.Aggregates.{struckOut, rest}
+use Rattle.node_pairs.specs.theorems.Aggregates.{struckOut, otherCells}
 
 -- the products of two cells in different rows and different columns, in either order
 unfoldable pub pairsApart : ℕ → ℕ → (ℕ → ℕ → ℕ) → ℕ
@@ -27,7 +27,7 @@ hook I i i' l l' = (ne i l * I l i') * (ne i' l' * I i l')
 
 -- the hooks at cell i, i', each times the cells in none of its two rows and two columns
 unfoldable pub hooksApart : ℕ → ℕ → (ℕ → ℕ → ℕ) → ℕ → ℕ → ℕ
-hooksApart d d' I i i' = sum d (λ l. sum d' (λ l'. hook I i i' l l' * rest d d' (struckOut I i i') l l'))
+hooksApart d d' I i i' = sum d (λ l. sum d' (λ l'. hook I i i' l l' * otherCells d d' (struckOut I i i') l l'))
 
 pub pairS2-cells : (d d' : ℕ) (I : ℕ → ℕ → ℕ)
     → pairS2 d d' I ≡ sum d (λ i. sum d' (λ i'. choose2 (I i i') * pairsOff d d' I i i'))
@@ -52,7 +52,7 @@ pairS2-cells d d' I = sum-cong d (λ i.
 
 pub pairS3-cells : (d d' : ℕ) (I : ℕ → ℕ → ℕ)
     → pairS3 d d' I ≡ sum d (λ i. sum d' (λ i'. I i i' * hooksApart d d' I i i'))
-unfolding pairS3 sumApart hooksApart rest struckOut
+unfolding pairS3 sumApart hooksApart otherCells struckOut
 pairS3-cells d d' I = sum-cong d (λ i.
     grid-sum d d d' (λ j l. apart i j l) (λ j l i'. sum d' (λ j'. sum d' (λ l'. term i i' j l j' l')))
     ∙ sum-cong d' (λ i'.

@@ -16,7 +16,7 @@ use Rattle.shapes.specs.theorems.AncestorLaws.{Rooted}
 use Rattle.shapes.specs.Directions.{head, behind}
 use Rattle.shapes.specs.theorems.DirectionLaws.{into, one-way}
 use Rattle.shapes.specs.theorems.Shape.{Shape}
-use Rattle.shapes.specs.theorems.LabelSums.{bitIn, crossing}
+use Rattle.shapes.specs.theorems.LabelSums.{bitIn, codeCrossing}
 use Rattle.node_pairs.specs.theorems.Cells.{apart, sumApart, pairS2, pairS3}
 use Rattle.node_pairs.specs.theorems.CodesOfANode.{Lists}
 
@@ -80,7 +80,7 @@ cells-le n d d' s s' one one' = omega (
 -- the crossings of the sets of labels behind the codes into v and into v'
 pub crossings-le : {n : ℕ} (t u : Shape n) (v v' d d' : ℕ) (c c' : ℕ → ℕ) → v ≤ t .edges → v' ≤ u .edges
     → Lists (2 * t .edges) (head (t .up)) v d c → Lists (2 * u .edges) (head (u .up)) v' d' c'
-    → sum d (λ i. sum d' (λ i'. crossing t u (c i) (c' i'))) ≤ n
+    → sum d (λ i. sum d' (λ i'. codeCrossing t u (c i) (c' i'))) ≤ n
 crossings-le {n} t u v v' d d' c c' lv lv' z z' =
     cells-le n d d' (λ i. bitIn t (c i)) (λ i'. bitIn u (c' i'))
     (λ x l. listed-behind-one (t .up) (t .tree) (t .edges) v (t .node x) d c lv (t .node-le x l) z)

@@ -10,7 +10,7 @@ use Rattle.sums.specs.theorems.SumLaws.{sum-ext, sum-cong, sum-add, sum-mul-lef
 use Rattle.sums.specs.theorems.BitLaws.{ne}
 use Rattle.sums.specs.theorems.Products.{bit-sq, ne-once, sum-ne}
 use Rattle.node_pairs.specs.theorems.Aggregates.{transposed, rowWithout, columnWithout, down, along}
-use Rattle.node_pairs.specs.theorems.Aggregates.{struckOut, rest, struck-row, struck-column, rest-cell}
+use Rattle.node_pairs.specs.theorems.Aggregates.{struckOut, otherCells, struck-row, struck-column, rest-cell}
 use Rattle.node_pairs.specs.theorems.CellForms.{hook, hooksApart}
 
 -- the hooks at cell i, i', each times the fourth cell of its rectangle
@@ -20,7 +20,7 @@ rectangles d d' I i i' = sum d (λ l. sum d' (λ l'. hook I i i' l l' * I l l'))
 -- the hooks at cell i, i' but for the rectangles: what is counted ..
 abbrev pub hooksPlus : ℕ → ℕ → (ℕ → ℕ → ℕ) → ℕ → ℕ → ℕ
 hooksPlus d d' I i i' =
-    rest d d' I i i' * (columnWithout d I i i' * rowWithout d' I i i')
+    otherCells d d' I i i' * (columnWithout d I i i' * rowWithout d' I i i')
     + I i i' * (rowWithout d' I i i' * rowWithout d' I i i' + columnWithout d I i i' * columnWithout d I i i')
 
 -- .. and what is too much in that
@@ -77,9 +77,9 @@ module _ (d d' : ℕ) (I : ℕ → ℕ → ℕ) (i i' : ℕ) where
 
       -- the cells apart from a hook
       others : (m m' : ℕ) → m < d → m' < d'
-          → rest d d' off m m' + ne i m * rowWithout d' I m i' + ne i' m' * columnWithout d I i m'
-          ≡ rest d d' I i i' + off m m'
-      others m m' lm lm' = unfold rest in omega (
+          → otherCells d d' off m m' + ne i m * rowWithout d' I m i' + ne i' m' * columnWithout d I i m'
+          ≡ otherCells d d' I i i' + off m m'
+      others m m' lm lm' = unfold otherCells in omega (
         arith,
         rest-cell d d' off m m' lm lm',
         struck-row d' I i i' m,
@@ -89,12 +89,12 @@ module _ (d d' : ℕ) (I : ℕ → ℕ → ℕ) (i i' : ℕ) where
       summed : hooksApart d d' I i i'
           + sum d (λ m. (ne i m * I m i') * (ne i m * rowWithout d' I m i')) * rowWithout d' I i i'
           + columnWithout d I i i' * sum d' (λ m. (ne i' m * I i m) * (ne i' m * columnWithout d I i m))
-          ≡ columnWithout d I i i' * rowWithout d' I i i' * rest d d' I i i'
+          ≡ columnWithout d I i i' * rowWithout d' I i i' * otherCells d d' I i i'
           + sum d (λ m. sum d' (λ m'. hook I i i' m m' * off m m'))
       summed = unfold hooksApart rowWithout columnWithout in
           by-parts d d' (λ m. ne i m * I m i') (λ m'. ne i' m' * I i m')
           (λ m. ne i m * rowWithout d' I m i') (λ m'. ne i' m' * columnWithout d I i m')
-          (λ m m'. rest d d' off m m') off (rest d d' I i i') others
+          (λ m m'. otherCells d d' off m m') off (otherCells d d' I i i') others
 
       once : (n m x y z : ℕ) → n * n ≡ n → m * m ≡ m
           → (n * x) * (m * y) * (n * (m * z)) ≡ (n * x) * (m * y) * z

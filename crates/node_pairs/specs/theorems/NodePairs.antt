@@ -26,8 +26,8 @@ pub record Listed : Type 0 where
   pub lists : (v : ℕ) → v ≤ edges → Lists (2 * edges) (head up) v (degree v) (code v)
 
 -- every tree has such lists
-abbrev pub listed : (up : ℕ → ℕ) → Rooted up → ℕ → Listed
-listed up r k = record {
+abbrev pub listedTree : (up : ℕ → ℕ) → Rooted up → ℕ → Listed
+listedTree up r k = record {
   up = up;
   tree = r;
   edges = k;

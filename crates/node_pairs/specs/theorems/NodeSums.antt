@@ -95,21 +95,21 @@ module _ (up : ℕ → ℕ) (r : Rooted up) (k : ℕ) (d : ℕ → ℕ) (c : ℕ
 -- ---- one sum over the codes in place of three
 
 -- the sum of s over the indices below d other than i
-abbrev pub others : ℕ → (ℕ → ℕ) → ℕ → ℕ
-others d s i = sum d (λ j. ne i j * s j)
+abbrev pub otherIndices : ℕ → (ℕ → ℕ) → ℕ → ℕ
+otherIndices d s i = sum d (λ j. ne i j * s j)
 
-pub others-and-own : (d : ℕ) (s : ℕ → ℕ) (i : ℕ) → i < d → others d s i + s i ≡ sum d s
+pub others-and-own : (d : ℕ) (s : ℕ → ℕ) (i : ℕ) → i < d → otherIndices d s i + s i ≡ sum d s
 others-and-own d s i l = sum-ne d i s l
 
 -- two different indices other than i
 two-others : (d : ℕ) (s : ℕ → ℕ) (i : ℕ) → i < d
-    → twoApart d i s s + sum d (λ j. s j * s j) ≡ others d s i * others d s i + s i * s i
+    → twoApart d i s s + sum d (λ j. s j * s j) ≡ otherIndices d s i * otherIndices d s i + s i * s i
 two-others d s i l = omega (arith, rw (← sum-ne d i s l) at (two-apart d i s s l))
 
 -- three different indices, of which the last two have one factor
 pub products-apart : (d : ℕ) (p s : ℕ → ℕ)
     → sumApart d (λ i j l. p i * (s j * s l)) + sum d (λ i. p i * sum d (λ j. s j * s j))
-    ≡ sum d (λ i. p i * (others d s i * others d s i + s i * s i))
+    ≡ sum d (λ i. p i * (otherIndices d s i * otherIndices d s i + s i * s i))
 unfolding sumApart twoApart
 products-apart d p s =
     sym (sum-add d _ _)
@@ -130,5 +130,5 @@ products-apart d p s =
 -- what a node adds in `S-by-nodes`
 pub node-closed : (d : ℕ) (s : ℕ → ℕ)
     → sumApart d (λ i j l. choose2 (s i) * (s j * s l)) + sum d (λ i. choose2 (s i) * sum d (λ j. s j * s j))
-    ≡ sum d (λ i. choose2 (s i) * (others d s i * others d s i + s i * s i))
+    ≡ sum d (λ i. choose2 (s i) * (otherIndices d s i * otherIndices d s i + s i * s i))
 node-closed d s = products-apart d (λ i. choose2 (s i)) s

@@ -12,14 +12,14 @@ use Rattle.sums.specs.theorems.Products.{bit-sq, ne-once, sum-ne}
 use Rattle.sums.specs.theorems.Exclusion.{pair-apart}
 use Rattle.sums.specs.theorems.Grids.{grid-add, grid-sum}
 use Rattle.node_pairs.specs.theorems.Aggregates.{transposed, rowSum, whole, squares, rowSquares, columnSquares}
-use Rattle.node_pairs.specs.theorems.Aggregates.{rowWithout, columnWithout, down, along, struckOut, rest}
+use Rattle.node_pairs.specs.theorems.Aggregates.{rowWithout, columnWithout, down, along, struckOut, otherCells}
 use Rattle.node_pairs.specs.theorems.Aggregates.{row-cell, struck-row, struck-column, rest-cell}
 use Rattle.node_pairs.specs.theorems.CellForms.{pairsApart, pairsOff}
 
 -- the pairs outside row i and column i', and the squares of all row sums and column sums
 abbrev pub pairsPlus : ℕ → ℕ → (ℕ → ℕ → ℕ) → ℕ → ℕ → ℕ
 pairsPlus d d' I i i' =
-    rest d d' I i i' * rest d d' I i i' + squares d d' I + I i i' * I i i'
+    otherCells d d' I i i' * otherCells d d' I i i' + squares d d' I + I i i' * I i i'
     + rowWithout d' I i i' * rowWithout d' I i i' + columnWithout d I i i' * columnWithout d I i i'
     + 2 * down d d' I i' + 2 * along d d' I i
 
@@ -104,13 +104,13 @@ module _ (d d' : ℕ) (I : ℕ → ℕ → ℕ) (i i' : ℕ) where
       square : (n m x : ℕ) → n * n ≡ n → m * m ≡ m → (n * (m * x)) * (n * (m * x)) ≡ n * (m * (x * x))
       square n m x p q = omega (arith, ap₂ (λ (y z : ℕ). y * z * (x * x)) p q)
 
-      squared : squares d d' (struckOut I i i') ≡ rest d d' (λ f a. I f a * I f a) i i'
-      squared = unfold rest struckOut in sum-cong d (λ f. sum-cong d' (λ a.
+      squared : squares d d' (struckOut I i i') ≡ otherCells d d' (λ f a. I f a * I f a) i i'
+      squared = unfold otherCells struckOut in sum-cong d (λ f. sum-cong d' (λ a.
           square (ne i f) (ne i' a) (I f a) (bit-sq (not (eqb i f))) (bit-sq (not (eqb i' a)))))
 
   pub pairs-off-cell : i < d → i' < d'
       → pairsOff d d' I i i' + (rowSquares d d' I + columnSquares d d' I) ≡ pairsPlus d d' I i i'
-  unfolding pairsOff rest
+  unfolding pairsOff otherCells
   pairs-off-cell l l' = omega (
     arith,
     pairs-apart d d' (struckOut I i i'),

@@ -22,8 +22,8 @@ use Rattle.pair_check.specs.declared.pairs.CheckedPair.{CheckedPair}
 use Rattle.pair_check.specs.declared.pairs.CheckedPair.the-variants.{Pair, Refused}
 use Rattle.pair_check.specs.PairOrder.{plus, tipsOrder, tablesOrder, cellsNeeded, workOrder, cellsOrder, pairOrder}
 use Rattle.pair_check.specs.PairOrder.{IsPair, PairWithCells, MarkedPair}
-use Rattle.pair_check.specs.CheckedPair.{verdict, checkedPair, checkedCells, checkedWork, Told}
-use Rattle.pair_check.specs.CheckedPair.{numberOf, tipsOf, countedOf, rowsOf, columnsOf}
+use Rattle.pair_check.specs.CheckedPair.{pairVerdict, checkedPair, checkedCells, checkedWork, PairTold}
+use Rattle.pair_check.specs.CheckedPair.{pairNumber, pairTips, countedOf, rowsOf, columnsOf}
 use Rattle.pair_check.specs.theorems.PairCheck.{plus-kept, plus-refusal, tables-check, tables-kept}
 use Rattle.pair_check.specs.theorems.PairCheck.{cells-check, pair-check, order-kept}
 
@@ -102,8 +102,8 @@ measured-nine n j rows columns cells l = rw (measuredPair, lt-ltb cells (rows * 
 
 module _ (t u : Table) where
   module _ (c : ℕ) where
-    verdict-told : (k : ℕ) → Told k t u c (verdict k t u c)
-    unfolding verdict ifAccepted
+    verdict-told : (k : ℕ) → PairTold k t u c (pairVerdict k t u c)
+    unfolding pairVerdict ifAccepted
     verdict-told zero =
         record { number-told = refl; tips-told = refl; counted-told = refl; rows-told = refl; columns-told = refl }
     verdict-told (suc k) =
@@ -111,47 +111,47 @@ module _ (t u : Table) where
 
     -- an answer by a number, and what it tells
     abbrev Answered : ℕ → CheckedPair → Type 0
-    Answered k r = (r ≡ verdict k t u c) × Told k t u c r
+    Answered k r = (r ≡ pairVerdict k t u c) × PairTold k t u c r
 
-    told-of : (k : ℕ) (r : CheckedPair) → r ≡ verdict k t u c → Answered k r
-    told-of k r e = (e, subst (Told k t u c) (sym e) (verdict-told k))
+    told-of : (k : ℕ) (r : CheckedPair) → r ≡ pairVerdict k t u c → Answered k r
+    told-of k r e = (e, subst (PairTold k t u c) (sym e) (verdict-told k))
 
     pair-is : (k n j rows columns : ℕ) → k ≡ 0 → n ≡ tips t → j ≡ c → rows ≡ nodes t - 1 → columns ≡ nodes u - 1
         → Answered k (Pair n j rows columns)
-    pair-is k n j rows columns z en ej er ec = told-of k _ (unfold verdict in rw (z, en, ej, er, ec) refl)
+    pair-is k n j rows columns z en ej er ec = told-of k _ (unfold pairVerdict in rw (z, en, ej, er, ec) refl)
 
     refused-is : (k j : ℕ) → k ≡ j → j ≢ 0 → Answered k (Refused j)
     refused-is k j e d = told-of k _ (go j e d)
       where
-        go : (j : ℕ) → k ≡ j → j ≢ 0 → Refused j ≡ verdict k t u c
+        go : (j : ℕ) → k ≡ j → j ≢ 0 → Refused j ≡ pairVerdict k t u c
         go zero e d = absurd (d refl)
-        go (suc j) e d = unfold verdict in rw e refl
+        go (suc j) e d = unfold pairVerdict in rw e refl
 
     -- what an accepted answer says
-    pair-says : (k n j rows columns : ℕ) → verdict k t u c ≡ Pair n j rows columns
+    pair-says : (k n j rows columns : ℕ) → pairVerdict k t u c ≡ Pair n j rows columns
         → (k ≡ 0) × (n ≡ tips t) × (j ≡ c) × (rows ≡ nodes t - 1) × (columns ≡ nodes u - 1)
-    unfolding verdict
+    unfolding pairVerdict
     pair-says zero n j rows columns e =
-        (refl, sym (ap tipsOf e), sym (ap countedOf e), sym (ap rowsOf e), sym (ap columnsOf e))
+        (refl, sym (ap pairTips e), sym (ap countedOf e), sym (ap rowsOf e), sym (ap columnsOf e))
     pair-says (suc k) n j rows columns e = absurd (let z : _≡_ {A = ℕ} 0 1 = cc in omega arith)
 
     -- what a refusal says
-    refused-says : (k j : ℕ) → verdict k t u c ≡ Refused j → (k ≡ j) × (j ≢ 0)
-    unfolding verdict
+    refused-says : (k j : ℕ) → pairVerdict k t u c ≡ Refused j → (k ≡ j) × (j ≢ 0)
+    unfolding pairVerdict
     refused-says zero j e = absurd (let z : _≡_ {A = ℕ} 0 1 = cc in omega arith)
-    refused-says (suc k) j e = let q : suc k ≡ j = ap numberOf e in (q, λ z. omega arith)
+    refused-says (suc k) j e = let q : suc k ≡ j = ap pairNumber e in (q, λ z. omega arith)
 
     -- the number that is passed on from a refused answer
-    refusal-passed : (k j number : ℕ) (answer : CheckedPair) → answer ≡ verdict k t u c → answer ≡ Refused j
-        → number ≡ numberOf answer → (number ≡ k) × (number ≢ 0)
+    refusal-passed : (k j number : ℕ) (answer : CheckedPair) → answer ≡ pairVerdict k t u c → answer ≡ Refused j
+        → number ≡ pairNumber answer → (number ≡ k) × (number ≢ 0)
     refusal-passed k j number answer a r e =
         let h = refused-says k j (sym a ∙ r) in
-        let q : number ≡ j = e ∙ ap numberOf r in
+        let q : number ≡ j = e ∙ ap pairNumber r in
         (q ∙ sym (h .0), λ z. h .1 (sym q ∙ z))
 
   -- what `check_pair` returns, and what it tells
   abbrev pub PairAnswered : CheckedPair → Type 0
-  PairAnswered r = (r ≡ checkedPair t u) × Told (refusal (tablesOrder t u)) t u (tips t) r
+  PairAnswered r = (r ≡ checkedPair t u) × PairTold (refusal (tablesOrder t u)) t u (tips t) r
 
   pub pair-found : (n rows columns : ℕ) → refusal (tablesOrder t u) ≡ 0 → n ≡ tips t → rows ≡ nodes t - 1
       → columns ≡ nodes u - 1 → PairAnswered (Pair n n rows columns)
@@ -164,7 +164,7 @@ module _ (t u : Table) where
 
   -- what `check_cells` returns
   abbrev pub CellsAnswered : ℕ → CheckedPair → Type 0
-  CellsAnswered cells r = (r ≡ checkedCells t u cells) × Told (refusal (cellsOrder t u cells)) t u (tips t) r
+  CellsAnswered cells r = (r ≡ checkedCells t u cells) × PairTold (refusal (cellsOrder t u cells)) t u (tips t) r
 
   pub cells-turned-away : (cells j : ℕ) → refusal (cellsOrder t u cells) ≡ j → j ≢ 0 → CellsAnswered cells (Refused j)
   unfolding checkedCells
@@ -173,7 +173,7 @@ module _ (t u : Table) where
   -- what `check_work` returns
   abbrev pub WorkAnswered : List ℕ → ℕ → CheckedPair → Type 0
   WorkAnswered marks cells r =
-      (r ≡ checkedWork t u marks cells) × Told (refusal (pairOrder t u marks cells)) t u (keptOf marks (tips t)) r
+      (r ≡ checkedWork t u marks cells) × PairTold (refusal (pairOrder t u marks cells)) t u (keptOf marks (tips t)) r
 
   pub work-turned-away : (marks : List ℕ) (cells j : ℕ) → refusal (pairOrder t u marks cells) ≡ j → j ≢ 0
       → WorkAnswered marks cells (Refused j)
@@ -211,17 +211,17 @@ module _ (t u : Table) where
 
   -- the number that is passed on from a refused answer
   pub pair-passed : (j number : ℕ) (answer : CheckedPair) → answer ≡ checkedPair t u → answer ≡ Refused j
-      → number ≡ numberOf answer → (number ≡ refusal (tablesOrder t u)) × (number ≢ 0)
+      → number ≡ pairNumber answer → (number ≡ refusal (tablesOrder t u)) × (number ≢ 0)
   unfolding checkedPair
   pair-passed j number answer a r e = refusal-passed (tips t) _ j number answer a r e
 
   pub cells-passed : (cells j number : ℕ) (answer : CheckedPair) → answer ≡ checkedCells t u cells → answer ≡ Refused j
-      → number ≡ numberOf answer → (number ≡ refusal (cellsOrder t u cells)) × (number ≢ 0)
+      → number ≡ pairNumber answer → (number ≡ refusal (cellsOrder t u cells)) × (number ≢ 0)
   unfolding checkedCells
   cells-passed cells j number answer a r e = refusal-passed (tips t) _ j number answer a r e
 
   pub work-passed : (marks : List ℕ) (cells j number : ℕ) (answer : CheckedPair) → answer ≡ checkedWork t u marks cells
-      → answer ≡ Refused j → number ≡ numberOf answer → (number ≡ refusal (pairOrder t u marks cells)) × (number ≢ 0)
+      → answer ≡ Refused j → number ≡ pairNumber answer → (number ≡ refusal (pairOrder t u marks cells)) × (number ≢ 0)
   unfolding checkedWork
   work-passed marks cells j number answer a r e = refusal-passed (keptOf marks (tips t)) _ j number answer a r e
 

@@ -41,8 +41,8 @@ unfoldable pub wordFigures : List ℕ → Figures
 wordFigures words = pairFigures (firstTable words) (laterWords words)
 
 -- the figures of four answers that are no refusals
-abbrev pub answered : ℕ → ClaimSums → QuartetTable → SplitCounts → TripletTable → Figures
-answered n sums cases counts threes = record {
+abbrev pub figuresTold : ℕ → ClaimSums → QuartetTable → SplitCounts → TripletTable → Figures
+figuresTold n sums cases counts threes = record {
   refusal = 0;
   tips = n;
   claims = record {
@@ -64,13 +64,13 @@ answered n sums cases counts threes = record {
 
 -- the figures of the four calls with these marks
 unfoldable pub calledWith : Table → Table → List ℕ → ℕ → Figures
-calledWith t u marks n = answered n (claimAnswer t u marks cellsLent) (quartetAnswer t u marks cellsLent)
+calledWith t u marks n = figuresTold n (claimAnswer t u marks cellsLent) (quartetAnswer t u marks cellsLent)
     (splitAnswer t u marks cellsLent) (tripletAnswer t u cellsLent)
 
 pub called : (t u : Table) (marks : List ℕ) (n : ℕ) (sums : ClaimSums) (cases : QuartetTable) (counts : SplitCounts)
     (threes : TripletTable) → sums ≡ claimAnswer t u marks cellsLent → cases ≡ quartetAnswer t u marks cellsLent
     → counts ≡ splitAnswer t u marks cellsLent → threes ≡ tripletAnswer t u cellsLent
-    → answered n sums cases counts threes ≡ calledWith t u marks n
+    → figuresTold n sums cases counts threes ≡ calledWith t u marks n
 unfolding calledWith
 called t u marks n sums cases counts threes e ec es et = rw (e, ec, es, et) refl
 

@@ -46,7 +46,7 @@ pub record Rerootable (ps : List ℕ) (m z : ℕ) : Type 0 where
   pub node : z < m
 
 -- the path is numbered below v, the next number is i, and nodeRoom stands elsewhere
-pub record OnPath (ps : List ℕ) (m z v i : ℕ) (news : List ℕ) : Type 0 where
+pub record PathNumbered (ps : List ℕ) (m z v i : ℕ) (news : List ℕ) : Type 0 where
   pub long : length news ≡ nodeRoom
   pub path : bit (anc (word ps) v z) ≡ 1
   pub next : i ≡ renumbered (word ps) m z v
@@ -77,17 +77,17 @@ module _ (ps : List ℕ) (m z : ℕ) (y : Rerootable ps m z) where
   on-lt : (v : ℕ) → bit (anc up v z) ≡ 1 → v < m
   on-lt v o = omega (arith, anc-le up r v z o, y .node)
 
-  pub path-low : (v i : ℕ) (news : List ℕ) → OnPath ps m z v i news → (v < nodeRoom) × (i < nodeRoom)
+  pub path-low : (v i : ℕ) (news : List ℕ) → PathNumbered ps m z v i news → (v < nodeRoom) × (i < nodeRoom)
   path-low v i news w =
       let l = on-lt v (w .path) in
       (omega (arith, y .few), omega (arith, w .next, renumbered-lt up m z r (y .node) v l, y .few))
 
-  pub path-in : (v i : ℕ) (news : List ℕ) → OnPath ps m z v i news → v < m
+  pub path-in : (v i : ℕ) (news : List ℕ) → PathNumbered ps m z v i news → v < m
   path-in v i news w = on-lt v (w .path)
 
   -- v is numbered, and its parent is next
-  pub path-next : (v i : ℕ) (news : List ℕ) → 1 ≤ v → OnPath ps m z v i news → (p : ℕ) → p ≡ word ps v
-      → OnPath ps m z p (suc i) (set news v i)
+  pub path-next : (v i : ℕ) (news : List ℕ) → 1 ≤ v → PathNumbered ps m z v i news → (p : ℕ) → p ≡ word ps v
+      → PathNumbered ps m z p (suc i) (set news v i)
   path-next v i news pv w p e =
       let l = on-lt v (w .path) in
       let above = anc-down up r (up v) v pv (anc-self up r (up v)) in
@@ -118,7 +118,7 @@ module _ (ps : List ℕ) (m z : ℕ) (y : Rerootable ps m z) where
       ]
 
   -- node 0 is the last of the path
-  pub path-ends : (i : ℕ) (news : List ℕ) → OnPath ps m z 0 i news → OffPath ps m z 0 (suc i) (set news 0 i)
+  pub path-ends : (i : ℕ) (news : List ℕ) → PathNumbered ps m z 0 i news → OffPath ps m z 0 (suc i) (set news 0 i)
   path-ends i news w = record {
     long = length-set news 0 i ∙ w .long;
     next = omega (arith, w .next, counter-begins up m z r (y .node));
@@ -175,7 +175,7 @@ module _ (ps : List ℕ) (m z : ℕ) (y : Rerootable ps m z) where
   pub off-all : (w i : ℕ) (news : List ℕ) → m ≤ w → OffPath ps m z w i news → RenumberedAre ps m z news
   off-all w i news l o = record { long = o .long; new-is = λ v lv. o .given v lv (inr (omega arith)) }
 
-  pub path-first : OnPath ps m z z 0 (replicate nodeRoom nodeRoom)
+  pub path-first : PathNumbered ps m z z 0 (replicate nodeRoom nodeRoom)
   path-first = record {
     long = length-replicate {A = ℕ} nodeRoom nodeRoom;
     path = anc-self up r z;

@@ -48,7 +48,7 @@ unfolding parentFor
 off-the-path i last p l = rw (lt-leb i last l, parentFor)
 
 -- a table that was checked, a label of it, and the new numbers of its nodes
-pub record Numbered (t : Table) (m x : ℕ) (news : List ℕ) : Type 0 where
+pub record TableNumbered (t : Table) (m x : ℕ) (news : List ℕ) : Type 0 where
   pub tree : IsTree t
   pub nodes-are : m ≡ nodes t
   pub label-lt : x < tips t
@@ -89,7 +89,7 @@ unfolding label labels
 label-word t v l = sym (getD-take (nodes t) (drop (2 + nodes t) t) v 0 l ∙ getD-drop (2 + nodes t) t v 0
     ∙ ap (word t) (omega arith))
 
-module _ (t : Table) (m x : ℕ) (news : List ℕ) (h : Numbered t m x news) where
+module _ (t : Table) (m x : ℕ) (news : List ℕ) (h : TableNumbered t m x news) where
   abbrev up : ℕ → ℕ
   up = parent t
 
@@ -307,7 +307,7 @@ module _ (t : Table) (g : IsTree t) (m x z : ℕ) (em : m ≡ nodes t) (lx : x <
   })
 
   pub lent-numbered : (news : List ℕ)
-      → RenumberedAre (take (2 + m - 2) (drop 2 t)) (length (take (2 + m - 2) (drop 2 t))) z news → Numbered t m x news
+      → RenumberedAre (take (2 + m - 2) (drop 2 t)) (length (take (2 + m - 2) (drop 2 t))) z news → TableNumbered t m x news
   unfolding parent
   lent-numbered news h =
       let a = of-parts (λ n ps ls. RenumberedAre ps (length ps) z news) t (tips t) m (g .words) refl em h in
@@ -325,7 +325,7 @@ module _ (t : Table) (g : IsTree t) (m x z : ℕ) (em : m ≡ nodes t) (lx : x <
 pub two-set : (old : List ℕ) (a b : ℕ) → length (set (set old 0 a) 1 b) ≡ length old
 two-set old a b = length-set (set old 0 a) 1 b ∙ length-set old 0 a
 
-pub table-written : (t : Table) (m x : ℕ) (news : List ℕ) → Numbered t m x news → (old new : List ℕ)
+pub table-written : (t : Table) (m x : ℕ) (news : List ℕ) → TableNumbered t m x news → (old new : List ℕ)
     → 2 + 2 * nodes t ≤ length old → NodesWritten t x m (set (set old 0 (word t 0)) 1 (word t 1)) new → new ≡ written t x old
 unfolding written
 table-written t m x news h old new room w =

@@ -10,7 +10,7 @@ use Rattle.shapes.specs.theorems.Shape.{Shape}
 use Rattle.shapes.specs.Claims.{sumClaims, choose2, claimTerm, equation1, dcount}
 use Rattle.shapes.specs.theorems.OrderedClaims.{ordered-mul, claims-ordered}
 use Rattle.shapes.specs.theorems.ClaimPairs.{pairs-mul, same-ordered, different-ordered}
-use Rattle.shapes.specs.theorems.LabelSums.{bitIn, quartetIn, quartet-pairing, crossing}
+use Rattle.shapes.specs.theorems.LabelSums.{bitIn, quartetIn, quartet-pairing, codeCrossing}
 use Rattle.shapes.specs.theorems.LabelSums.{claims-quartets, claims-same, claims-different}
 
 -- S is twice the butterflies
@@ -32,7 +32,7 @@ module _ {n : ℕ} (t u : Shape n) where
   -- S2 is twice the butterflies that both shapes have
   pub same-sum :
       sumClaims (t .up) (2 * t .edges) (λ e f g.
-      sumClaims (u .up) (2 * u .edges) (equation1 (crossing t u) e f g))
+      sumClaims (u .up) (2 * u .edges) (equation1 (codeCrossing t u) e f g))
       ≡ 2 * sets4 n (threeWays (λ a b c d. quartetIn t a b c d * quartetIn u a b c d))
   same-sum = omega (
     arith,
@@ -45,16 +45,16 @@ module _ {n : ℕ} (t u : Shape n) where
   )
     where
       X : ℕ → ℕ → ℕ
-      X = crossing t u
+      X = codeCrossing t u
 
   -- S3 is four times the sets of four that are two different butterflies
   pub different-sum :
       sumClaims (t .up) (2 * t .edges) (λ e f g.
-      sumClaims (u .up) (2 * u .edges) (dcount (crossing t u) e f g))
+      sumClaims (u .up) (2 * u .edges) (dcount (codeCrossing t u) e f g))
       ≡ 4 * sets4 n (differentWays (quartetIn t) (quartetIn u))
   different-sum = omega (
     arith,
-    different-ordered (t .up) (2 * t .edges) (u .up) (2 * u .edges) (crossing t u),
+    different-ordered (t .up) (2 * t .edges) (u .up) (2 * u .edges) (codeCrossing t u),
     claims-different t u,
     four-times (quartetIn t) (quartetIn u) (quartet-pairing t) (quartet-pairing u) n,
   )

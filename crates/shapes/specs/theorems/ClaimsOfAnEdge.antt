@@ -17,7 +17,7 @@ use Rattle.shapes.specs.theorems.AncestorLaws.{Rooted}
 use Rattle.shapes.specs.Directions.{head}
 use Rattle.shapes.specs.theorems.DirectionLaws.{head-even, head-odd, sum-codes}
 use Rattle.shapes.specs.Claims.{meet, sumClaimsOf, choose2}
-use Rattle.shapes.specs.theorems.OrderedClaims.{weight, meet-bit, edge-claims-ordered, pairs-choose2}
+use Rattle.shapes.specs.theorems.OrderedClaims.{orderedWeight, meet-bit, edge-claims-ordered, pairs-choose2}
 
 -- how many of the edges 1 to k have the node v at one end
 unfoldable pub degree : (ℕ → ℕ) → ℕ → ℕ → ℕ
@@ -32,7 +32,7 @@ claims-choose2 up codes e = omega (
   pairs-choose2 codes (λ f. bit (meet up e f)) (λ f. bit-sq (meet up e f)),
 )
   where
-    weighed : (f g : ℕ) → weight up e f g * 1 ≡ ne f g * (bit (meet up e f) * bit (meet up e g))
+    weighed : (f g : ℕ) → orderedWeight up e f g * 1 ≡ ne f g * (bit (meet up e f) * bit (meet up e g))
     weighed f g = rw (meet-bit up e f, meet-bit up e g) (omega arith)
 
 module _ (up : ℕ → ℕ) (r : Rooted up) where

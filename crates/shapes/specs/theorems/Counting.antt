@@ -17,7 +17,7 @@ use Rattle.sums.specs.theorems.Products.{bit-and}
 use Rattle.shapes.specs.theorems.PartedFours.{AtMostOne, none, first, second, third, one-pairing}
 use Rattle.shapes.specs.theorems.Shape.{Shape, behindIn, butterflyIn}
 use Rattle.shapes.specs.Claims.{sumClaims, claimTerm, equation1, dcount}
-use Rattle.shapes.specs.theorems.LabelSums.{quartetIn, crossing}
+use Rattle.shapes.specs.theorems.LabelSums.{quartetIn, codeCrossing}
 use Rattle.sums.specs.theorems.Pairings.{threeWays, differentWays}
 use Rattle.shapes.specs.theorems.Topologies.{firstPassed, topologyIn, caseIn, casesIn}
 use Rattle.shapes.specs.theorems.ClaimCounts.{claim-sum, same-sum, different-sum}
@@ -160,7 +160,7 @@ module _ {n : ℕ} (t u : Shape n) where
   unfolding casesIn topologyIn
   all-cases = sets4-ext n _ _ (λ w x y z wx xy yz l. sym (at-set w x y z .in-one)) ∙ simp sets4-add
 
-  as-products : crossIn t u ≡ crossing t u
+  as-products : crossIn t u ≡ codeCrossing t u
   as-products = fun-ext (λ c. fun-ext (λ d. sum-cong n (λ x. bit-and (behindIn t c x) (behindIn u d x))))
 
   pub counted : Counted t u

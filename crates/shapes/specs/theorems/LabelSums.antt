@@ -148,8 +148,8 @@ claims-quartets {n} t =
 
 module _ {n : ℕ} (t u : Shape n) where
   -- how many labels lie behind the code c of t and behind the code d of u
-  abbrev pub crossing : ℕ → ℕ → ℕ
-  crossing c d = sum n (λ x. bitIn t c x * bitIn u d x)
+  abbrev pub codeCrossing : ℕ → ℕ → ℕ
+  codeCrossing c d = sum n (λ x. bitIn t c x * bitIn u d x)
 
   -- a sum over pairs of claims, of products of what their labels say in t and in u
   crossed : (F G : ℕ → ℕ → ℕ → ℕ → ℕ → ℕ → ℕ → ℕ)
@@ -169,7 +169,7 @@ module _ {n : ℕ} (t u : Shape n) where
 
   -- over all pairs of ordered claims, twice the first of the two terms of equation (1)
   pub claims-same :
-      sumIn t (λ e f g. sumIn u (λ e' f' g'. 2 * (choose2 (crossing e e') * (crossing f f' * crossing g g'))))
+      sumIn t (λ e f g. sumIn u (λ e' f' g'. 2 * (choose2 (codeCrossing e e') * (codeCrossing f f' * codeCrossing g g'))))
       ≡ tuples4 n (λ a b c d. quartetIn t a b c d * quartetIn u a b c d)
   claims-same =
       ordered-cong (t .up) (2 * t .edges) (λ e f g. ordered-cong (u .up) (2 * u .edges) (at-claims e f g))
@@ -184,11 +184,11 @@ module _ {n : ℕ} (t u : Shape n) where
       group m a a' b b' c c' d d' = omega arith
 
       at-claims : (e f g e' f' g' : ℕ)
-          → 2 * (choose2 (crossing e e') * (crossing f f' * crossing g g'))
+          → 2 * (choose2 (codeCrossing e e') * (codeCrossing f f' * codeCrossing g g'))
           ≡ tuples4 n (λ a b c d. ne a b * fourIn t a b c d e f g * fourIn u a b c d e' f' g')
       at-claims e f g e' f' g' =
-          sym (mul-assoc 2 (choose2 (crossing e e')) (crossing f f' * crossing g g'))
-          ∙ ap (λ (x : ℕ). x * (crossing f f' * crossing g g'))
+          sym (mul-assoc 2 (choose2 (codeCrossing e e')) (codeCrossing f f' * codeCrossing g g'))
+          ∙ ap (λ (x : ℕ). x * (codeCrossing f f' * codeCrossing g g'))
           (sym (pairs-choose2 n (λ x. bitIn t e x * bitIn u e' x) (λ a.
           square (bitIn t e a) (bitIn u e' a) (bit-sq (behindIn t e a)) (bit-sq (behindIn u e' a)))))
           ∙ tuples2-times-sums n
@@ -212,7 +212,7 @@ module _ {n : ℕ} (t u : Shape n) where
 
   -- over all pairs of ordered claims, the first of the four terms of dcount
   pub claims-different :
-      sumIn t (λ e f g. sumIn u (λ e' f' g'. crossing e e' * crossing e g' * (crossing f f' * crossing g e')))
+      sumIn t (λ e f g. sumIn u (λ e' f' g'. codeCrossing e e' * codeCrossing e g' * (codeCrossing f f' * codeCrossing g e')))
       ≡ tuples4 n (λ a b c d. quartetIn t a b c d * quartetIn u a d c b)
   claims-different =
       ordered-cong (t .up) (2 * t .edges) (λ e f g. ordered-cong (u .up) (2 * u .edges) (at-claims e f g))
@@ -224,7 +224,7 @@ module _ {n : ℕ} (t u : Shape n) where
       group a a' b b' c c' d d' = omega arith
 
       at-claims : (e f g e' f' g' : ℕ)
-          → crossing e e' * crossing e g' * (crossing f f' * crossing g e')
+          → codeCrossing e e' * codeCrossing e g' * (codeCrossing f f' * codeCrossing g e')
           ≡ tuples4 n (λ a b c d. fourIn t a b c d e f g * fourIn u a d c b e' f' g')
       at-claims e f g e' f' g' =
           four-sums n (λ a. bitIn t e a * bitIn u e' a) (λ b. bitIn t e b * bitIn u g' b)

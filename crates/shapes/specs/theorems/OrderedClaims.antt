@@ -23,12 +23,12 @@ use Rattle.shapes.specs.theorems.EulerCentre.{head-le}
 use Rattle.shapes.specs.theorems.Triples.{triples}
 
 -- 1 if e, f and g are different codes into one node
-abbrev pub weight : (ℕ → ℕ) → ℕ → ℕ → ℕ → ℕ
-weight up e f g = ne f g * ((ne e f * is (head up e) (head up f)) * (ne e g * is (head up e) (head up g)))
+abbrev pub orderedWeight : (ℕ → ℕ) → ℕ → ℕ → ℕ → ℕ
+orderedWeight up e f g = ne f g * ((ne e f * is (head up e) (head up f)) * (ne e g * is (head up e) (head up g)))
 
 -- the sum of F over the triples of different codes into one node: each claim once with f < g, once with g < f
 unfoldable pub sumOrdered : (ℕ → ℕ) → ℕ → (ℕ → ℕ → ℕ → ℕ) → ℕ
-sumOrdered up codes F = sum codes (λ e. sum codes (λ f. sum codes (λ g. weight up e f g * F e f g)))
+sumOrdered up codes F = sum codes (λ e. sum codes (λ f. sum codes (λ g. orderedWeight up e f g * F e f g)))
 
 module _ (up : ℕ → ℕ) (codes : ℕ) where
   -- ---- equal terms, multiples, sums
@@ -37,14 +37,14 @@ module _ (up : ℕ → ℕ) (codes : ℕ) where
       → sumOrdered up codes F ≡ sumOrdered up codes G
   unfolding sumOrdered
   ordered-cong h = sum-cong codes (λ e. sum-cong codes (λ f. sum-cong codes (λ g.
-      ap (λ (x : ℕ). weight up e f g * x) (h e f g))))
+      ap (λ (x : ℕ). orderedWeight up e f g * x) (h e f g))))
 
   pub ordered-mul : (c : ℕ) (F : ℕ → ℕ → ℕ → ℕ)
       → sumOrdered up codes (λ e f g. c * F e f g) ≡ c * sumOrdered up codes F
   unfolding sumOrdered
   ordered-mul c F =
       sum-cong codes (λ e. sum-cong codes (λ f. sum-cong codes (λ g.
-      mul-left-comm (weight up e f g) c (F e f g))))
+      mul-left-comm (orderedWeight up e f g) c (F e f g))))
       ∙ simp sum-mul-left
 
   pub ordered-add : (F G : ℕ → ℕ → ℕ → ℕ)
@@ -52,14 +52,14 @@ module _ (up : ℕ → ℕ) (codes : ℕ) where
   unfolding sumOrdered
   ordered-add F G =
       sum-cong codes (λ e. sum-cong codes (λ f. sum-cong codes (λ g.
-      mul-add (weight up e f g) (F e f g) (G e f g))))
+      mul-add (orderedWeight up e f g) (F e f g) (G e f g))))
       ∙ simp sum-add
 
   -- the last two codes change places
   pub ordered-swap : (F : ℕ → ℕ → ℕ → ℕ) → sumOrdered up codes (λ e f g. F e g f) ≡ sumOrdered up codes F
   unfolding sumOrdered
   ordered-swap F = sum-cong codes (λ e.
-      sum-swap codes codes (λ f g. weight up e f g * F e g f)
+      sum-swap codes codes (λ f g. orderedWeight up e f g * F e g f)
       ∙ sum-cong codes (λ g. sum-cong codes (λ f. rw (ne-sym f g) (omega arith))))
 
   -- ---- a sum inside comes out
@@ -69,10 +69,10 @@ module _ (up : ℕ → ℕ) (codes : ℕ) where
   unfolding sumOrdered
   ordered-sum n F =
       sum-cong codes (λ e. sum-cong codes (λ f.
-      sum-cong codes (λ g. sym (sum-mul-left n (weight up e f g) (λ a. F a e f g)))
-      ∙ sum-swap codes n (λ g a. weight up e f g * F a e f g))
-      ∙ sum-swap codes n (λ f a. sum codes (λ g. weight up e f g * F a e f g)))
-      ∙ sum-swap codes n (λ e a. sum codes (λ f. sum codes (λ g. weight up e f g * F a e f g)))
+      sum-cong codes (λ g. sym (sum-mul-left n (orderedWeight up e f g) (λ a. F a e f g)))
+      ∙ sum-swap codes n (λ g a. orderedWeight up e f g * F a e f g))
+      ∙ sum-swap codes n (λ f a. sum codes (λ g. orderedWeight up e f g * F a e f g)))
+      ∙ sum-swap codes n (λ e a. sum codes (λ f. sum codes (λ g. orderedWeight up e f g * F a e f g)))
 
   pub ordered-tuples4 : (n : ℕ) (F : ℕ → ℕ → ℕ → ℕ → ℕ → ℕ → ℕ → ℕ)
       → sumOrdered up codes (λ e f g. tuples4 n (λ a b c d. F a b c d e f g))
@@ -146,13 +146,13 @@ is-third a b c = elim (alike a b) [
 ]
 
 module _ (up : ℕ → ℕ) (codes e : ℕ) (F : ℕ → ℕ → ℕ) where
-  tested : (f g : ℕ) → bit (meet up e g) * (bit (meet up e f && meet up f g) * F f g) ≡ weight up e f g * F f g
+  tested : (f g : ℕ) → bit (meet up e g) * (bit (meet up e f && meet up f g) * F f g) ≡ orderedWeight up e f g * F f g
   tested f g = simp (bit-and, meet-bit) (omega (
     arith,
     ap (λ (x : ℕ). x * (ne e g * ne e f * ne f g * F f g)) (is-third (head up e) (head up f) (head up g)),
   ))
 
-  edge-claims-weighed : sumClaimsOf up codes e F ≡ sets2 codes (λ f g. weight up e f g * F f g)
+  edge-claims-weighed : sumClaimsOf up codes e F ≡ sets2 codes (λ f g. orderedWeight up e f g * F f g)
   unfolding sumClaimsOf sets2
   edge-claims-weighed =
       sumIf-bit codes (meet up e) _
@@ -162,10 +162,10 @@ module _ (up : ℕ → ℕ) (codes e : ℕ) (F : ℕ → ℕ → ℕ) where
 
   -- of one directed edge
   pub edge-claims-ordered : ((f g : ℕ) → F f g ≡ F g f)
-      → 2 * sumClaimsOf up codes e F ≡ tuples2 codes (λ f g. weight up e f g * F f g)
+      → 2 * sumClaimsOf up codes e F ≡ tuples2 codes (λ f g. orderedWeight up e f g * F f g)
   edge-claims-ordered sym-F =
       ap (λ (x : ℕ). 2 * x) edge-claims-weighed
-      ∙ sym (twice codes (λ f g. weight up e f g * F f g)
+      ∙ sym (twice codes (λ f g. orderedWeight up e f g * F f g)
       (λ f g. rw (ne-sym f g, sym-F f g) (omega arith))
       (λ f. rw (ne-self f) (omega arith)))
 

@@ -29,7 +29,7 @@ use Rattle.counting.specs.theorems.LabelLaws.{Rising}
 use Rattle.counting.specs.SplitCounts.{beyondAt}
 use Rattle.counting.specs.theorems.NewSplits.{halves, half-turned, new-by-sizes}
 use Rattle.tree_pairs.specs.lemmas.CellSizes.{all-beyond}
-use Rattle.tree_pairs.specs.lemmas.EdgeRows.{aboveIn, sizeAt, row-above}
+use Rattle.tree_pairs.specs.lemmas.EdgeRows.{aboveIn, rowSize, row-above}
 use Rattle.splits.specs.lemmas.SplitCells.{splitSize, newSize, halfRow, newRow, newEdge}
 
 -- an edge is a split by its size alone
@@ -129,15 +129,15 @@ module _ (l : Labels) (t : Table) (g : IsTree t) (r : Rising (tips t) l) where
       ∙ ap (λ (m : ℕ). count m q) (sym d)
 
   -- cells with the sizes, `step` cells apart
-  module _ (work : List ℕ) (step : ℕ) (cells : (i : ℕ) → i < nodes t - 1 → sizeAt work step i ≡ size (suc i)) where
-    above-cell : (i : ℕ) → suc i < nodes t - 1 → sizeAt work step (aboveIn (parents t) (suc i)) ≡ size (parent t (suc (suc i)))
+  module _ (work : List ℕ) (step : ℕ) (cells : (i : ℕ) → i < nodes t - 1 → rowSize work step i ≡ size (suc i)) where
+    above-cell : (i : ℕ) → suc i < nodes t - 1 → rowSize work step (aboveIn (parents t) (suc i)) ≡ size (parent t (suc (suc i)))
     above-cell i o = let a = row-above t g i o in cells (aboveIn (parents t) (suc i)) (a .1) ∙ ap size (a .0)
 
     half-row : (i k : ℕ) → i < nodes t - 1 → k < i → halfRow n work step (parents t) i k ≡ halves l t i k
     unfolding halfRow halves parent
     half-row i k o m =
         ap₂ (λ (x y : ℕ). eqb (word (parents t) x) (word (parents t) y)
-        && eqb (sizeAt work step k + sizeAt work step i) n) (add-one k) (add-one i)
+        && eqb (rowSize work step k + rowSize work step i) n) (add-one k) (add-one i)
         ∙ ap₂ (λ (x y : ℕ). eqb (parent t (suc k)) (parent t (suc i)) && eqb (x + y) n) (cells k (omega arith)) (cells i o)
 
     some-half : (i : ℕ) → i < nodes t - 1 → some i (halfRow n work step (parents t) i) ≡ some i (halves l t i)

@@ -25,7 +25,7 @@ use Rattle.tree_pairs.specs.theorems.CrossingLaws.{cell-of-edges}
 use Rattle.tree_pairs.specs.lemmas.CellSizes.{all-beyond, row-cell, column-cell}
 use Rattle.splits.specs.lemmas.SplitCells.{sharedRow, apartRow, occursRow}
 use Rattle.splits.specs.lemmas.NewRows.{count-every, asked-first}
-use Rattle.splits.specs.lemmas.SidesByCrossing.{alike, apart, apart-turned, sides-by-crossing}
+use Rattle.splits.specs.lemmas.SidesByCrossing.{alike, complementary, apart-turned, sides-by-crossing}
 
 -- some index passes one of two tests
 some-or : (n : ℕ) (p q : ℕ → Bool) → some n (λ j. p j || q j) ≡ (some n p || some n q)
@@ -51,7 +51,7 @@ module _ (l : Labels) (t u : Table) (g : IsTree t) (h : IsTree u) (e : tips t �
   c = beyondAt l u
 
   -- two edges without a common label that have all labels beyond them: label 0 is not counted
-  apart-all : (i j : ℕ) → 1 ≤ i → 1 ≤ j → T (apart n b c i j) → count n (b 1) ≡ n
+  apart-all : (i j : ℕ) → 1 ≤ i → 1 ≤ j → T (complementary n b c i j) → count n (b 1) ≡ n
   unfolding beyondAt
   apart-all i j li lj y = count-every n (b 1) (λ x m. T-bit (beyond t 1 (l .at x)) (omega (
     arith,
@@ -70,7 +70,7 @@ module _ (l : Labels) (t u : Table) (g : IsTree t) (h : IsTree u) (e : tips t �
         rw (cell-of-edges l t u work i j o m, row-cell l t u g h e r work i o, column-cell l t u g h e r work j m) refl)
 
     apart-columns : apartRow n (nodes u - 1) (crossed l t u work) (i * (nodes u - 1))
-        ≡ some (nodes u - 1) (λ j. apart n b c (suc i) (suc j))
+        ≡ some (nodes u - 1) (λ j. complementary n b c (suc i) (suc j))
     unfolding apartRow edgeCrossing
     apart-columns = some-ext (nodes u - 1) _ _ (λ j m.
         rw (cell-of-edges l t u work i j o m, row-cell l t u g h e r work i o, column-cell l t u g h e r work j m) refl)
@@ -85,10 +85,10 @@ module _ (l : Labels) (t u : Table) (g : IsTree t) (h : IsTree u) (e : tips t �
     unfolding occursRow occurs
     occurs-row =
         let same = some (nodes u - 1) (λ j. alike n b c (suc i) (suc j)) in
-        let other = some (nodes u - 1) (λ j. apart n b c (suc i) (suc j)) in
+        let other = some (nodes u - 1) (λ j. complementary n b c (suc i) (suc j)) in
         rw (shared-columns, apart-columns, edge-1-size) refl
         ∙ ap (λ (z : Bool). same || z) (asked-first (eqb (count n (b 1)) n) other (λ y.
-        let k = some-iff (nodes u - 1) (λ j. apart n b c (suc i) (suc j)) .0 y in
+        let k = some-iff (nodes u - 1) (λ j. complementary n b c (suc i) (suc j)) .0 y in
         eq-iff (count n (b 1)) n .1 (apart-all (suc i) (suc (k .0)) (omega arith) (omega arith) (k .2))))
-        ∙ sym (some-or (nodes u - 1) (λ j. alike n b c (suc i) (suc j)) (λ j. apart n b c (suc i) (suc j)))
+        ∙ sym (some-or (nodes u - 1) (λ j. alike n b c (suc i) (suc j)) (λ j. complementary n b c (suc i) (suc j)))
         ∙ some-ext (nodes u - 1) _ _ (λ j m. sym (sides-by-crossing n b c (suc i) (suc j)))

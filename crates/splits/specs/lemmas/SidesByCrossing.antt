@@ -33,8 +33,8 @@ module _ (n : ℕ) (b c : Sides) (i j : ℕ) where
   alike = eqb both one && eqb both two
 
   -- none lies beyond both, and every label beyond one of them
-  abbrev pub apart : Bool
-  apart = eqb both 0 && eqb (one + two) n
+  abbrev pub complementary : Bool
+  complementary = eqb both 0 && eqb (one + two) n
 
   parts : (x : ℕ) → T (b i x && c j x) → T (b i x) × T (c j x)
   parts x = and-iff (b i x) (c j x) .0
@@ -56,7 +56,7 @@ module _ (n : ℕ) (b c : Sides) (i j : ℕ) where
       ∙ sum-const n 1
       ∙ omega arith
 
-  pub apart-turned : T apart → (x : ℕ) → x < n → b i x ≡ not (c j x)
+  pub apart-turned : T complementary → (x : ℕ) → x < n → b i x ≡ not (c j x)
   apart-turned s x l =
       let r = and-iff (eqb both 0) (eqb (one + two) n) .0 s in
       let none = count-none n (λ x. b i x && c j x) .0 (eq-iff both 0 .0 (r .0)) in
@@ -65,7 +65,7 @@ module _ (n : ℕ) (b c : Sides) (i j : ℕ) where
       same-test (b i x) (not (c j x)) (off x l)
       (count-same n (b i) (λ z. not (c j z)) off (omega (arith, count-both (c j), eq-iff (one + two) n .0 (r .1))) x l)
 
-  to-either : SameSides n b c i j → T alike ⊎ T apart
+  to-either : SameSides n b c i j → T alike ⊎ T complementary
   to-either (same s) =
       let p : both ≡ one = sum-ext n _ _ (λ x l. both-self (b i x) (c j x) (s x l)) in
       let q : one ≡ two = sum-ext n _ _ (λ x l. ap bit (s x l)) in
@@ -76,7 +76,7 @@ module _ (n : ℕ) (b c : Sides) (i j : ℕ) where
       let q : one ≡ count n (λ x. not (c j x)) = sum-ext n _ _ (λ x l. ap bit (s x l)) in
       inr (and-iff (eqb both 0) (eqb (one + two) n) .1 (eq-iff both 0 .1 none, eq-iff (one + two) n .1 (omega (arith, q, count-both (c j)))))
 
-  pub sides-by-crossing : sameSides n b c i j ≡ (alike || apart)
+  pub sides-by-crossing : sameSides n b c i j ≡ (alike || complementary)
   sides-by-crossing = same-test _ _
-      (λ y. or-iff alike apart .1 (to-either (same-sides-iff n b c i j .0 y)))
-      (λ y. same-sides-iff n b c i j .1 (elim (or-iff alike apart .0 y) [ inl s ↦ from-alike s | inr s ↦ turned (apart-turned s) ]))
+      (λ y. or-iff alike complementary .1 (to-either (same-sides-iff n b c i j .0 y)))
+      (λ y. same-sides-iff n b c i j .1 (elim (or-iff alike complementary .0 y) [ inl s ↦ from-alike s | inr s ↦ turned (apart-turned s) ]))

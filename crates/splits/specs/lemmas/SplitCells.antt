@@ -8,7 +8,7 @@ use lib.ListN.{length}
 use Rattle.sums.specs.Tests.{some}
 use Rattle.sums.specs.Counts.{count}
 use Rattle.tree_check.specs.Table.{word}
-use Rattle.tree_pairs.specs.lemmas.EdgeRows.{aboveIn, sizeAt}
+use Rattle.tree_pairs.specs.lemmas.EdgeRows.{aboveIn, rowSize}
 
 -- ---- one tree, with sizes `step` cells apart
 
@@ -23,13 +23,13 @@ newSize n s above = not (eqb s above) && splitSize n s
 -- the edges of rows i and k leave one node, and all labels lie beyond the two
 unfoldable pub halfRow : ℕ → List ℕ → ℕ → List ℕ → ℕ → ℕ → Bool
 halfRow n work step ps i k =
-    eqb (word ps (k + 1)) (word ps (i + 1)) && eqb (sizeAt work step k + sizeAt work step i) n
+    eqb (word ps (k + 1)) (word ps (i + 1)) && eqb (rowSize work step k + rowSize work step i) n
 
 -- the edge of row i is a split, and the first with its label sets
 unfoldable pub newRow : ℕ → List ℕ → ℕ → List ℕ → ℕ → Bool
 newRow n work step ps i =
-    let above = sizeAt work step (aboveIn ps i) in
-    newSize n (sizeAt work step i) above && not (eqb above n && some i (halfRow n work step ps i))
+    let above = rowSize work step (aboveIn ps i) in
+    newSize n (rowSize work step i) above && not (eqb above n && some i (halfRow n work step ps i))
 
 -- that of row i + 1
 abbrev pub newEdge : ℕ → List ℕ → ℕ → List ℕ → ℕ → Bool

@@ -58,8 +58,8 @@ pub record SplitsCountable (work : List ℕ) (n : ℕ) (ps qs : List ℕ) : Type
   pub few : edgeSplits n work (length qs - 1) ps + edgeSplits n work 1 qs ≤ 65535
   pub fits : 2 * commonRows n work (length qs - 1) ps ≤ edgeSplits n work (length qs - 1) ps + edgeSplits n work 1 qs
 
-unfoldable pub counted : List ℕ → ℕ → List ℕ → List ℕ → SplitCounts
-counted work n ps qs =
+unfoldable pub splitsCounted : List ℕ → ℕ → List ℕ → List ℕ → SplitCounts
+splitsCounted work n ps qs =
     let first = edgeSplits n work (length qs - 1) ps in
     let second = edgeSplits n work 1 qs in
     let common = commonRows n work (length qs - 1) ps in
@@ -75,8 +75,8 @@ counted work n ps qs =
 pub counted-is : (work : List ℕ) (n : ℕ) (ps qs : List ℕ) (a b c : ℕ) → a ≡ edgeSplits n work (length qs - 1) ps
     → b ≡ edgeSplits n work 1 qs → c ≡ commonRows n work (length qs - 1) ps
     → record { refusal = 0; first = a; second = b; common = c; distance = a + b - 2 * c }
-    ≡ counted work n ps qs
-unfolding counted
+    ≡ splitsCounted work n ps qs
+unfolding splitsCounted
 counted-is work n ps qs a b c ea eb ec = rw (ea, eb, ec)
 
 -- the cells of a pair
@@ -180,8 +180,8 @@ module _ (l : Labels) (t u : Table) (work : List ℕ) (p : PairWithCells t u (le
         fits = rw (first-is, second-is, common-is) (robinson-foulds-fits l t u);
       }
 
-  pub split-among : counted (crossed l t u work) (l .number) (parents t) (parents u) ≡ splitsAmong l t u
-  unfolding counted robinsonFoulds
+  pub split-among : splitsCounted (crossed l t u work) (l .number) (parents t) (parents u) ≡ splitsAmong l t u
+  unfolding splitsCounted robinsonFoulds
   split-among = rw (first-is, second-is, common-is) refl
 
 -- ---- through the parts that code lends, after the crossings were written
@@ -203,10 +203,10 @@ module _ (t u : Table) (marks work new : List ℕ) (p : MarkedPair t u marks (le
       to-lent (λ x y n ps qs. SplitsCountable x y ps qs) l t u work new (p .with-cells) written c (tips t) m k ec refl em ek
       (split-cells l t u work (p .with-cells) rises)
 
-  pub lent-splits : (r : SplitCounts) → r ≡ counted new c (lentParents t m) (lentParents u k)
+  pub lent-splits : (r : SplitCounts) → r ≡ splitsCounted new c (lentParents t m) (lentParents u k)
       → r ≡ splitAnswer t u marks (length work)
   unfolding splitAnswer
   lent-splits r q =
-      of-lent (λ x y n ps qs. r ≡ counted x y ps qs) l t u work new (p .with-cells) written c (tips t) m k ec refl em ek q
+      of-lent (λ x y n ps qs. r ≡ splitsCounted x y ps qs) l t u work new (p .with-cells) written c (tips t) m k ec refl em ek q
       ∙ split-among l t u work (p .with-cells) rises
       ∙ sym (if-accepted _ (splitsAmong l t u) _ (pair-check t u marks (length work) .1 p))

@@ -38,14 +38,14 @@ module _ (n : ℕ) (marks : List ℕ) (a : AreMarks marks n) (c : ℕ) (room : (
   pub none-refused : (t u : Tree n) → quartetAnswer (t .table) (u .table) marks c .refusal ≡ 0
   none-refused t u = demand-three (t .table) (u .table) marks c .accepted .1 (any-pair t u)
 
-  abbrev pub answered : Tree n → Tree n → ℕ
-  answered t u = quartetAnswer (t .table) (u .table) marks c .distance
+  abbrev pub answeredDistance : Tree n → Tree n → ℕ
+  answeredDistance t u = quartetAnswer (t .table) (u .table) marks c .distance
 
-  is-distance : (t u : Tree n) → answered t u ≡ distance (kept marks n) (t .table) (u .table)
+  is-distance : (t u : Tree n) → answeredDistance t u ≡ distance (kept marks n) (t .table) (u .table)
   is-distance t u =
       ap (λ (r : QuartetTable). r .distance) (counted (t .table) (u .table) marks c n (sym (t .has-tips)) (any-pair t u))
 
-  pub answers-metric : IsMetric (Tree n) (SameTree (kept marks n)) answered
+  pub answers-metric : IsMetric (Tree n) (SameTree (kept marks n)) answeredDistance
   answers-metric =
       let m = distance-metric n (kept marks n) (kept-rising marks n) in
       record {

@@ -11,7 +11,7 @@ use Rattle.tree_check.specs.Refusals.{refusal, ifAccepted}
 use Rattle.tree_check.specs.IsTree.{IsTree}
 use Rattle.tree_check.specs.TreeOrder.{treeOrder}
 use Rattle.tree_check.specs.theorems.TreeCheck.{tree-check}
-use Rattle.tree_check.specs.Check.{verdict, checked, numberOf, tipsOf, nodesOf, Told}
+use Rattle.tree_check.specs.Check.{verdict, checked, numberOf, tipsOf, nodesOf, TreeTold}
 
 -- ---- the two answers
 
@@ -23,10 +23,10 @@ verdict-told zero t = (refl, refl, refl)
 verdict-told (suc k) t = (refl, refl, refl)
 
 -- an answer, and what it tells
-pub answered : (t : Table) (r : Checked) → r ≡ checked t → (r ≡ checked t) × Told t r
-answered t r e = (e, subst (Told t) (sym e) own)
+pub answered : (t : Table) (r : Checked) → r ≡ checked t → (r ≡ checked t) × TreeTold t r
+answered t r e = (e, subst (TreeTold t) (sym e) own)
   where
-    own : Told t (checked t)
+    own : TreeTold t (checked t)
     own = unfold checked in let h = verdict-told (refusal (treeOrder t)) t in
         record { number-told = h .0; tips-told = h .1; nodes-told = h .2 }
 

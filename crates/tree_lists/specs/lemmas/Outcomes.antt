@@ -19,7 +19,7 @@ use Rattle.tree_lists.specs.declared.checked.TreeList.{TreeList}
 use Rattle.tree_lists.specs.TreeLists.{treesMost, treesOf, startOf, treeAt, wrongTree, edgesAt, largest, listOrder}
 use Rattle.tree_lists.specs.CheckedList.{refusedList, checkedList}
 use Rattle.tree_lists.specs.theorems.ListCheck.{has-word}
-use Rattle.tree_lists.specs.lemmas.Starts.{Starts, lent-tree, starts-told}
+use Rattle.tree_lists.specs.lemmas.Starts.{TableStarts, lent-tree, starts-told}
 
 module _ (list : List ℕ) where
   turned-away : (k : ℕ) → refusal (listOrder list) ≡ k → k ≢ 0 → (r : TreeList) → r ≡ refusedList k → r ≡ checkedList list
@@ -51,7 +51,7 @@ module _ (list : List ℕ) where
           (has-word list (omega (arith, trees-told, two)), two, le-iff k treesMost .0 (t .1))
 
       -- n is the first tree's
-      module _ (starts : List ℕ) (s : Starts list k starts) (n : ℕ)
+      module _ (starts : List ℕ) (s : TableStarts list k starts) (n : ℕ)
           (en : n ≡ tips (take (word starts 1 - word starts 0) (drop (word starts 0) list))) (w : Bool) (ew : w ≡ some k (wrongTree list n)) where
         first-tips : n ≡ tips (treeAt list 0)
         first-tips = en ∙ ap tips (lent-tree list (number-right .0) k starts s 0 (omega (arith, number-right .1)))

@@ -27,7 +27,7 @@ use Rattle.tree_lists.specs.theorems.ListLaws.{next-start, start-inside,
 -- ---- starts
 
 -- the starts of the tables up to i, where table i starts, and zeros
-pub record Starts (list : List ℕ) (i : ℕ) (cells : List ℕ) : Type 0 where
+pub record TableStarts (list : List ℕ) (i : ℕ) (cells : List ℕ) : Type 0 where
   pub long : length cells ≡ 17
   pub at : (j : ℕ) → j ≤ i → word cells j ≡ startOf list j
   pub later : (j : ℕ) → i < j → word cells j ≡ 0
@@ -45,7 +45,7 @@ zeros k a = elim (decLt a k) [
 ]
 
 module _ (list : List ℕ) where
-  pub starts-first : Starts list 0 (set blank 0 1)
+  pub starts-first : TableStarts list 0 (set blank 0 1)
   unfolding startOf
   starts-first = record {
     long = length-set blank 0 1 ∙ length-blank;
@@ -54,8 +54,8 @@ module _ (list : List ℕ) where
     later = λ j l. getD-set-other blank 0 j 1 0 (λ z. omega arith) ∙ zeros 17 j;
   }
 
-  pub starts-next : (i : ℕ) (cells : List ℕ) (x : ℕ) → i < 16 → x ≡ startOf list (i + 1) → Starts list i cells
-      → Starts list (i + 1) (set cells (i + 1) x)
+  pub starts-next : (i : ℕ) (cells : List ℕ) (x : ℕ) → i < 16 → x ≡ startOf list (i + 1) → TableStarts list i cells
+      → TableStarts list (i + 1) (set cells (i + 1) x)
   starts-next i cells x l e h = record {
     long = length-set cells (i + 1) x ∙ h .long;
     at = λ j m. elim (ℕ-discrete j (i + 1)) [
@@ -81,11 +81,11 @@ module _ (list : List ℕ) where
     enough : k + 1 ≤ length blank
     enough = omega (arith, length-blank)
 
-    pub starts-told : Starts list k cells → cells ≡ inFront (k + 1) (startOf list) blank
+    pub starts-told : TableStarts list k cells → cells ≡ inFront (k + 1) (startOf list) blank
     starts-told h = in-front-is (k + 1) (startOf list) blank cells (h .long ∙ sym (length-blank)) enough
         (λ c l. h .at c (omega arith)) (λ c l. h .later c (omega arith) ∙ sym (zeros 17 c))
 
-    pub starts-known : cells ≡ inFront (k + 1) (startOf list) blank → Starts list k cells
+    pub starts-known : cells ≡ inFront (k + 1) (startOf list) blank → TableStarts list k cells
     starts-known e = record {
       long = ap length e ∙ in-front-length (k + 1) (startOf list) blank enough ∙ length-blank;
       at = λ j l. ap (λ (x : List ℕ). word x j) e ∙ in-front-at (k + 1) (startOf list) blank j (omega arith);
@@ -94,7 +94,7 @@ module _ (list : List ℕ) where
 
 -- ---- a table as it is lent
 
-module _ (list : List ℕ) (l : 1 ≤ length list) (k : ℕ) (cells : List ℕ) (h : Starts list k cells) (i : ℕ) (m : i < k) where
+module _ (list : List ℕ) (l : 1 ≤ length list) (k : ℕ) (cells : List ℕ) (h : TableStarts list k cells) (i : ℕ) (m : i < k) where
   pub from-to : word cells i ≤ word cells (i + 1)
   from-to = omega (arith, h .at i (omega arith), h .at (i + 1) (omega arith), start-rises list i, ap (startOf list) (add-one i))
 

@@ -28,12 +28,12 @@ abbrev pub keptBeyond : (ℕ → Bool) → Table → Table → ℕ → ℕ → �
 keptBeyond q t u j x = bit (ltb (label t x) (tips t)) * (bit (q (label t x)) * bit (anc (parent u) j (nodeOf u (label t x))))
 
 -- the labels of t that pass q
-abbrev pub passing : (ℕ → Bool) → Table → Labels
-passing q t = record { number = count (tips t) q; at = keptAt q (tips t) }
+abbrev pub passingIn : (ℕ → Bool) → Table → Labels
+passingIn q t = record { number = count (tips t) q; at = keptAt q (tips t) }
 
 pub crossing-total : (q : ℕ → Bool) (t u : Table) → IsTree t → (v j : ℕ) → 1 ≤ v → (cells : ℕ → ℕ)
     → ((x : ℕ) → 1 ≤ x → x < nodes t → cells x ≡ keptBeyond q t u j x)
-    → total (parent t) (nodes t) cells v ≡ edgeCrossing (passing q t) t u v j
+    → total (parent t) (nodes t) cells v ≡ edgeCrossing (passingIn q t) t u v j
 unfolding total edgeCrossing beyond beyondAt
 crossing-total q t u g v j lv cells h =
     sum-ext (nodes t) _ _ term

@@ -37,8 +37,8 @@ parent-word ps r i l =
     rw e at (r .earlier (i + 1) (omega arith) (omega arith))
 
 -- the size of the edge of row i, with `step` cells from one size to the next
-abbrev pub sizeAt : List ℕ → ℕ → ℕ → ℕ
-sizeAt work step i = word work (i * step)
+abbrev pub rowSize : List ℕ → ℕ → ℕ → ℕ
+rowSize work step i = word work (i * step)
 
 -- ---- where there are cells
 
@@ -97,18 +97,18 @@ module _ (t : Table) (g : IsTree t) where
 module _ (l : Labels) (t u : Table) (g : IsTree t) (h : IsTree u) (e : tips t ≡ tips u) (q : Rising (tips t) l)
     (work : List ℕ) where
   pub size-above-row : (i : ℕ) → suc i < nodes t - 1
-      → sizeAt (crossed l t u work) (nodes u - 1) (aboveIn (parents t) (suc i))
+      → rowSize (crossed l t u work) (nodes u - 1) (aboveIn (parents t) (suc i))
       ≡ count (l .number) (beyondAt l t (parent t (suc (suc i))))
   size-above-row i o =
       let r = row-above t g i o in
       row-cell l t u g h e q work (aboveIn (parents t) (suc i)) (r .1)
       ∙ ap (λ (v : ℕ). count (l .number) (beyondAt l t v)) (r .0)
 
-  pub size-of-column : (j : ℕ) → j < nodes u - 1 → sizeAt (crossed l t u work) 1 j ≡ count (l .number) (beyondAt l u (suc j))
+  pub size-of-column : (j : ℕ) → j < nodes u - 1 → rowSize (crossed l t u work) 1 j ≡ count (l .number) (beyondAt l u (suc j))
   size-of-column j o = let c : j * 1 ≡ j = omega arith in rw c (column-cell l t u g h e q work j o)
 
   pub size-above-column : (j : ℕ) → suc j < nodes u - 1
-      → sizeAt (crossed l t u work) 1 (aboveIn (parents u) (suc j)) ≡ count (l .number) (beyondAt l u (parent u (suc (suc j))))
+      → rowSize (crossed l t u work) 1 (aboveIn (parents u) (suc j)) ≡ count (l .number) (beyondAt l u (parent u (suc (suc j))))
   size-above-column j o =
       let r = row-above u h j o in
       size-of-column (aboveIn (parents u) (suc j)) (r .1)

@@ -11,15 +11,15 @@ use Rattle.table_words.specs.Sizes.{nodeRoom}
 use Rattle.tree_check.specs.Table.{word}
 
 -- the values of the nodes below k
-pub record Listed (value : ℕ → ℕ) (k : ℕ) (cells : List ℕ) : Type 0 where
+pub record ListedNodes (value : ℕ → ℕ) (k : ℕ) (cells : List ℕ) : Type 0 where
   pub long : length cells ≡ nodeRoom
   pub at : (v : ℕ) → 1 ≤ v → v < k → word cells v ≡ value v
 
-pub listed-none : (value : ℕ → ℕ) (cells : List ℕ) → length cells ≡ nodeRoom → Listed value 1 cells
+pub listed-none : (value : ℕ → ℕ) (cells : List ℕ) → length cells ≡ nodeRoom → ListedNodes value 1 cells
 listed-none value cells l = record { long = l; at = λ v o m. absurd (omega arith) }
 
-pub listed-next : (value : ℕ → ℕ) (k : ℕ) (cells : List ℕ) (x : ℕ) → k < nodeRoom → x ≡ value k → Listed value k cells
-    → Listed value (k + 1) (set cells k x)
+pub listed-next : (value : ℕ → ℕ) (k : ℕ) (cells : List ℕ) (x : ℕ) → k < nodeRoom → x ≡ value k → ListedNodes value k cells
+    → ListedNodes value (k + 1) (set cells k x)
 listed-next value k cells x l e h = record {
   long = length-set cells k x ∙ h .long;
   at = λ v o m. elim (ℕ-discrete v k) [
@@ -29,7 +29,7 @@ listed-next value k cells x l e h = record {
 }
 
 -- those of fewer nodes are among them
-pub listed-fewer : (value : ℕ → ℕ) (k v : ℕ) (cells : List ℕ) → k ≤ v → Listed value v cells → Listed value k cells
+pub listed-fewer : (value : ℕ → ℕ) (k v : ℕ) (cells : List ℕ) → k ≤ v → ListedNodes value v cells → ListedNodes value k cells
 listed-fewer value k v cells l h = record { long = h .long; at = λ u o m. h .at u o (omega arith) }
 
 -- where node v's row begins, in rows of w cells

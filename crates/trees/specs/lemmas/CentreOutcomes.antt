@@ -32,20 +32,20 @@ module _ (t : Table) (g : IsTree t) where
 
 -- ---- the answer
 
-abbrev pub answer : ℕ → ℕ → CentreAnswer
-answer number node = record { refusal = number; node = node }
+abbrev pub centreTold : ℕ → ℕ → CentreAnswer
+centreTold number node = record { refusal = number; node = node }
 
 module _ (t : Table) (a b c : ℕ) where
   told : (k : ℕ) → refusal (labelOrder t (a ∷ b ∷ c ∷ [])) ≡ k
-      → answer k (ifAccepted k (centre t a b c) 0) ≡ centreAnswer t a b c
+      → centreTold k (ifAccepted k (centre t a b c) 0) ≡ centreAnswer t a b c
   unfolding centreAnswer
-  told k e = ap (λ (j : ℕ). answer j (ifAccepted j (centre t a b c) 0)) (sym e)
+  told k e = ap (λ (j : ℕ). centreTold j (ifAccepted j (centre t a b c) 0)) (sym e)
 
-  refused : (k : ℕ) → refusal (labelOrder t (a ∷ b ∷ c ∷ [])) ≡ k → k ≢ 0 → answer k 0 ≡ centreAnswer t a b c
-  refused k e d = ap (answer k) (sym (if-refused k (centre t a b c) 0 d)) ∙ told k e
+  refused : (k : ℕ) → refusal (labelOrder t (a ∷ b ∷ c ∷ [])) ≡ k → k ≢ 0 → centreTold k 0 ≡ centreAnswer t a b c
+  refused k e d = ap (centreTold k) (sym (if-refused k (centre t a b c) 0 d)) ∙ told k e
 
   -- 1 to 7 and 31
-  pub centre-refused : (k : ℕ) → refusal (treeOrder t) ≡ k → k ≢ 0 → answer k 0 ≡ centreAnswer t a b c
+  pub centre-refused : (k : ℕ) → refusal (treeOrder t) ≡ k → k ≢ 0 → centreTold k 0 ≡ centreAnswer t a b c
   unfolding labelOrder
   centre-refused k e d = refused k (tree-refused t (askedOrder (tips t) (a ∷ b ∷ c ∷ [])) k e d) d
 
@@ -56,11 +56,11 @@ module _ (t : Table) (a b c : ℕ) where
 
     -- 10 or 11
     pub centre-asked-refused : (k : ℕ) → k ≡ refusal (askedOrder n (a ∷ b ∷ c ∷ [])) → k ≢ 0
-        → answer k 0 ≡ centreAnswer t a b c
+        → centreTold k 0 ≡ centreAnswer t a b c
     centre-asked-refused k e d = refused k (asked ∙ sym e) d
 
     pub centre-accepted : (k v : ℕ) → k ≡ refusal (askedOrder n (a ∷ b ∷ c ∷ [])) → k ≡ 0
-        → v ≡ centreOver (parents t) (labels t) a b c → answer 0 v ≡ centreAnswer t a b c
+        → v ≡ centreOver (parents t) (labels t) a b c → centreTold 0 v ≡ centreAnswer t a b c
     centre-accepted k v e z q =
-        ap (answer 0) (q ∙ centre-of-parts t g a b c ∙ sym (if-accepted 0 (centre t a b c) 0 refl))
+        ap (centreTold 0) (q ∙ centre-of-parts t g a b c ∙ sym (if-accepted 0 (centre t a b c) 0 refl))
         ∙ told 0 (asked ∙ sym e ∙ z)

@@ -34,7 +34,7 @@ use Rattle.trees.specs.declared.witness.WitnessAnswer.{WitnessAnswer}
 use Rattle.trees.specs.Centre.{centre}
 use Rattle.asked_labels.specs.LabelOrder.{askedOrder, labelOrder}
 use Rattle.trees.specs.Topology.{topology, butterflyOf}
-use Rattle.trees.specs.Witness.{partsLabels, partingEdge, meetingNode, witness, witnessAnswer, isEdge, numberOf, WitnessTold}
+use Rattle.trees.specs.Witness.{partsLabels, partingEdge, meetingNode, witness, witnessAnswer, isEdge, witnessNumber, WitnessTold}
 use Rattle.asked_labels.specs.theorems.LabelOrderLaws.{label-check}
 use Rattle.trees.specs.theorems.WitnessLaws.{butterfly-by-edge, witness-shown}
 use Rattle.trees.specs.lemmas.CentreOutcomes.{centreOver, centre-of-parts}
@@ -63,8 +63,8 @@ unfolding witnessAt
 at-edge zero v w n e = absurd (n refl)
 at-edge (suc i) v w n e = ap Edge e
 
-abbrev pub answer : ℕ → Topology → Witness → WitnessAnswer
-answer k x w = record { refusal = k; topology = x; witness = w }
+abbrev pub witnessedAs : ℕ → Topology → Witness → WitnessAnswer
+witnessedAs k x w = record { refusal = k; topology = x; witness = w }
 
 -- the answer over the two parts of a table
 pub record Seen (ps ls : List ℕ) (a b c d : ℕ) (r : WitnessAnswer) : Type 0 where
@@ -72,7 +72,7 @@ pub record Seen (ps ls : List ℕ) (a b c d : ℕ) (r : WitnessAnswer) : Type 0 
   pub sides-are : SidesAre ps ls a b c d cells
   pub edge : ℕ
   pub edge-is : ShownEdge cells (length ps) edge
-  pub answer-is : r ≡ answer 0 (topologyShown (pairing (word cells edge)) a b c d) (witnessAt edge (centreOver ps ls a b c))
+  pub answer-is : r ≡ witnessedAs 0 (topologyShown (pairing (word cells edge)) a b c d) (witnessAt edge (centreOver ps ls a b c))
 
 -- ---- of a table
 
@@ -81,26 +81,26 @@ module _ (t : Table) (a b c d : ℕ) where
   number = refusal (labelOrder t (a ∷ b ∷ c ∷ d ∷ []))
 
   answered : (k : ℕ) → number ≡ k
-      → witnessAnswer t a b c d ≡ answer k (ifAccepted k (topology t a b c d) Star) (ifAccepted k (witness t a b c d) (Meet 0))
+      → witnessAnswer t a b c d ≡ witnessedAs k (ifAccepted k (topology t a b c d) Star) (ifAccepted k (witness t a b c d) (Meet 0))
   unfolding witnessAnswer
   answered k e =
-      ap (λ (j : ℕ). answer j (ifAccepted j (topology t a b c d) Star) (ifAccepted j (witness t a b c d) (Meet 0))) e
+      ap (λ (j : ℕ). witnessedAs j (ifAccepted j (topology t a b c d) Star) (ifAccepted j (witness t a b c d) (Meet 0))) e
 
-  refused : (k : ℕ) → number ≡ k → k ≢ 0 → witnessAnswer t a b c d ≡ answer k Star (Meet 0)
+  refused : (k : ℕ) → number ≡ k → k ≢ 0 → witnessAnswer t a b c d ≡ witnessedAs k Star (Meet 0)
   refused k e n =
       answered k e
-      ∙ ap₂ (answer k) (if-refused k (topology t a b c d) Star n) (if-refused k (witness t a b c d) (Meet 0) n)
+      ∙ ap₂ (witnessedAs k) (if-refused k (topology t a b c d) Star n) (if-refused k (witness t a b c d) (Meet 0) n)
 
   -- the table is refused
   pub witness-refused : (k : ℕ) → refusal (treeOrder t) ≡ k → k ≢ 0
-      → witnessAnswer t a b c d ≡ answer k Star (Meet 0)
+      → witnessAnswer t a b c d ≡ witnessedAs k Star (Meet 0)
   unfolding labelOrder
   witness-refused k e n = refused k (tree-refused t _ k e n) n
 
   module _ (g : IsTree t) where
     -- the labels are refused
     pub witness-asked-refused : (k : ℕ) → refusal (askedOrder (tips t) (a ∷ b ∷ c ∷ d ∷ [])) ≡ k → k ≢ 0
-        → witnessAnswer t a b c d ≡ answer k Star (Meet 0)
+        → witnessAnswer t a b c d ≡ witnessedAs k Star (Meet 0)
     unfolding labelOrder
     witness-asked-refused k e n = refused k (tree-accepted t _ g ∙ e) n
 
@@ -216,7 +216,7 @@ module _ (t : Table) (a b c d : ℕ) where
         let below = label-check t (a ∷ b ∷ c ∷ d ∷ []) .0 z .1 in
         let i = s .edge in
         answered 0 z
-        ∙ ap₂ (answer 0)
+        ∙ ap₂ (witnessedAs 0)
         (if-accepted 0 (topology t a b c d) Star refl
         ∙ sym (topology-shown t a b c d g (s .cells) (s .sides-are) (pairing (word (s .cells) i)) (shown-pairing (s .cells) (s .sides-are) i (s .edge-is))))
         (if-accepted 0 (witness t a b c d) (Meet 0) refl

@@ -10,11 +10,12 @@ use lib.ListN.{length}
 use Rattle.sums.specs.Bits.{bit}
 use Rattle.sums.specs.theorems.TestLaws.{eq-iff}
 use Rattle.shapes.specs.Ancestors.{anc}
-use Rattle.shapes.specs.Quartets.{parts, Apart}
+use Rattle.shapes.specs.Quartets.{parts}
 use Rattle.shapes.specs.theorems.PartedFours.{parts-iff}
-use Rattle.tree_check.specs.Table.{Table, word, parent, nodeBelow, nodeOf, beyond}
+use Rattle.tree_check.specs.Table.{Table, word, nodeBelow, beyond}
 use Rattle.trees.specs.declared.quartet.Topology.{Topology}
 use Rattle.trees.specs.declared.quartet.Topology.the-variants.{Butterfly, Star}
+use Rattle.trees.specs.theorems.WitnessLaws.{ApartAt}
 use Rattle.trees.specs.Topology.{partner}
 
 -- which of the four labels lie beyond edge i, as one number: 1 for a, 2 for b, 4 for c, 8 for d
@@ -75,10 +76,6 @@ pairs-shown false false true true = (refl, refl, refl)
 pairs-shown false false true false = (refl, refl, refl)
 pairs-shown false false false true = (refl, refl, refl)
 pairs-shown false false false false = (refl, refl, refl)
-
--- edge i has a, b on one side and c, d on the other
-abbrev pub ApartAt : Table → ℕ → ℕ → ℕ → ℕ → ℕ → Type 0
-ApartAt t i a b c d = Apart (parent t) i (nodeOf t a) (nodeOf t b) (nodeOf t c) (nodeOf t d)
 
 -- edge i parts the four labels as its number shows
 pub apart-shown : (t : Table) (i a b c d : ℕ) → ((pairing (sides t i a b c d) ≡ 1) ↔ ApartAt t i a b c d)

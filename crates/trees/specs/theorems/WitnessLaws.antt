@@ -24,7 +24,7 @@ use Rattle.trees.specs.declared.quartet.Topology.the-variants.{Butterfly
 use Rattle.trees.specs.declared.witness.Witness.{Witness}
 use Rattle.trees.specs.declared.witness.Witness.the-variants.{Edge, Meet}
 use Rattle.trees.specs.Topology.{partner, topology, butterflyOf, PartedIn}
-use Rattle.trees.specs.Witness.{partsLabels, partingEdge, meetingNode, witness, isEdge, numberOf}
+use Rattle.trees.specs.Witness.{partsLabels, partingEdge, meetingNode, witness, isEdge, witnessNumber}
 use Rattle.trees.specs.Witness.{PartsAt, LowestParting, OnAllPaths, OneMeeting, ShownBy}
 use Rattle.trees.specs.theorems.TopologyLaws.{star-iff, parted-butterfly, parted-with-c, parted-with-d}
 use Rattle.trees.specs.theorems.TopologyLaws.{Rearranged, as-is, first-two, middle, last-two}
@@ -58,7 +58,7 @@ module _ (t : Table) (a b c d : ℕ) where
   pub edge-told : (i : ℕ) → witness t a b c d ≡ Edge i → LowestParting t a b c d i
   edge-told i e = elim told [
     | inr n ↦ absurd (omega (arith, ap isEdge (sym (by-node n) ∙ e)))
-    | inl y ↦ rw (sym (ap numberOf (sym (by-edge y) ∙ e))) (lowest y)
+    | inl y ↦ rw (sym (ap witnessNumber (sym (by-edge y) ∙ e))) (lowest y)
   ]
     where
       before : (first (nodes t - 1) (partsLabels t a b c d) < nodes t - 1)
@@ -117,16 +117,16 @@ module _ (t : Table) (a b c d : ℕ) where
       go Star n = absurd (n refl)
 
 -- the pairing that edge i shows is the topology's
-pub data Pairing (t : Table) (i a b c d : ℕ) : Topology → Type 0 where
-  ab-cd : ApartAt t i a b c d → Pairing t i a b c d (Butterfly (partner a b c d))
-  ac-bd : ApartAt t i a c b d → Pairing t i a b c d (Butterfly (partner a c b d))
-  ad-bc : ApartAt t i a d b c → Pairing t i a b c d (Butterfly (partner a d b c))
+pub data PairingShown (t : Table) (i a b c d : ℕ) : Topology → Type 0 where
+  ab-cd : ApartAt t i a b c d → PairingShown t i a b c d (Butterfly (partner a b c d))
+  ac-bd : ApartAt t i a c b d → PairingShown t i a b c d (Butterfly (partner a c b d))
+  ad-bc : ApartAt t i a d b c → PairingShown t i a b c d (Butterfly (partner a d b c))
 
 module _ (t : Table) (g : IsTree t) (a b c d : ℕ) where
-  pub edge-pairing : (i : ℕ) → witness t a b c d ≡ Edge i → Pairing t i a b c d (topology t a b c d)
+  pub edge-pairing : (i : ℕ) → witness t a b c d ≡ Edge i → PairingShown t i a b c d (topology t a b c d)
   edge-pairing i e = let s = edge-told t a b c d i e in of i (s .above) (omega (arith, s .edge)) (s .parts)
     where
-      of : (i : ℕ) → 1 ≤ i → i ≤ nodes t - 1 → PartsAt t i a b c d → Pairing t i a b c d (topology t a b c d)
+      of : (i : ℕ) → 1 ≤ i → i ≤ nodes t - 1 → PartsAt t i a b c d → PairingShown t i a b c d (topology t a b c d)
       of i l m (with-b h) = rw (parted-butterfly t a b c d (i, l, m, h)) (ab-cd h)
       of i l m (with-c h) = rw (parted-with-c t g a b c d (i, l, m, h)) (ac-bd h)
       of i l m (with-d h) = rw (parted-with-d t g a b c d (i, l, m, h)) (ad-bc h)
@@ -139,7 +139,7 @@ module _ (t : Table) (g : IsTree t) (a b c d : ℕ) where
     is-meeting : v ≡ meetingNode t a b c d
     is-meeting = elim (told t a b c d) [
       | inl y ↦ absurd (omega (arith, ap isEdge (sym (by-edge t a b c d y) ∙ e)))
-      | inr n ↦ ap numberOf (sym e ∙ by-node t a b c d n)
+      | inr n ↦ ap witnessNumber (sym e ∙ by-node t a b c d n)
     ]
 
     pub one-meeting : OneMeeting t a b c d v

@@ -11,20 +11,20 @@ use Rattle.sums.specs.theorems.SumLaws.{sum-mono, sum-const}
 use Rattle.sums.specs.theorems.Products.{product-le}
 use Rattle.shapes.specs.theorems.TripletCounts.{edgeTerm}
 use Rattle.tree_check.specs.Table.{word}
-use Rattle.tree_pairs.specs.lemmas.EdgeRows.{aboveIn, EdgeRoom, EdgeCells, edge-cells, parent-word, sizeAt}
+use Rattle.tree_pairs.specs.lemmas.EdgeRows.{aboveIn, EdgeRoom, EdgeCells, edge-cells, parent-word, rowSize}
 
 -- ---- sizes
 
 -- the sizes are `step` cells apart, and none is above its parent's
 pub record SizeCells (work : List ℕ) (step : ℕ) (ps : List ℕ) : Type 0 where
   pub room : EdgeRoom (length work) step ps
-  pub low : (i : ℕ) → 1 ≤ i → i < length ps - 1 → sizeAt work step i ≤ sizeAt work step (aboveIn ps i)
-  pub most : (i : ℕ) → i < length ps - 1 → sizeAt work step i ≤ 256
+  pub low : (i : ℕ) → 1 ≤ i → i < length ps - 1 → rowSize work step i ≤ rowSize work step (aboveIn ps i)
+  pub most : (i : ℕ) → i < length ps - 1 → rowSize work step i ≤ 256
 
 -- what all edges from edge 2 on add
 unfoldable pub edgeSum : List ℕ → ℕ → List ℕ → ℕ
 edgeSum work step ps =
-    sum (length ps - 2) (λ i. edgeTerm (sizeAt work step (i + 1)) (sizeAt work step (aboveIn ps (i + 1))))
+    sum (length ps - 2) (λ i. edgeTerm (rowSize work step (i + 1)) (rowSize work step (aboveIn ps (i + 1))))
 
 -- ---- the laws of the loop
 
@@ -60,9 +60,9 @@ sum-most k b f h = omega (arith, sum-mono k f (λ q. b) h, sum-const k b)
 -- the sizes of an edge and of its parent's, which is in row `up`
 pub record EdgeSizes (work : List ℕ) (step : ℕ) (ps : List ℕ) (i up : ℕ) : Type 0 where
   pub cells : EdgeCells (length work) step ps i up
-  pub sizes : (sizeAt work step (i + 1) ≤ sizeAt work step up) × (sizeAt work step up ≤ 256)
-  pub term : edgeTerm (sizeAt work step (i + 1)) (sizeAt work step up)
-      ≡ edgeTerm (sizeAt work step (i + 1)) (sizeAt work step (aboveIn ps (i + 1)))
+  pub sizes : (rowSize work step (i + 1) ≤ rowSize work step up) × (rowSize work step up ≤ 256)
+  pub term : edgeTerm (rowSize work step (i + 1)) (rowSize work step up)
+      ≡ edgeTerm (rowSize work step (i + 1)) (rowSize work step (aboveIn ps (i + 1)))
 
 module _ (work : List ℕ) (step : ℕ) (ps : List ℕ) (h : SizeCells work step ps) where
   pub edge-sizes : (i up : ℕ) → i < length ps - 2 → up ≡ word ps (i + 2) - 1 → EdgeSizes work step ps i up
@@ -80,7 +80,7 @@ module _ (work : List ℕ) (step : ℕ) (ps : List ℕ) (h : SizeCells work step
 
   -- the sum over the first i edges
   pub edges-low : (i : ℕ) → i ≤ length ps - 2
-      → sum i (λ j. edgeTerm (sizeAt work step (j + 1)) (sizeAt work step (aboveIn ps (j + 1)))) ≤ 17179869184
+      → sum i (λ j. edgeTerm (rowSize work step (j + 1)) (rowSize work step (aboveIn ps (j + 1)))) ≤ 17179869184
   edges-low i l = omega (
     arith,
     sum-most i 16777216 _ (λ j m. at j (omega arith)),
@@ -88,7 +88,7 @@ module _ (work : List ℕ) (step : ℕ) (ps : List ℕ) (h : SizeCells work step
   )
     where
       at : (j : ℕ) → j < length ps - 2
-          → edgeTerm (sizeAt work step (j + 1)) (sizeAt work step (aboveIn ps (j + 1))) ≤ 16777216
+          → edgeTerm (rowSize work step (j + 1)) (rowSize work step (aboveIn ps (j + 1))) ≤ 16777216
       at j m =
           let a = edge-sizes j (word ps (j + 2) - 1) m refl in
           rw (a .term) at (edge-term-most _ _ (a .sizes .0) (a .sizes .1))

@@ -9,8 +9,8 @@ use Rattle.triplets.specs.declared.tables.TripletTable.{TripletTable}
 
 -- A is half of what is summed over pairs of edges that agree, B what is summed over those that differ; half of a tree's sum
 -- over its edges is what it resolves
-unfoldable pub formed : ℕ → ℕ → ℕ → ℕ → ℕ → TripletTable
-formed n first second alike apart =
+unfoldable pub formedTriplets : ℕ → ℕ → ℕ → ℕ → ℕ → TripletTable
+formedTriplets n first second alike apart =
     let a = alike / 2 in
     let b = apart in
     let c = first / 2 - a - b in
@@ -26,7 +26,7 @@ formed n first second alike apart =
     }
 
 -- no subtraction goes below 0, and nothing wraps
-pub record TableFits (n first second alike apart : ℕ) : Type 0 where
+pub record TripletsFit (n first second alike apart : ℕ) : Type 0 where
   pub tips-few : n ≤ 256
   pub first-most : first ≤ 5462270
   pub second-most : second ≤ 5462270
@@ -47,16 +47,16 @@ pub table-formed : (n first second alike apart all : ℕ) → all ≡ threes (n 
   e = all - alike / 2 - apart - (first / 2 - alike / 2 - apart) - (second / 2 - alike / 2 - apart);
   distance = apart + (first / 2 - alike / 2 - apart) + (second / 2 - alike / 2 - apart);
 }
-    ≡ formed n first second alike apart
-unfolding formed
+    ≡ formedTriplets n first second alike apart
+unfolding formedTriplets
 table-formed n first second alike apart all e = rw e refl
 
 -- the five counts, from what the sums count
 pub formed-is : (n first second alike apart a b c d e : ℕ) → first ≡ 2 * (a + b + c) → second ≡ 2 * (a + b + d)
     → alike ≡ 2 * a → apart ≡ b → a + b + c + d + e ≡ threes (n - 1)
-    → formed n first second alike apart
+    → formedTriplets n first second alike apart
     ≡ record { refusal = 0; a = a; b = b; c = c; d = d; e = e; distance = b + c + d }
-unfolding formed
+unfolding formedTriplets
 formed-is n first second alike apart a b c d e hf hs ha hb all =
     rw (half alike a ha, hb, rest first a b c hf, rest second a b d hs, left (threes (n - 1)) a b c d e all) refl
   where

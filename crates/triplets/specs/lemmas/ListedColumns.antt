@@ -45,8 +45,8 @@ pub record ListedTo (work qs : List ℕ) (j k : ℕ) (columns above : List ℕ) 
       ≡ sum j (λ i. isWide work (i + 1) * F (i + 1) (aboveIn qs (i + 1)))
 
 -- all columns
-abbrev pub Listed : List ℕ → List ℕ → ℕ → List ℕ → List ℕ → Type 0
-Listed work qs k columns above = ListedTo work qs (length qs - 2) k columns above
+abbrev pub AllListed : List ℕ → List ℕ → ℕ → List ℕ → List ℕ → Type 0
+AllListed work qs k columns above = ListedTo work qs (length qs - 2) k columns above
 
 -- ---- column after column
 

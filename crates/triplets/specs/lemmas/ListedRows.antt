@@ -20,9 +20,9 @@ use Rattle.tree_check.specs.Table.{word}
 use Rattle.tree_pairs.specs.theorems.CrossingLaws.{cell-inside}
 use Rattle.tree_pairs.specs.lemmas.EdgeRows.{aboveIn}
 use Rattle.triplets.specs.lemmas.EdgeSums.{sum-most}
-use Rattle.triplets.specs.lemmas.PairCells.{Nested, CrossedCells, alikeCell, apartCell, alikeRow, apartRow}
+use Rattle.triplets.specs.lemmas.PairCells.{Nested, CrossedCells, alikeCell, apartCell, alikeRow, tripletsApartRow}
 use Rattle.triplets.specs.lemmas.PairCells.{alike-most, apart-most, alike-column-none, apart-column-zero}
-use Rattle.triplets.specs.lemmas.ListedColumns.{ColumnRoom, Listed, isWide}
+use Rattle.triplets.specs.lemmas.ListedColumns.{ColumnRoom, AllListed, isWide}
 
 -- ---- a row with listed columns: the row begins at base, its parent's at up
 
@@ -129,8 +129,8 @@ module _ (work ps qs : List ℕ) (h : CrossedCells work ps qs) (row : ℕ) (l1 :
       }
 
   -- the sums of a whole row
-  pub row-low : (alikeRow work ps qs row ≤ 17179869184) × (apartRow work ps qs row ≤ 17179869184)
-  unfolding alikeRow apartRow
+  pub row-low : (alikeRow work ps qs row ≤ 17179869184) × (tripletsApartRow work ps qs row ≤ 17179869184)
+  unfolding alikeRow tripletsApartRow
   row-low = (
     omega (
       arith,
@@ -149,7 +149,7 @@ module _ (work ps qs : List ℕ) (h : CrossedCells work ps qs) (row : ℕ) (l1 :
       few : length qs - 2 ≤ nodeRoom
       few = omega (arith, h .second .few)
 
-  module _ (columns above : List ℕ) (k : ℕ) (s : Listed work qs k columns above) where
+  module _ (columns above : List ℕ) (k : ℕ) (s : AllListed work qs k columns above) where
     pub row-cells : RowCells work (row * (length qs - 1)) (aboveIn ps row * (length qs - 1)) columns above k
     row-cells = record {
       few = omega (arith, s .few, h .second .few);
@@ -182,8 +182,8 @@ module _ (work ps qs : List ℕ) (h : CrossedCells work ps qs) (row : ℕ) (l1 :
         alike-column-none work ps qs h row (l + 1) l1 l2 (omega arith) (omega arith) one)
 
     pub apart-all : apartListed work (row * (length qs - 1)) (aboveIn ps row * (length qs - 1)) columns above k
-        ≡ apartRow work ps qs row
-    unfolding apartListed apartRow
+        ≡ tripletsApartRow work ps qs row
+    unfolding apartListed tripletsApartRow
     apart-all =
         s .sums (apartAt work (row * (length qs - 1)) (aboveIn ps row * (length qs - 1)))
         ∙ only-wide (λ l. apartCell work ps qs row (l + 1)) (λ l m one.
@@ -191,7 +191,7 @@ module _ (work ps qs : List ℕ) (h : CrossedCells work ps qs) (row : ℕ) (l1 :
 
     pub row-is : (up : ℕ) → up ≡ aboveIn ps row * (length qs - 1)
         → (alikeListed work (row * (length qs - 1)) up columns above k ≡ alikeRow work ps qs row)
-        × (apartListed work (row * (length qs - 1)) up columns above k ≡ apartRow work ps qs row)
+        × (apartListed work (row * (length qs - 1)) up columns above k ≡ tripletsApartRow work ps qs row)
     row-is up e = rw e (alike-all, apart-all)
 
 -- ---- all rows
@@ -200,7 +200,7 @@ module _ (work ps qs : List ℕ) (h : CrossedCells work ps qs) where
   -- the sums of the first i rows
   pub rows-low : (i : ℕ) → i ≤ length ps - 2
       → (sum i (λ r. alikeRow work ps qs (r + 1)) ≤ 17592186044416)
-      × (sum i (λ r. apartRow work ps qs (r + 1)) ≤ 17592186044416)
+      × (sum i (λ r. tripletsApartRow work ps qs (r + 1)) ≤ 17592186044416)
   rows-low i l = (
     omega (
       arith,

@@ -49,32 +49,32 @@ module _ (i r c w : ℕ) (h : Nested i r c w) where
 -- ---- rows of cells
 
 -- the cell of row i and column l
-abbrev pub cellAt : List ℕ → List ℕ → ℕ → ℕ → ℕ
-cellAt work qs i l = word work (i * (length qs - 1) + l)
+abbrev pub pairCell : List ℕ → List ℕ → ℕ → ℕ → ℕ
+pairCell work qs i l = word work (i * (length qs - 1) + l)
 
 -- what row i and column l add to twice A ..
 abbrev pub alikeCell : List ℕ → List ℕ → List ℕ → ℕ → ℕ → ℕ
-alikeCell work ps qs i l = alikeTerm (cellAt work qs i l) (cellAt work qs i (aboveIn qs l))
-    (cellAt work qs (aboveIn ps i) l) (cellAt work qs (aboveIn ps i) (aboveIn qs l))
+alikeCell work ps qs i l = alikeTerm (pairCell work qs i l) (pairCell work qs i (aboveIn qs l))
+    (pairCell work qs (aboveIn ps i) l) (pairCell work qs (aboveIn ps i) (aboveIn qs l))
 
 -- .. and to B
 abbrev pub apartCell : List ℕ → List ℕ → List ℕ → ℕ → ℕ → ℕ
 apartCell work ps qs i l =
-    apartTerm (cellAt work qs i l) (cellAt work qs i (aboveIn qs l)) (cellAt work qs (aboveIn ps i) l)
+    apartTerm (pairCell work qs i l) (pairCell work qs i (aboveIn qs l)) (pairCell work qs (aboveIn ps i) l)
 
 -- row i with all columns from the second on
 unfoldable pub alikeRow : List ℕ → List ℕ → List ℕ → ℕ → ℕ
 alikeRow work ps qs i = sum (length qs - 2) (λ l. alikeCell work ps qs i (l + 1))
 
-unfoldable pub apartRow : List ℕ → List ℕ → List ℕ → ℕ → ℕ
-apartRow work ps qs i = sum (length qs - 2) (λ l. apartCell work ps qs i (l + 1))
+unfoldable pub tripletsApartRow : List ℕ → List ℕ → List ℕ → ℕ → ℕ
+tripletsApartRow work ps qs i = sum (length qs - 2) (λ l. apartCell work ps qs i (l + 1))
 
 -- all rows from the second on
 unfoldable pub alikeSum : List ℕ → List ℕ → List ℕ → ℕ
 alikeSum work ps qs = sum (length ps - 2) (λ i. alikeRow work ps qs (i + 1))
 
 unfoldable pub apartSum : List ℕ → List ℕ → List ℕ → ℕ
-apartSum work ps qs = sum (length ps - 2) (λ i. apartRow work ps qs (i + 1))
+apartSum work ps qs = sum (length ps - 2) (λ i. tripletsApartRow work ps qs (i + 1))
 
 -- the cells of two trees
 pub record CrossedCells (work ps qs : List ℕ) : Type 0 where
@@ -82,11 +82,11 @@ pub record CrossedCells (work ps qs : List ℕ) : Type 0 where
   pub second : EarlierParents qs
   pub inside : (length ps - 1) * (length qs - 1) ≤ length work
   -- a cell is at most the first of its row, and at most the first of its column
-  pub row-most : (i l : ℕ) → i < length ps - 1 → l < length qs - 1 → cellAt work qs i l ≤ word work (i * (length qs - 1))
-  pub column-most : (i l : ℕ) → i < length ps - 1 → l < length qs - 1 → cellAt work qs i l ≤ word work l
+  pub row-most : (i l : ℕ) → i < length ps - 1 → l < length qs - 1 → pairCell work qs i l ≤ word work (i * (length qs - 1))
+  pub column-most : (i l : ℕ) → i < length ps - 1 → l < length qs - 1 → pairCell work qs i l ≤ word work l
   pub nested : (i l : ℕ) → 1 ≤ i → i < length ps - 1 → 1 ≤ l → l < length qs - 1
-      → Nested (cellAt work qs i l) (cellAt work qs i (aboveIn qs l))
-      (cellAt work qs (aboveIn ps i) l) (cellAt work qs (aboveIn ps i) (aboveIn qs l))
+      → Nested (pairCell work qs i l) (pairCell work qs i (aboveIn qs l))
+      (pairCell work qs (aboveIn ps i) l) (pairCell work qs (aboveIn ps i) (aboveIn qs l))
 
 -- ---- an edge with one label beyond it adds nothing
 
@@ -127,8 +127,8 @@ module _ (work ps qs : List ℕ) (h : CrossedCells work ps qs) where
     alike-row-none = sum-none (length qs - 2) _ (λ l m.
         alike-none _ _ _ _ (omega (arith, one, h .row-most i (l + 1) ri (omega arith))))
 
-    pub apart-row-zero : apartRow work ps qs i ≡ 0
-    unfolding apartRow
+    pub apart-row-zero : tripletsApartRow work ps qs i ≡ 0
+    unfolding tripletsApartRow
     apart-row-zero = sum-none (length qs - 2) _ (λ l m.
         apart-row-none _ _ _ (omega (
           arith,

@@ -44,34 +44,34 @@ use Rattle.tree_pairs.specs.theorems.CrossingLaws.{cell-of-edges, cell-inside, 
 use Rattle.tree_pairs.specs.lemmas.CellSizes.{row-cell, column-cell}
 use Rattle.triplets.specs.declared.tables.TripletTable.{TripletTable}
 use Rattle.triplets.specs.TripletAnswer.{tripletsOfPair, refusedTriplets, tripletAnswer}
-use Rattle.tree_pairs.specs.lemmas.EdgeRows.{aboveIn, sizeAt, earlier-parents, row-above}
+use Rattle.tree_pairs.specs.lemmas.EdgeRows.{aboveIn, rowSize, earlier-parents, row-above}
 use Rattle.tree_pairs.specs.lemmas.EdgeRows.{size-above-row, size-of-column, size-above-column}
 use Rattle.triplets.specs.lemmas.EdgeSums.{SizeCells, edgeSum}
-use Rattle.triplets.specs.lemmas.PairCells.{Nested, CrossedCells, cellAt, alikeCell, apartCell, alikeRow, apartRow, alikeSum, apartSum}
+use Rattle.triplets.specs.lemmas.PairCells.{Nested, CrossedCells, pairCell, alikeCell, apartCell, alikeRow, tripletsApartRow, alikeSum, apartSum}
 use Rattle.triplets.specs.lemmas.ListedColumns.{ColumnRoom}
 use Rattle.triplets.specs.lemmas.ListedRows.{nested-read, alike-read, apart-read}
-use Rattle.triplets.specs.lemmas.FormedTriplets.{formed, TableFits, formed-is}
+use Rattle.triplets.specs.lemmas.FormedTriplets.{formedTriplets, TripletsFit, formed-is}
 
 -- ---- what the code counts, and what it asks
 
-unfoldable pub counted : List ℕ → ℕ → List ℕ → List ℕ → TripletTable
-counted work n ps qs =
-    formed n (edgeSum work (length qs - 1) ps) (edgeSum work 1 qs) (alikeSum work ps qs) (apartSum work ps qs)
+unfoldable pub tripletsCounted : List ℕ → ℕ → List ℕ → List ℕ → TripletTable
+tripletsCounted work n ps qs =
+    formedTriplets n (edgeSum work (length qs - 1) ps) (edgeSum work 1 qs) (alikeSum work ps qs) (apartSum work ps qs)
 
 pub record Countable (work : List ℕ) (n : ℕ) (ps qs : List ℕ) : Type 0 where
   pub cells : CrossedCells work ps qs
   pub first-sizes : SizeCells work (length qs - 1) ps
   pub second-sizes : SizeCells work 1 qs
-  pub fits : TableFits n (edgeSum work (length qs - 1) ps) (edgeSum work 1 qs) (alikeSum work ps qs) (apartSum work ps qs)
+  pub fits : TripletsFit n (edgeSum work (length qs - 1) ps) (edgeSum work 1 qs) (alikeSum work ps qs) (apartSum work ps qs)
 
 -- the table is formed from the four sums
 module _ (work : List ℕ) (n : ℕ) (ps qs : List ℕ) (a b c d : ℕ) (ea : a ≡ edgeSum work (length qs - 1) ps)
     (eb : b ≡ edgeSum work 1 qs) (ec : c ≡ alikeSum work ps qs) (ed : d ≡ apartSum work ps qs) where
-  pub sums-fit : Countable work n ps qs → TableFits n a b c d
+  pub sums-fit : Countable work n ps qs → TripletsFit n a b c d
   sums-fit h = rw (ea, eb, ec, ed) (h .fits)
 
-  pub counted-is : formed n a b c d ≡ counted work n ps qs
-  unfolding counted
+  pub counted-is : formedTriplets n a b c d ≡ tripletsCounted work n ps qs
+  unfolding tripletsCounted
   counted-is = rw (ea, eb, ec, ed) refl
 
 -- there is room to list the columns
@@ -116,7 +116,7 @@ module _ (t u : Table) (work : List ℕ) (p : PairWithCells t u (length work)) w
   both-is i j = sum-cong (tips t) (λ x. bit-and (anc (parent t) i (nodeOf t x)) (anc (parent u) j (nodeOf u x)))
 
   cell-is : (i l : ℕ) → i < nodes t - 1 → l < nodes u - 1
-      → cellAt cells (parents u) i l ≡ beyondBoth first second (suc i) (suc l)
+      → pairCell cells (parents u) i l ≡ beyondBoth first second (suc i) (suc l)
   cell-is i l li ll = rw long' (cell-of-edges (all (tips t)) t u work i l li ll ∙ both-is (suc i) (suc l))
 
   -- ---- the parents' rows and columns
@@ -132,19 +132,19 @@ module _ (t u : Table) (work : List ℕ) (p : PairWithCells t u (length work)) w
   up-second = row-above u h
 
   cell-up-column : (i l : ℕ) → i < nodes t - 1 → suc l < nodes u - 1
-      → cellAt cells (parents u) i (aboveIn (parents u) (suc l)) ≡ beyondBoth first second (suc i) (second .up (suc (suc l)))
+      → pairCell cells (parents u) i (aboveIn (parents u) (suc l)) ≡ beyondBoth first second (suc i) (second .up (suc (suc l)))
   cell-up-column i l li ll =
       let r = up-second l ll in
       cell-is i (aboveIn (parents u) (suc l)) li (r .1) ∙ ap (beyondBoth first second (suc i)) (r .0)
 
   cell-up-row : (i l : ℕ) → suc i < nodes t - 1 → l < nodes u - 1
-      → cellAt cells (parents u) (aboveIn (parents t) (suc i)) l ≡ beyondBoth first second (first .up (suc (suc i))) (suc l)
+      → pairCell cells (parents u) (aboveIn (parents t) (suc i)) l ≡ beyondBoth first second (first .up (suc (suc i))) (suc l)
   cell-up-row i l li ll =
       let r = up-first i li in
       cell-is (aboveIn (parents t) (suc i)) l (r .1) ll ∙ ap (λ (v : ℕ). beyondBoth first second v (suc l)) (r .0)
 
   cell-up-both : (i l : ℕ) → suc i < nodes t - 1 → suc l < nodes u - 1
-      → cellAt cells (parents u) (aboveIn (parents t) (suc i)) (aboveIn (parents u) (suc l))
+      → pairCell cells (parents u) (aboveIn (parents t) (suc i)) (aboveIn (parents u) (suc l))
       ≡ beyondBoth first second (first .up (suc (suc i))) (second .up (suc (suc l)))
   cell-up-both i l li ll =
       let r = up-first i li in
@@ -166,9 +166,9 @@ module _ (t u : Table) (work : List ℕ) (p : PairWithCells t u (length work)) w
       omega (arith, count-le (tips t) (λ x. beyond t i x && beyond u j x), g .tips-range .1))
 
   nested : (i l : ℕ) → suc i < nodes t - 1 → suc l < nodes u - 1
-      → Nested (cellAt cells (parents u) (suc i) (suc l)) (cellAt cells (parents u) (suc i) (aboveIn (parents u) (suc l)))
-      (cellAt cells (parents u) (aboveIn (parents t) (suc i)) (suc l))
-      (cellAt cells (parents u) (aboveIn (parents t) (suc i)) (aboveIn (parents u) (suc l)))
+      → Nested (pairCell cells (parents u) (suc i) (suc l)) (pairCell cells (parents u) (suc i) (aboveIn (parents u) (suc l)))
+      (pairCell cells (parents u) (aboveIn (parents t) (suc i)) (suc l))
+      (pairCell cells (parents u) (aboveIn (parents t) (suc i)) (aboveIn (parents u) (suc l)))
   nested i l li ll = nested-read _ _ _ _ _ _ _ _
       (cell-is (suc i) (suc l) li ll) (cell-up-column (suc i) l li ll) (cell-up-row i (suc l) li ll) (cell-up-both i l li ll)
       (record {
@@ -220,9 +220,9 @@ module _ (t u : Table) (work : List ℕ) (p : PairWithCells t u (length work)) w
   }
     where
       later : (i l : ℕ) → 1 ≤ i → i < length (parents t) - 1 → 1 ≤ l → l < length (parents u) - 1
-          → Nested (cellAt cells (parents u) i l) (cellAt cells (parents u) i (aboveIn (parents u) l))
-          (cellAt cells (parents u) (aboveIn (parents t) i) l)
-          (cellAt cells (parents u) (aboveIn (parents t) i) (aboveIn (parents u) l))
+          → Nested (pairCell cells (parents u) i l) (pairCell cells (parents u) i (aboveIn (parents u) l))
+          (pairCell cells (parents u) (aboveIn (parents t) i) l)
+          (pairCell cells (parents u) (aboveIn (parents t) i) (aboveIn (parents u) l))
       later zero l a b c d = absurd (omega arith)
       later (suc i) zero a b c d = absurd (omega arith)
       later (suc i) (suc l) a b c d = nested i l (omega (arith, long)) (omega (arith, long'))
@@ -239,7 +239,7 @@ module _ (t u : Table) (work : List ℕ) (p : PairWithCells t u (length work)) w
   size-few s i = omega (arith, count-le (tips t) (beyond s i), g .tips-range .1)
 
   first-up : (i : ℕ) → suc i < nodes t - 1
-      → sizeAt cells (length (parents u) - 1) (aboveIn (parents t) (suc i)) ≡ count (tips t) (beyond t (parent t (suc (suc i))))
+      → rowSize cells (length (parents u) - 1) (aboveIn (parents t) (suc i)) ≡ count (tips t) (beyond t (parent t (suc (suc i))))
   unfolding beyondAt
   first-up i l = rw long' (size-above-row (all (tips t)) t u g h e (all-rising (tips t)) work i l)
 
@@ -258,7 +258,7 @@ module _ (t u : Table) (work : List ℕ) (p : PairWithCells t u (length work)) w
       inside i l = omega (arith, cell-inside i 0 (nodes t - 1) (nodes u - 1) l (omega (arith, few)), p .room)
 
       low : (i : ℕ) → 1 ≤ i → i < length (parents t) - 1
-          → sizeAt cells (length (parents u) - 1) i ≤ sizeAt cells (length (parents u) - 1) (aboveIn (parents t) i)
+          → rowSize cells (length (parents u) - 1) i ≤ rowSize cells (length (parents u) - 1) (aboveIn (parents t) i)
       low zero a b = absurd (omega arith)
       low (suc i) a b = omega (
         arith,
@@ -282,7 +282,7 @@ module _ (t u : Table) (work : List ℕ) (p : PairWithCells t u (length work)) w
       inside : (i : ℕ) → i < nodes u - 1 → i * 1 < length work
       inside i l = omega (arith, cell-inside 0 i (nodes t - 1) (nodes u - 1) (omega (arith, few)) l, p .room)
 
-      low : (i : ℕ) → 1 ≤ i → i < length (parents u) - 1 → sizeAt cells 1 i ≤ sizeAt cells 1 (aboveIn (parents u) i)
+      low : (i : ℕ) → 1 ≤ i → i < length (parents u) - 1 → rowSize cells 1 i ≤ rowSize cells 1 (aboveIn (parents u) i)
       low zero a b = absurd (omega arith)
       low (suc i) a b = omega (
         arith,
@@ -304,9 +304,9 @@ module _ (t u : Table) (work : List ℕ) (p : PairWithCells t u (length work)) w
   first-sum =
       let s = triplets-in-shapes t u g h e in
       one-more (length (parents t) - 2)
-      (λ i. edgeTerm (sizeAt cells (length (parents u) - 1) i) (sizeAt cells (length (parents u) - 1) (aboveIn (parents t) i)))
-      ∙ ap (λ (k : ℕ). sum k (λ i. edgeTerm (sizeAt cells (length (parents u) - 1) (suc i))
-      (sizeAt cells (length (parents u) - 1) (aboveIn (parents t) (suc i))))) (omega (arith, long))
+      (λ i. edgeTerm (rowSize cells (length (parents u) - 1) i) (rowSize cells (length (parents u) - 1) (aboveIn (parents t) i)))
+      ∙ ap (λ (k : ℕ). sum k (λ i. edgeTerm (rowSize cells (length (parents u) - 1) (suc i))
+      (rowSize cells (length (parents u) - 1) (aboveIn (parents t) (suc i))))) (omega (arith, long))
       ∙ sum-ext (nodes t - 1 - 1) _ _ (λ i l. ap₂ edgeTerm (row-size-is (suc i) (omega arith)) (first-up i (omega arith)))
       ∙ counts .first
       ∙ sym (rw (s A, s B, s C) refl)
@@ -316,8 +316,8 @@ module _ (t u : Table) (work : List ℕ) (p : PairWithCells t u (length work)) w
   second-sum =
       let s = triplets-in-shapes t u g h e in
       one-more (length (parents u) - 2)
-      (λ i. edgeTerm (sizeAt cells 1 i) (sizeAt cells 1 (aboveIn (parents u) i)))
-      ∙ ap (λ (k : ℕ). sum k (λ i. edgeTerm (sizeAt cells 1 (suc i)) (sizeAt cells 1 (aboveIn (parents u) (suc i)))))
+      (λ i. edgeTerm (rowSize cells 1 i) (rowSize cells 1 (aboveIn (parents u) i)))
+      ∙ ap (λ (k : ℕ). sum k (λ i. edgeTerm (rowSize cells 1 (suc i)) (rowSize cells 1 (aboveIn (parents u) (suc i)))))
       (omega (arith, long'))
       ∙ sum-ext (nodes u - 1 - 1) _ _ (λ i l. ap₂ edgeTerm (size-of-column (all (tips t)) t u g h e (all-rising (tips t)) work (suc i) (omega arith)) (size-above-column (all (tips t)) t u g h e (all-rising (tips t)) work i (omega arith)))
       ∙ counts .second
@@ -339,11 +339,11 @@ module _ (t u : Table) (work : List ℕ) (p : PairWithCells t u (length work)) w
       ∙ sym (rw (s A) refl)
 
   apart-sum : apartSum cells (parents t) (parents u) ≡ triplets t u B
-  unfolding apartSum apartRow shapeOf
+  unfolding apartSum tripletsApartRow shapeOf
   apart-sum =
       let s = triplets-in-shapes t u g h e in
-      one-more (length (parents t) - 2) (λ i. apartRow cells (parents t) (parents u) i)
-      ∙ ap (λ (k : ℕ). sum k (λ i. apartRow cells (parents t) (parents u) (suc i))) (omega (arith, long))
+      one-more (length (parents t) - 2) (λ i. tripletsApartRow cells (parents t) (parents u) i)
+      ∙ ap (λ (k : ℕ). sum k (λ i. tripletsApartRow cells (parents t) (parents u) (suc i))) (omega (arith, long))
       ∙ sum-ext (nodes t - 1 - 1) _ _ (λ i l.
       one-more (length (parents u) - 2) (λ k. apartCell cells (parents t) (parents u) (suc i) k)
       ∙ ap (λ (m : ℕ). sum m (λ k. apartCell cells (parents t) (parents u) (suc i) (suc k))) (omega (arith, long'))
@@ -373,8 +373,8 @@ module _ (t u : Table) (work : List ℕ) (p : PairWithCells t u (length work)) w
     };
   }
 
-  pub triplets-accepted : counted (crossedAll t u work) (tips t) (parents t) (parents u) ≡ tripletAnswer t u (length work)
-  unfolding counted tripletAnswer
+  pub triplets-accepted : tripletsCounted (crossedAll t u work) (tips t) (parents t) (parents u) ≡ tripletAnswer t u (length work)
+  unfolding tripletsCounted tripletAnswer
   triplets-accepted =
       formed-is (tips t) _ _ _ _ _ _ _ _ _ first-sum second-sum alike-sum apart-sum total
       ∙ sym (if-accepted _ (tripletsOfPair t u) _ (cells-check t u (length work) .1 p))

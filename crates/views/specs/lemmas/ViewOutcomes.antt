@@ -46,13 +46,13 @@ asView visible table first second common robinson = record {
   «robinson_foulds» = robinson;
 }
 
-abbrev pub Viewed : Table → Table → List ℕ → ℕ → List ℕ → ViewAnswer → List ℕ → Type 0
-Viewed t u levels viewer work r new =
+abbrev pub PairViewed : Table → Table → List ℕ → ℕ → List ℕ → ViewAnswer → List ℕ → Type 0
+PairViewed t u levels viewer work r new =
     (r ≡ viewAnswer t u levels viewer (length work)) × (new ≡ afterView t u levels viewer work)
 
 module _ (t u : Table) (levels : List ℕ) (viewer : ℕ) (work : List ℕ) where
   refused : (k : ℕ) → refusal (viewOrder t u levels viewer (length work)) ≡ k → k ≢ 0 → (new : List ℕ) → new ≡ work
-      → Viewed t u levels viewer work (refusedView k) new
+      → PairViewed t u levels viewer work (refusedView k) new
   unfolding viewAnswer afterView
   refused k e d new q = (
     ap refusedView (sym e) ∙ sym (if-refused _ _ _ (λ z. d (sym e ∙ z))),
@@ -60,14 +60,14 @@ module _ (t u : Table) (levels : List ℕ) (viewer : ℕ) (work : List ℕ) wher
   )
 
   -- the pair is refused
-  pub tables-away : (k : ℕ) → k ≡ refusal (tablesOrder t u) → k ≢ 0 → Viewed t u levels viewer work (refusedView k) work
+  pub tables-away : (k : ℕ) → k ≡ refusal (tablesOrder t u) → k ≢ 0 → PairViewed t u levels viewer work (refusedView k) work
   tables-away k e d =
       refused k (unfold viewOrder in refusal-first (tablesOrder t u) _ (λ z. d (e ∙ z)) ∙ sym e) d work refl
 
   module _ (p : IsPair t u) where
     -- the levels are
     pub levels-away : (k : ℕ) → k ≡ refusal (levelsOrder levels viewer (tips t)) → k ≢ 0
-        → Viewed t u levels viewer work (refusedView k) work
+        → PairViewed t u levels viewer work (refusedView k) work
     levels-away k e d = refused k (unfold viewOrder in
         refusal-kept (tablesOrder t u) _ (tables-kept t u .1 p)
         ∙ refusal-first (levelsOrder levels viewer (tips t)) _ (λ z. d (e ∙ z)) ∙ sym e) d work refl
@@ -91,7 +91,7 @@ module _ (t u : Table) (levels : List ℕ) (viewer : ℕ) (work : List ℕ) wher
           (nt : table .refusal ≡ refusal (pairOrder t u marks (length work)))
           (cells : List ℕ) (ec : cells ≡ afterCrossings t u marks work) where
         -- there are too few cells
-        pub room-away : table .refusal ≢ 0 → Viewed t u levels viewer work (refusedView (table .refusal)) cells
+        pub room-away : table .refusal ≢ 0 → PairViewed t u levels viewer work (refusedView (table .refusal)) cells
         room-away d = refused (table .refusal) (sym (nt ∙ same-number (length work))) d cells
             (ec ∙ (unfold afterCrossings in if-refused _ _ _ (λ z. d (nt ∙ z))))
 
@@ -113,7 +113,7 @@ module _ (t u : Table) (levels : List ℕ) (viewer : ℕ) (work : List ℕ) wher
           pub accepted : (splits : SplitCounts) → splits ≡ splitAnswer t u marks (length cells)
               → (new : List ℕ) → new ≡ afterCrossings t u marks cells
               → (v f s c d : ℕ) → v ≡ count (tips t) (isVisible levels viewer) → f ≡ splits .first → s ≡ splits .second
-              → c ≡ splits .common → d ≡ splits .distance → Viewed t u levels viewer work (asView v table f s c d) new
+              → c ≡ splits .common → d ≡ splits .distance → PairViewed t u levels viewer work (asView v table f s c d) new
           accepted splits es new en v f s c d ev ef es' ec' ed = (answer-is, cells-are)
             where
               l : Labels

@@ -6,13 +6,13 @@ use native.Mathlib.Omega.{arith}
 use lib.ListN.{length}
 use Rattle.table_words.specs.Sizes.{nodeRoom}
 use Rattle.tree_check.specs.Table.{word}
-use Rattle.canonical_copy.specs.lemmas.Numbering.{Turn, turn-first, turn-fits, turn-later, turn-next, turn-last}
+use Rattle.canonical_copy.specs.lemmas.Numbering.{NumberingTurn, turn-first, turn-fits, turn-later, turn-next, turn-last}
 use borrow.Author.Needs.{needs}
 use Rattle.canonical_copy.proofs.numbers.number_round.Statement.{statement}
 use Rattle.canonical_copy.proofs.numbers.number_round.Tie as tie
 
 abbrev Inv-loop : tie.InvT-loop
-Inv-loop parents sizes bits heads nexts x numbers₀ frees₀ v₀ numbers frees v = Turn parents sizes bits heads nexts x v numbers frees
+Inv-loop parents sizes bits heads nexts x numbers₀ frees₀ v₀ numbers frees v = NumberingTurn parents sizes bits heads nexts x v numbers frees
 
 abbrev μ-loop : tie.MeasureT-loop
 μ-loop parents sizes bits heads nexts x numbers₀ frees₀ v₀ numbers frees v = length parents - v

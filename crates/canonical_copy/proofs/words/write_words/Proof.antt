@@ -7,7 +7,7 @@ use native.Mathlib.Omega.{arith}
 use lib.ListN.{length}
 use Rattle.table_words.specs.Sizes.{nodeRoom}
 use Rattle.tree_check.specs.Table.{word}
-use Rattle.canonical_copy.specs.lemmas.Writing.{Writable, Written, written-none, written-skip, written-room, written-take}
+use Rattle.canonical_copy.specs.lemmas.Writing.{Writable, CopyWritten, written-none, written-skip, written-room, written-take}
 use mathlib.Core.List.{List}
 use lib.ListN.{length-set}
 use borrow.Author.Needs.{needs}
@@ -16,8 +16,8 @@ use Rattle.canonical_copy.proofs.words.write_words.Tie as tie
 
 abbrev Inv-loop : tie.InvT-loop
 Inv-loop ranks bits numbers above m k count copy₀ v₀ copy v = (v ≤ m)
-    × ((old : List ℕ) → Writable bits numbers m count old → Written ranks bits numbers above 0 k count old copy₀
-    → Written ranks bits numbers above v k count old copy)
+    × ((old : List ℕ) → Writable bits numbers m count old → CopyWritten ranks bits numbers above 0 k count old copy₀
+    → CopyWritten ranks bits numbers above v k count old copy)
 
 abbrev μ-loop : tie.MeasureT-loop
 μ-loop ranks bits numbers above m k count copy₀ v₀ copy v = m - v
@@ -25,7 +25,7 @@ abbrev μ-loop : tie.MeasureT-loop
 -- what is written when the loop comes to node v
 begun : (c : tie.In-loop Inv-loop μ-loop)
     → let s = c .before .before .before .before .args in
-    Written (s .ranks .now) (s .bits .now) (s .numbers .now) (s .above .now) (c .before .loop .v) (s .k) (s .count) (s .copy .now)
+    CopyWritten (s .ranks .now) (s .bits .now) (s .numbers .now) (s .above .now) (c .before .loop .v) (s .k) (s .count) (s .copy .now)
     (c .before .loop .copy)
 begun c =
     let l = c .before in

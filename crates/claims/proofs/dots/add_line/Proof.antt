@@ -12,7 +12,7 @@ use Rattle.sums.specs.Sum.{sum}
 use Rattle.tree_check.specs.Table.{word}
 use Rattle.sums.specs.theorems.Products.{product-le}
 use Rattle.claims.specs.lemmas.CellLines.{lineCell, squared}
-use Rattle.claims.specs.lemmas.Filled.{filled, filled-next, filled-later}
+use Rattle.claims.specs.lemmas.Filled.{filledTo, filled-next, filled-later}
 use Rattle.claims.specs.lemmas.LineDots.{scaled, added}
 use borrow.Author.Needs.{needs}
 use Rattle.claims.proofs.dots.add_line.Statement.{statement}
@@ -23,7 +23,7 @@ Inv-loop cells t at gap lines dots₀ s₀ k₀ l₀ dots s k l =
     (l ≤ lines)
     × (k ≡ at + l * gap)
     × (length dots ≡ length dots₀)
-    × (dots ≡ filled (added cells dots₀ t at gap) l dots₀)
+    × (dots ≡ filledTo (added cells dots₀ t at gap) l dots₀)
     × (s ≡ sum l (squared (scaled cells t at gap)))
     × (s ≤ l * 4294967296)
 
@@ -60,7 +60,7 @@ old c =
     ∙ filled-later _ (l .l) (start c .args .dots .now) (l .l) (omega arith)
 
 loop-holds : tie.Need-loop-holds Inv-loop μ-loop
-unfolding filled sum
+unfolding filledTo sum
 loop-holds c = (omega arith, omega arith, refl, refl, refl, omega arith)
 
 mul-as-count : tie.Need-mul-as-count Inv-loop μ-loop

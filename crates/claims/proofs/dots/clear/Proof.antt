@@ -4,20 +4,20 @@ use mathlib.Core.Path.{_≡_, refl}
 use Prim.Native.Nat.{_-_, _≤_}
 use native.Mathlib.Omega.{arith}
 use lib.ListN.{length, length-set}
-use Rattle.claims.specs.lemmas.Filled.{filled, filled-next}
+use Rattle.claims.specs.lemmas.Filled.{filledTo, filled-next}
 use borrow.Author.Needs.{needs}
 use Rattle.claims.proofs.dots.clear.Statement.{statement}
 use Rattle.claims.proofs.dots.clear.Tie as tie
 
 abbrev Inv-loop : tie.InvT-loop
 Inv-loop dots₀ lines l₀ dots l =
-    (l ≤ lines) × (length dots ≡ length dots₀) × (dots ≡ filled (λ l. 0) l dots₀)
+    (l ≤ lines) × (length dots ≡ length dots₀) × (dots ≡ filledTo (λ l. 0) l dots₀)
 
 abbrev μ-loop : tie.MeasureT-loop
 μ-loop dots₀ lines l₀ dots l = lines - l
 
 loop-holds : tie.Need-loop-holds Inv-loop μ-loop
-unfolding filled
+unfolding filledTo
 loop-holds c = (omega arith, refl, refl)
 
 mul-dots : tie.Need-mul-dots Inv-loop μ-loop

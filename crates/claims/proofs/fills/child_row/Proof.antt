@@ -7,7 +7,7 @@ use native.Mathlib.Omega.{arith}
 use lib.ListN.{length, length-set}
 use Rattle.tree_check.specs.Table.{word}
 use Rattle.claims.specs.lemmas.CodeCells.{childCell, child-first, child-later}
-use Rattle.claims.specs.lemmas.NodeBlock.{Written, written-first, written-next}
+use Rattle.claims.specs.lemmas.NodeBlock.{BlockWritten, written-first, written-next}
 use borrow.Author.Needs.{needs}
 use Rattle.claims.proofs.fills.child_row.Statement.{statement}
 use Rattle.claims.proofs.fills.child_row.Tie as tie
@@ -15,8 +15,8 @@ use Rattle.claims.proofs.fills.child_row.Tie as tie
 abbrev Inv-loop : tie.InvT-loop
 Inv-loop work base columns block₀ at j₀ block j =
     (1 ≤ j) × (j ≤ length columns) × (length block ≡ length block₀)
-    × ((old : List ℕ) → Written old block₀ at 1 (childCell work base (word columns))
-    → Written old block at j (childCell work base (word columns)))
+    × ((old : List ℕ) → BlockWritten old block₀ at 1 (childCell work base (word columns))
+    → BlockWritten old block at j (childCell work base (word columns)))
 
 abbrev μ-loop : tie.MeasureT-loop
 μ-loop work base columns block₀ at j₀ block j = length columns - j

@@ -3,7 +3,7 @@
 use Prim.Native.Nat.{_*_, _≤_}
 use mathlib.Core.Path.{refl}
 use native.Mathlib.Omega.{arith}
-use Rattle.claims.specs.lemmas.NineCells.{product, weighed, pair-le, diagonal-le, weighed-le}
+use Rattle.claims.specs.lemmas.NineCells.{product, weighedProduct, pair-le, diagonal-le, weighed-le}
 use borrow.Author.Needs.{needs}
 use Rattle.claims.proofs.nine.three_diagonals.Statement.{statement}
 use Rattle.claims.proofs.nine.three_diagonals.Tie as tie
@@ -14,7 +14,7 @@ first-pair c = pair-le (c .args .p0) (c .args .q0) (c .args .r0) (c .pre .x0-le)
 first-product : (c : tie.Start) → product (c .args .p0) (c .args .q0) (c .args .r0) ≤ 16777216
 first-product c = diagonal-le (c .args .p0) (c .args .q0) (c .args .r0) (c .pre .x0-le) (c .pre .x1-le) (c .pre .x2-le)
 
-first-weighed : (c : tie.Start) → weighed (c .args .p0) (c .args .q0) (c .args .r0) ≤ 12884901888
+first-weighed : (c : tie.Start) → weighedProduct (c .args .p0) (c .args .q0) (c .args .r0) ≤ 12884901888
 first-weighed c = weighed-le (c .args .p0) (c .args .q0) (c .args .r0) (c .pre .x0-le) (c .pre .x1-le) (c .pre .x2-le)
 
 second-pair : (c : tie.Start) → c .args .p1 * c .args .q1 ≤ 65536
@@ -23,7 +23,7 @@ second-pair c = pair-le (c .args .p1) (c .args .q1) (c .args .r1) (c .pre .y0-le
 second-product : (c : tie.Start) → product (c .args .p1) (c .args .q1) (c .args .r1) ≤ 16777216
 second-product c = diagonal-le (c .args .p1) (c .args .q1) (c .args .r1) (c .pre .y0-le) (c .pre .y1-le) (c .pre .y2-le)
 
-second-weighed : (c : tie.Start) → weighed (c .args .p1) (c .args .q1) (c .args .r1) ≤ 12884901888
+second-weighed : (c : tie.Start) → weighedProduct (c .args .p1) (c .args .q1) (c .args .r1) ≤ 12884901888
 second-weighed c = weighed-le (c .args .p1) (c .args .q1) (c .args .r1) (c .pre .y0-le) (c .pre .y1-le) (c .pre .y2-le)
 
 third-pair : (c : tie.Start) → c .args .p2 * c .args .q2 ≤ 65536
@@ -32,7 +32,7 @@ third-pair c = pair-le (c .args .p2) (c .args .q2) (c .args .r2) (c .pre .z0-le)
 third-product : (c : tie.Start) → product (c .args .p2) (c .args .q2) (c .args .r2) ≤ 16777216
 third-product c = diagonal-le (c .args .p2) (c .args .q2) (c .args .r2) (c .pre .z0-le) (c .pre .z1-le) (c .pre .z2-le)
 
-third-weighed : (c : tie.Start) → weighed (c .args .p2) (c .args .q2) (c .args .r2) ≤ 12884901888
+third-weighed : (c : tie.Start) → weighedProduct (c .args .p2) (c .args .q2) (c .args .r2) ≤ 12884901888
 third-weighed c = weighed-le (c .args .p2) (c .args .q2) (c .args .r2) (c .pre .z0-le) (c .pre .z1-le) (c .pre .z2-le)
 
 mul-a : tie.Need-mul-a

@@ -8,7 +8,7 @@ use Rattle.table_words.specs.Sizes.{tipsMost}
 use Rattle.code_lists.specs.lemmas.InnerNodes.{InnerNodes}
 use Rattle.claims.specs.lemmas.NodeCodes.{part-inside}
 use Rattle.claims.specs.lemmas.LentStarts.{lent-length, lent-inner}
-use Rattle.claims.specs.lemmas.PairLoops.{Summed, summed-none, summed-next, summed-most, summed-all}
+use Rattle.claims.specs.lemmas.PairLoops.{TermsSummed, summed-none, summed-next, summed-most, summed-all}
 use Rattle.claims.specs.lemmas.PairLoops.{nodeS2, nodeS3, node-room, node-S2, node-S3}
 use borrow.Author.Needs.{needs}
 use Rattle.claims.proofs.pair_sums.all_pairs.Statement.{statement}
@@ -18,7 +18,7 @@ abbrev Inv-loop : tie.InvT-loop
 Inv-loop work n ps starts edges qs starts' edges' block₀ width inner count
     sums₀ totals₀ down₀ along₀ dots₀ s2₀ s3₀ v₀ block sums totals down along dots s2 s3 v =
     (v ≤ length ps)
-    × Summed (nodeS2 work (length qs - 1) n ps qs) (nodeS3 work (length qs - 1) n ps qs)
+    × TermsSummed (nodeS2 work (length qs - 1) n ps qs) (nodeS3 work (length qs - 1) n ps qs)
     v s2 s3
     × (length block ≡ length block₀)
     × (length sums ≡ tipsMost)
@@ -69,7 +69,7 @@ module _ (c : tie.After-node-row Inv-loop μ-loop) where
 
   summed : (let a = start (listed l) .args in
       let w = length (a .second-parents .now) - 1 in
-      Summed (nodeS2 (a .work .now) w (a .n) (a .first-parents .now) (a .second-parents .now))
+      TermsSummed (nodeS2 (a .work .now) w (a .n) (a .first-parents .now) (a .second-parents .now))
       (nodeS3 (a .work .now) w (a .n) (a .first-parents .now) (a .second-parents .now)) (l .before .loop .v + 1)
       (l .before .loop .s2 + c .node-row .result .s2) (l .before .loop .s3 + c .node-row .result .s3))
   summed =

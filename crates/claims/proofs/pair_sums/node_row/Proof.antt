@@ -8,7 +8,7 @@ use Rattle.table_words.specs.Sizes.{nodesMost}
 use Rattle.table_words.specs.lemmas.Rooms.{startRoom}
 use Rattle.tree_check.specs.Table.{word}
 use Rattle.claims.specs.lemmas.NodeCodes.{part-inside}
-use Rattle.claims.specs.lemmas.PairLoops.{Summed, summed-none, summed-next, summed-most, summed-all}
+use Rattle.claims.specs.lemmas.PairLoops.{TermsSummed, summed-none, summed-next, summed-most, summed-all}
 use Rattle.claims.specs.lemmas.PairLoops.{NodeRow, rowS2, rowS3, few-row, inner-S2, inner-S3, row-room, row-S2, row-S3}
 use Rattle.claims.proofs.pair_sums.node_row.Statement.{statement}
 use Rattle.claims.proofs.pair_sums.node_row.Tie as tie
@@ -17,7 +17,7 @@ abbrev Inv-loop : tie.InvT-loop
 Inv-loop work width n rows qs starts edges inner count
     block₀ sums₀ totals₀ down₀ along₀ dots₀ s2₀ s3₀ i₀ block sums totals down along dots s2 s3 i =
     (i ≤ count)
-    × Summed (λ k. rowS2 work width n rows qs (word inner k)) (λ k. rowS3 work width n rows qs (word inner k))
+    × TermsSummed (λ k. rowS2 work width n rows qs (word inner k)) (λ k. rowS3 work width n rows qs (word inner k))
     i s2 s3
     × (length block ≡ length block₀)
     × (length sums ≡ length sums₀)
@@ -82,7 +82,7 @@ module _ (c : tie.After-node-pair Inv-loop μ-loop) where
   l = turn c
 
   summed : (let a = start l .args in
-      Summed (λ k. rowS2 (a .work .now) (a .width) (a .n) (a .rows .now) (a .second-parents .now) (word (a .inner .now) k))
+      TermsSummed (λ k. rowS2 (a .work .now) (a .width) (a .n) (a .rows .now) (a .second-parents .now) (word (a .inner .now) k))
       (λ k. rowS3 (a .work .now) (a .width) (a .n) (a .rows .now) (a .second-parents .now) (word (a .inner .now) k))
       (l .before .loop .i + 1) (l .before .loop .s2 + c .node-pair .result .s2)
       (l .before .loop .s3 + c .node-pair .result .s3))

@@ -7,7 +7,7 @@ use native.Mathlib.Omega.{arith}
 use lib.ListN.{length, length-set}
 use Rattle.tree_check.specs.Table.{word}
 use Rattle.claims.specs.lemmas.CodeSizes.{codeSize, size-first, size-later}
-use Rattle.claims.specs.lemmas.NodeBlock.{Written, written-first, written-next}
+use Rattle.claims.specs.lemmas.NodeBlock.{BlockWritten, written-first, written-next}
 use borrow.Author.Needs.{needs}
 use Rattle.claims.proofs.sizes.fill_sizes.Statement.{statement}
 use Rattle.claims.proofs.sizes.fill_sizes.Tie as tie
@@ -15,8 +15,8 @@ use Rattle.claims.proofs.sizes.fill_sizes.Tie as tie
 abbrev Inv-loop : tie.InvT-loop
 Inv-loop work step n edges sizes₀ i₀ sizes i =
     (1 ≤ i) × (i ≤ length edges) × (length sizes ≡ length sizes₀)
-    × ((old : List ℕ) → Written old sizes₀ 0 1 (codeSize work step n (word edges))
-    → Written old sizes 0 i (codeSize work step n (word edges)))
+    × ((old : List ℕ) → BlockWritten old sizes₀ 0 1 (codeSize work step n (word edges))
+    → BlockWritten old sizes 0 i (codeSize work step n (word edges)))
 
 abbrev μ-loop : tie.MeasureT-loop
 μ-loop work step n edges sizes₀ i₀ sizes i = length edges - i

@@ -1,4 +1,4 @@
--- The invariant: `total` and `weighed` are the sums before cell `a`, and `k` is its place in the first line.
+-- The invariant: `total` and `weighedProduct` are the sums before cell `a`, and `k` is its place in the first line.
 -- Assumes nothing.
 use mathlib.Core.Path.{_≡_, refl, _∙_, ap}
 use Prim.Native.Nat.{ℕ, _+_, _*_, _-_, _≤_}
@@ -10,7 +10,7 @@ use Rattle.sums.specs.theorems.Products.{product-le}
 use Rattle.tree_check.specs.Table.{word}
 use Rattle.node_pairs.specs.theorems.ThreeRows.{products3, weighed3}
 use Rattle.claims.specs.lemmas.CellLines.{lineCell}
-use Rattle.claims.specs.lemmas.NineCells.{product, weighed, pair-le, diagonal-le, weighed-le}
+use Rattle.claims.specs.lemmas.NineCells.{product, weighedProduct, pair-le, diagonal-le, weighed-le}
 use borrow.Author.Needs.{needs}
 use Rattle.claims.proofs.three_lines.all_lines.Statement.{statement}
 use Rattle.claims.proofs.three_lines.all_lines.Tie as tie
@@ -88,7 +88,7 @@ product-low : (c : tie.After-as-count3 Inv-loop μ-loop) → product (x c) (y c)
 product-low c = diagonal-le (x c) (y c) (z c) (first-le c) (second-le c) (third-le c)
 
 -- .. and the product times the sum
-weighed-low : (c : tie.After-as-count3 Inv-loop μ-loop) → weighed (x c) (y c) (z c) ≤ 12884901888
+weighed-low : (c : tie.After-as-count3 Inv-loop μ-loop) → weighedProduct (x c) (y c) (z c) ≤ 12884901888
 weighed-low c = weighed-le (x c) (y c) (z c) (first-le c) (second-le c) (third-le c)
 
 -- one cell more of each line
@@ -204,7 +204,7 @@ loop-again c =
       omega arith,
       omega arith,
       step product (l .a) _ _ _ _ _ _ _ (l .inv .2) (first c) (second c) (third c),
-      step weighed (l .a) _ _ _ _ _ _ _ (l .inv .3) (first c) (second c) (third c),
+      step weighedProduct (l .a) _ _ _ _ _ _ _ (l .inv .3) (first c) (second c) (third c),
       omega (arith, product-low c),
       omega (arith, weighed-low c),
     )

@@ -6,14 +6,14 @@ use native.Mathlib.Omega.{arith}
 use lib.ListN.{length, set}
 use Rattle.table_words.specs.lemmas.Rooms.{codeRoom}
 use Rattle.tree_check.specs.Table.{word}
-use Rattle.code_lists.specs.lemmas.CodeCounts.{Counted, counted-none, parent-inside, up-few, down-few, counted-edge}
+use Rattle.code_lists.specs.lemmas.CodeCounts.{CountedCodes, counted-none, parent-inside, up-few, down-few, counted-edge}
 use borrow.Author.Needs.{needs}
 use Rattle.code_lists.proofs.lists.code_counts.Statement.{statement}
 use Rattle.code_lists.proofs.lists.code_counts.Tie as tie
 
 abbrev Inv-loop : tie.InvT-loop
 Inv-loop parents counts₀ i₀ counts i =
-    (1 ≤ i) × (i ≤ length parents) × Counted parents (λ v. 0) (2 * (i - 1)) counts
+    (1 ≤ i) × (i ≤ length parents) × CountedCodes parents (λ v. 0) (2 * (i - 1)) counts
 
 abbrev μ-loop : tie.MeasureT-loop
 μ-loop parents counts₀ i₀ counts i = length parents - i

@@ -5,14 +5,14 @@ use mathlib.Core.Path.{_∙_}
 use native.Mathlib.Omega.{arith}
 use lib.ListN.{length, length-set}
 use Rattle.table_words.specs.Sizes.{nodeRoom}
-use Rattle.code_lists.specs.lemmas.CodeCounts.{Added, added-none, added-next, added-all, added-few}
+use Rattle.code_lists.specs.lemmas.CodeCounts.{AddedStarts, added-none, added-next, added-all, added-few}
 use borrow.Author.Needs.{needs}
 use Rattle.code_lists.proofs.lists.code_starts.Statement.{statement}
 use Rattle.code_lists.proofs.lists.code_starts.Tie as tie
 
 abbrev Inv-loop : tie.InvT-loop
 Inv-loop parents next₀ starts₀ at₀ v₀ next starts at v =
-    (v ≤ length parents) × Added parents starts₀ v at next starts
+    (v ≤ length parents) × AddedStarts parents starts₀ v at next starts
 
 abbrev μ-loop : tie.MeasureT-loop
 μ-loop parents next₀ starts₀ at₀ v₀ next starts at v = length parents - v

@@ -4,14 +4,14 @@ use Prim.Native.Nat.{ℕ, _*_, _-_, _/_, _≤_, _<_}
 use mathlib.Core.Path.{_≡_}
 use native.Mathlib.Omega.{arith}
 use Rattle.tree_check.specs.Table.{word}
-use Rattle.exchange_distances.specs.lemmas.TallyLoops.{fallsAt, Counted, counted-none, counted-next, counted-le}
+use Rattle.exchange_distances.specs.lemmas.TallyLoops.{fallsAt, CountedTallies, counted-none, counted-next, counted-le}
 use Rattle.exchange_distances.specs.lemmas.TallyRoom.{node-room, path-room, falls-here, falls-room}
 use borrow.Author.Needs.{needs}
 use Rattle.exchange_distances.proofs.pairs.tally_row.Statement.{statement}
 use Rattle.exchange_distances.proofs.pairs.tally_row.Tie as tie
 
 abbrev Inv-loop : tie.InvT-loop
-Inv-loop y whole sets labelled costs tallies₀ x₀ tallies x = (x ≤ y) × Counted (fallsAt whole sets labelled costs) x tallies₀ tallies
+Inv-loop y whole sets labelled costs tallies₀ x₀ tallies x = (x ≤ y) × CountedTallies (fallsAt whole sets labelled costs) x tallies₀ tallies
 
 abbrev μ-loop : tie.MeasureT-loop
 μ-loop y whole sets labelled costs tallies₀ x₀ tallies x = y - x

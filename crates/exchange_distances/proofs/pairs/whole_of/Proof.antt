@@ -3,7 +3,7 @@
 use Prim.Native.Nat.{_*_, _-_, _≤_}
 use mathlib.Core.Path.{refl}
 use native.Mathlib.Omega.{arith}
-use Rattle.exchanges.specs.theorems.Walk.{whole}
+use Rattle.exchanges.specs.theorems.Walk.{wholeCost}
 use Rattle.exchange_distances.specs.lemmas.Powers.{square-le, cube-le}
 use borrow.Author.Needs.{needs}
 use Rattle.exchange_distances.proofs.pairs.whole_of.Statement.{statement}
@@ -37,7 +37,7 @@ add-result : tie.Need-add-result
 add-result c = omega (arith, square c, cube c)
 
 returns : tie.Need-returns
-returns c = unfold whole in refl
+returns c = unfold wholeCost in refl
 
 pub whole-of-spec : {M : Type 1} → statement M
 whole-of-spec =

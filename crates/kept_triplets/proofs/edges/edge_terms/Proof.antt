@@ -7,7 +7,7 @@ use Rattle.tree_check.specs.Table.{word}
 use Rattle.sums.specs.Sum.{sum}
 use Rattle.sums.specs.theorems.SumLaws.{sum-step}
 use Rattle.shapes.specs.theorems.TripletCounts.{edgeTerm}
-use Rattle.kept_triplets.specs.lemmas.Edges.{spanOf, TwoSums, edgeListed, edges-low}
+use Rattle.kept_triplets.specs.lemmas.Edges.{spanOf, EdgeTotals, edgeListed, edges-low}
 use borrow.Author.Needs.{needs}
 use Rattle.kept_triplets.proofs.edges.edge_terms.Statement.{statement}
 use Rattle.kept_triplets.proofs.edges.edge_terms.Tie as tie
@@ -29,9 +29,9 @@ start c = c .before .before
 -- ---- what is known there
 
 two : (c : tie.After-as-index Inv-loop μ-loop) → let l = turn c .before in let s = start l .args in
-    TwoSums (s .all .now) (s .begin .now) (s .end .now) (word (s .listed .now) (l .loop .q)) (c .as-index .result)
+    EdgeTotals (s .all .now) (s .begin .now) (s .end .now) (word (s .listed .now) (l .loop .q)) (c .as-index .result)
 two c = let l = turn c .before in let s = start l .args in
-    subst (λ (p : ℕ). TwoSums (s .all .now) (s .begin .now) (s .end .now) (word (s .listed .now) (l .loop .q)) p)
+    subst (λ (p : ℕ). EdgeTotals (s .all .now) (s .begin .now) (s .end .now) (word (s .listed .now) (l .loop .q)) p)
     (sym (c .as-index .ensures .0)) (start l .pre .sums _ (turn c .loop-test .taken))
 
 step : (c : tie.After-edge-term Inv-loop μ-loop) → let l = turn (c .before .before .before .before .before .before .before) .before in let s = start l .args in

@@ -4,13 +4,13 @@ use mathlib.Core.Path.{_≡_, sym, _∙_, ap, ap₂, subst}
 use mathlib.Core.Logic.{⊎-elim}
 use Prim.Native.Nat.{ℕ, _+_, _-_, _≤_, _<_}
 use native.Mathlib.Omega.{arith}
-use Rattle.kept_triplets.specs.lemmas.Edges.{spanOf, adds, addsAt, ListedTo, listed-none, listed-one, listed-other, TwoSums}
+use Rattle.kept_triplets.specs.lemmas.Edges.{spanOf, adds, addsAt, ListedEdges, listed-none, listed-one, listed-other, EdgeTotals}
 use borrow.Author.Needs.{needs}
 use Rattle.kept_triplets.proofs.edges.list_edges.Statement.{statement}
 use Rattle.kept_triplets.proofs.edges.list_edges.Tie as tie
 
 abbrev Inv-loop : tie.InvT-loop
-Inv-loop all begin end table m listed₀ last count₀ i₀ listed count i = (i ≤ last) × ListedTo i count (addsAt all begin end table) listed
+Inv-loop all begin end table m listed₀ last count₀ i₀ listed count i = (i ≤ last) × ListedEdges i count (addsAt all begin end table) listed
 
 abbrev μ-loop : tie.MeasureT-loop
 μ-loop all begin end table m listed₀ last count₀ i₀ listed count i = last - i
@@ -29,9 +29,9 @@ low : (c : tie.In-loop Inv-loop μ-loop) → (c .before .loop .i + 2 < start (c 
 low c = let s = start (c .before) in (omega (arith, c .loop-test .taken, s .pre .0 .few), s .pre .0 .few .1)
 
 two : (c : tie.After-as-index Inv-loop μ-loop) → let l = turn c .before in let s = start l .args in
-    TwoSums (s .all .now) (s .begin .now) (s .end .now) (l .loop .i + 2) (c .as-index .result)
+    EdgeTotals (s .all .now) (s .begin .now) (s .end .now) (l .loop .i + 2) (c .as-index .result)
 two c = let l = turn c .before in let s = start l .args in
-    subst (λ (p : ℕ). TwoSums (s .all .now) (s .begin .now) (s .end .now) (l .loop .i + 2) p)
+    subst (λ (p : ℕ). EdgeTotals (s .all .now) (s .begin .now) (s .end .now) (l .loop .i + 2) p)
     (sym (c .as-index .ensures .0)) (start l .pre .0 .sums _ (omega arith) (low (turn c) .0))
 
 sub-last : tie.Need-sub-last Inv-loop μ-loop

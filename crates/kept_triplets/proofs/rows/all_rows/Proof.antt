@@ -6,14 +6,14 @@ use native.Mathlib.Omega.{arith}
 use Rattle.tree_check.specs.Table.{word}
 use Rattle.sums.specs.Sum.{sum}
 use Rattle.sums.specs.theorems.SumLaws.{sum-step}
-use Rattle.kept_triplets.specs.lemmas.AllRows.{alikeRow, apartRow, rows-are, rows-low}
+use Rattle.kept_triplets.specs.lemmas.AllRows.{keptAlikeRow, keptApartRow, rows-are, rows-low}
 use Rattle.kept_triplets.proofs.rows.all_rows.Statement.{statement}
 use Rattle.kept_triplets.proofs.rows.all_rows.Tie as tie
 
 abbrev Inv-loop : tie.InvT-loop
 Inv-loop first second marks n first-begin first-end second-begin second-end at rows row-count columns column-count alike₀ apart₀ q₀ alike apart q =
-    (q ≤ row-count) × (alike ≡ sum q (λ i. alikeRow marks first second (word rows i)))
-    × (apart ≡ sum q (λ i. apartRow marks first second (word rows i)))
+    (q ≤ row-count) × (alike ≡ sum q (λ i. keptAlikeRow marks first second (word rows i)))
+    × (apart ≡ sum q (λ i. keptApartRow marks first second (word rows i)))
 
 abbrev μ-loop : tie.MeasureT-loop
 μ-loop first second marks n first-begin first-end second-begin second-end at rows row-count columns column-count alike₀ apart₀ q₀ alike apart q =
@@ -33,16 +33,16 @@ low : (c : tie.In-loop Inv-loop μ-loop) → c .before .loop .q < 1024
 low c = omega (arith, c .loop-test .taken, start (c .before) .pre .1 .few)
 
 step : (c : tie.After-row-at Inv-loop μ-loop) → let l = turn c .before in let a = start l .args in
-    (l .loop .alike + c .row-at .result .alike ≡ sum (l .loop .q + 1) (λ i. alikeRow (a .marks .now) (a .first .now) (a .second .now) (word (a .rows .now) i)))
-    × (l .loop .apart + c .row-at .result .apart ≡ sum (l .loop .q + 1) (λ i. apartRow (a .marks .now) (a .first .now) (a .second .now) (word (a .rows .now) i)))
+    (l .loop .alike + c .row-at .result .alike ≡ sum (l .loop .q + 1) (λ i. keptAlikeRow (a .marks .now) (a .first .now) (a .second .now) (word (a .rows .now) i)))
+    × (l .loop .apart + c .row-at .result .apart ≡ sum (l .loop .q + 1) (λ i. keptApartRow (a .marks .now) (a .first .now) (a .second .now) (word (a .rows .now) i)))
 step c = let l = turn c .before in let a = start l .args in (
-  sum-step (l .loop .q) (λ i. alikeRow (a .marks .now) (a .first .now) (a .second .now) (word (a .rows .now) i)) _ _ (l .loop .inv .1) (c .row-at .ensures .0),
-  sum-step (l .loop .q) (λ i. apartRow (a .marks .now) (a .first .now) (a .second .now) (word (a .rows .now) i)) _ _ (l .loop .inv .2) (c .row-at .ensures .1),
+  sum-step (l .loop .q) (λ i. keptAlikeRow (a .marks .now) (a .first .now) (a .second .now) (word (a .rows .now) i)) _ _ (l .loop .inv .1) (c .row-at .ensures .0),
+  sum-step (l .loop .q) (λ i. keptApartRow (a .marks .now) (a .first .now) (a .second .now) (word (a .rows .now) i)) _ _ (l .loop .inv .2) (c .row-at .ensures .1),
 )
 
 bounds : (c : tie.After-row-at Inv-loop μ-loop) → let l = turn c .before in let a = start l .args in
-    (sum (l .loop .q + 1) (λ i. alikeRow (a .marks .now) (a .first .now) (a .second .now) (word (a .rows .now) i)) ≤ 5462270)
-    × (sum (l .loop .q + 1) (λ i. apartRow (a .marks .now) (a .first .now) (a .second .now) (word (a .rows .now) i)) ≤ 5462270)
+    (sum (l .loop .q + 1) (λ i. keptAlikeRow (a .marks .now) (a .first .now) (a .second .now) (word (a .rows .now) i)) ≤ 5462270)
+    × (sum (l .loop .q + 1) (λ i. keptApartRow (a .marks .now) (a .first .now) (a .second .now) (word (a .rows .now) i)) ≤ 5462270)
 bounds c = let l = turn c .before in let s = start l in
     rows-low _ _ _ _ _ _ _ _ _ _ _ (s .pre .0) _ _ (s .pre .1) (l .loop .q + 1) (omega (arith, turn c .loop-test .taken))
 

@@ -5,14 +5,14 @@ use mathlib.Core.Path.{_≡_, refl, _∙_, ap}
 use mathlib.Core.List.{List}
 use native.Mathlib.Omega.{arith}
 use lib.ListN.{length, take, set, getD, length-set}
-use Rattle.listings.specs.lemmas.Written.{written, written-none, written-next, written-all}
+use Rattle.listings.specs.lemmas.Written.{textWritten, written-none, written-next, written-all}
 use borrow.Author.Needs.{needs}
 use Rattle.listings.proofs.text.copy.Statement.{statement}
 use Rattle.listings.proofs.text.copy.Tie as tie
 
 abbrev Inv-loop : tie.InvT-loop
 Inv-loop bytes at out₀ i₀ out i =
-    (i ≤ length bytes) × (length out ≡ length out₀) × (out ≡ written at (take i bytes) out₀)
+    (i ≤ length bytes) × (length out ≡ length out₀) × (out ≡ textWritten at (take i bytes) out₀)
 
 abbrev μ-loop : tie.MeasureT-loop
 μ-loop bytes at out₀ i₀ out i = length bytes - i

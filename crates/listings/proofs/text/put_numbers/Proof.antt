@@ -4,7 +4,7 @@ use Prim.Native.Nat.{_+_, _*_, _≤_, _-_}
 use mathlib.Core.Path.{_≡_, refl}
 use native.Mathlib.Omega.{arith}
 use lib.ListN.{length, take}
-use Rattle.listings.specs.lemmas.Written.{Written}
+use Rattle.listings.specs.lemmas.Written.{TextWritten}
 use Rattle.listings.specs.Lines.{spacedAll}
 use Rattle.listings.specs.lemmas.Printing.{numbers-none, numbers-next, numbers-all}
 use borrow.Author.Needs.{needs}
@@ -14,7 +14,7 @@ use Rattle.listings.proofs.text.put_numbers.Tie as tie
 abbrev Inv-loop : tie.InvT-loop
 Inv-loop numbers at out₀ end₀ i₀ out end i =
     (i ≤ length numbers) × (length out ≡ length out₀) × (end ≤ at + 21 * i)
-    × Written at out₀ (spacedAll (take i numbers)) end out
+    × TextWritten at out₀ (spacedAll (take i numbers)) end out
 
 abbrev μ-loop : tie.MeasureT-loop
 μ-loop numbers at out₀ end₀ i₀ out end i = length numbers - i

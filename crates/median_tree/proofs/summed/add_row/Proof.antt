@@ -5,7 +5,7 @@ use native.Mathlib.Omega.{arith}
 use borrow.Author.Needs.{fits-under}
 use lib.ListN.{length}
 use Rattle.median_tree.specs.Nearest.{listCells}
-use Rattle.median_tree.specs.Nearest.{apart}
+use Rattle.median_tree.specs.Nearest.{distanceOf}
 use Rattle.median_tree.specs.lemmas.SameCells.{SameFrom, same-now, same-then}
 use Rattle.median_tree.specs.lemmas.RowSums.{Sums, own-fits, other-fits, added, row-done}
 use Rattle.median_tree.specs.lemmas.Distances.{ready-still}
@@ -14,7 +14,7 @@ use Rattle.median_tree.proofs.summed.add_row.Statement.{statement}
 use Rattle.median_tree.proofs.summed.add_row.Tie as tie
 
 abbrev Inv-loop : tie.InvT-loop
-Inv-loop list starts i n work₀ sums₀ j₀ work sums j = (j ≤ i) × Sums (apart list) i j sums × SameFrom (listCells list) work₀ work
+Inv-loop list starts i n work₀ sums₀ j₀ work sums j = (j ≤ i) × Sums (distanceOf list) i j sums × SameFrom (listCells list) work₀ work
 
 abbrev μ-loop : tie.MeasureT-loop
 μ-loop list starts i n work₀ sums₀ j₀ work sums j = i - j

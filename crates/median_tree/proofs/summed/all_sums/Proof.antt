@@ -4,7 +4,7 @@ use mathlib.Core.Path.{_≡_}
 use Prim.Native.Nat.{_-_, _≤_}
 use native.Mathlib.Omega.{arith}
 use Rattle.median_tree.specs.Nearest.{listCells}
-use Rattle.median_tree.specs.Nearest.{apart}
+use Rattle.median_tree.specs.Nearest.{distanceOf}
 use Rattle.median_tree.specs.lemmas.SameCells.{SameFrom, same-now, same-then}
 use Rattle.median_tree.specs.lemmas.RowSums.{Sums, sums-none}
 use Rattle.median_tree.specs.lemmas.Distances.{ready-still}
@@ -13,7 +13,7 @@ use Rattle.median_tree.proofs.summed.all_sums.Statement.{statement}
 use Rattle.median_tree.proofs.summed.all_sums.Tie as tie
 
 abbrev Inv-loop : tie.InvT-loop
-Inv-loop list starts k n work₀ sums₀ i₀ work sums i = (i ≤ k) × Sums (apart list) i 0 sums × SameFrom (listCells list) work₀ work
+Inv-loop list starts k n work₀ sums₀ i₀ work sums i = (i ≤ k) × Sums (distanceOf list) i 0 sums × SameFrom (listCells list) work₀ work
 
 abbrev μ-loop : tie.MeasureT-loop
 μ-loop list starts k n work₀ sums₀ i₀ work sums i = k - i

@@ -6,13 +6,13 @@ use Prim.Native.Nat.{suc, _+_, _-_, _≤_}
 use native.Mathlib.Omega.{arith}
 use lib.ListN.{length}
 use Rattle.shapes.specs.theorems.AncestorLaws.{parent-lt}
-use Rattle.rerooting.specs.lemmas.Renumbering.{OnPath, OffPath, path-first, path-low, path-in, path-next, path-ends, off-low, off-take, off-skip, off-all}
+use Rattle.rerooting.specs.lemmas.Renumbering.{PathNumbered, OffPath, path-first, path-low, path-in, path-next, path-ends, off-low, off-take, off-skip, off-all}
 use borrow.Author.Needs.{needs}
 use Rattle.rerooting.proofs.numbers.new_numbers.Statement.{statement}
 use Rattle.rerooting.proofs.numbers.new_numbers.Tie as tie
 
 abbrev Inv-loop : tie.InvT-loop
-Inv-loop parents z news₀ i₀ v₀ news i v = OnPath parents (length parents) z v i news
+Inv-loop parents z news₀ i₀ v₀ news i v = PathNumbered parents (length parents) z v i news
 
 abbrev μ-loop : tie.MeasureT-loop
 μ-loop parents z news₀ i₀ v₀ news i v = v

@@ -4,7 +4,7 @@ use Prim.Native.Nat.{_-_}
 use native.Mathlib.Omega.{arith}
 use lib.ListN.{length-set}
 use Rattle.tree_check.specs.Table.{word}
-use Rattle.rerooting.specs.lemmas.Writing.{Numbered, lent-rerootable, lent-numbered, two-set, table-written}
+use Rattle.rerooting.specs.lemmas.Writing.{TableNumbered, lent-rerootable, lent-numbered, two-set, table-written}
 use borrow.Author.Needs.{needs}
 use Rattle.rerooting.proofs.tables.write_table.Statement.{statement}
 use Rattle.rerooting.proofs.tables.write_table.Tie as tie
@@ -16,7 +16,7 @@ start c = c .before .before .before .before .before .before
 
 -- ---- what is known there
 
-numbered : (c : tie.After-new-numbers) → let s = start c in Numbered (s .args .table .now) (s .args .m) (s .args .x) (c .new-numbers .result)
+numbered : (c : tie.After-new-numbers) → let s = start c in TableNumbered (s .args .table .now) (s .args .m) (s .args .x) (c .new-numbers .result)
 numbered c = let n = c .before .before in let s = start c in let p = s .pre in
     lent-numbered _ (p .0) _ _ _ (p .1) (p .2) (n .node-of .ensures) _ (c .new-numbers .ensures)
 

@@ -6,13 +6,13 @@ use native.Mathlib.Omega.{arith}
 use lib.ListN.{length}
 use Rattle.tree_lists.specs.TreeLists.{startOf}
 use Rattle.tree_lists.specs.theorems.ListLaws.{start-inside}
-use Rattle.tree_lists.specs.lemmas.Starts.{Starts, starts-first, starts-next, start-after, first-start}
+use Rattle.tree_lists.specs.lemmas.Starts.{TableStarts, starts-first, starts-next, start-after, first-start}
 use borrow.Author.Needs.{needs}
 use Rattle.tree_lists.proofs.cut.starts_of.Statement.{statement}
 use Rattle.tree_lists.proofs.cut.starts_of.Tie as tie
 
 abbrev Inv-loop : tie.InvT-loop
-Inv-loop list k starts₀ at₀ i₀ starts at i = (i ≤ k) × (at ≡ startOf list i) × Starts list i starts
+Inv-loop list k starts₀ at₀ i₀ starts at i = (i ≤ k) × (at ≡ startOf list i) × TableStarts list i starts
 
 abbrev μ-loop : tie.MeasureT-loop
 μ-loop list k starts₀ at₀ i₀ starts at i = k - i

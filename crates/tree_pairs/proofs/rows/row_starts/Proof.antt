@@ -3,14 +3,14 @@
 use Prim.Native.Nat.{_≤_, _-_}
 use mathlib.Core.Path.{refl}
 use native.Mathlib.Omega.{arith}
-use Rattle.tree_pairs.specs.lemmas.Listed.{Listed, rowStart, listed-none, listed-next, listed-fewer}
+use Rattle.tree_pairs.specs.lemmas.Listed.{ListedNodes, rowStart, listed-none, listed-next, listed-fewer}
 use Rattle.tree_pairs.specs.lemmas.RowsUp.{row-near}
 use borrow.Author.Needs.{needs}
 use Rattle.tree_pairs.proofs.rows.row_starts.Statement.{statement}
 use Rattle.tree_pairs.proofs.rows.row_starts.Tie as tie
 
 abbrev Inv-loop : tie.InvT-loop
-Inv-loop count width starts₀ v₀ starts v = (1 ≤ v) × Listed (rowStart width) v starts
+Inv-loop count width starts₀ v₀ starts v = (1 ≤ v) × ListedNodes (rowStart width) v starts
 
 abbrev μ-loop : tie.MeasureT-loop
 μ-loop count width starts₀ v₀ starts v = count - v

@@ -9,7 +9,7 @@ use Rattle.tree_check.specs.IsTree.{IsTree}
 use Rattle.tree_check.specs.Check.{numberOf}
 use Rattle.tree_check.specs.theorems.CheckLaws.{checked-accepted, checked-refusal}
 use Rattle.trees.specs.lemmas.RootedArrays.{RootedArrays, rooted-arrays}
-use Rattle.trees.specs.lemmas.CentreOutcomes.{centreOver, answer, centre-refused, centre-asked-refused}
+use Rattle.trees.specs.lemmas.CentreOutcomes.{centreOver, centreTold, centre-refused, centre-asked-refused}
 use Rattle.trees.specs.lemmas.CentreOutcomes.{centre-accepted}
 use borrow.Author.Needs.{needs}
 use Rattle.trees.proofs.centres.centre.Statement.{statement}
@@ -53,7 +53,7 @@ returns : tie.Need-returns
 returns c =
     let e = c .before .enum-told .given .1 in
     let r = checked-refusal _ _ (sym (c .before .before .before .check .ensures .0) ∙ e) in
-    ap (λ (k : ℕ). answer k 0) (c .refusal-of .ensures ∙ ap numberOf e)
+    ap (λ (k : ℕ). centreTold k 0) (c .refusal-of .ensures ∙ ap numberOf e)
     ∙ centre-refused _ _ _ _ _ (r .0) (r .1)
 
 slice-aggregate-asked-refusal : tie.Need-slice-aggregate-asked-refusal

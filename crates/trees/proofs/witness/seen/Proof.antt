@@ -5,7 +5,7 @@ use Prim.Native.Nat.{ℕ, _<_}
 use native.Mathlib.Omega.{arith}
 use Rattle.table_words.specs.Sizes.{nodeRoom}
 use Rattle.trees.specs.lemmas.Sides.{topologyShown}
-use Rattle.trees.specs.lemmas.Seen.{edge-low, answer}
+use Rattle.trees.specs.lemmas.Seen.{edge-low, witnessedAs}
 use borrow.Author.Needs.{needs}
 use Rattle.trees.proofs.witness.seen.Statement.{statement}
 use Rattle.trees.proofs.witness.seen.Tie as tie
@@ -50,7 +50,7 @@ returns c =
       sides-are = e .before .before .sides-of .ensures;
       edge = e .shown-edge .result;
       edge-is = e .shown-edge .ensures;
-      answer-is = ap₂ (answer 0)
+      answer-is = ap₂ (witnessedAs 0)
           (c .before .named-pairing .ensures ∙ ap (λ (k : ℕ). topologyShown k (s .a) (s .b) (s .c) (s .d)) (p .pairing-of .ensures))
           (c .witness-at .ensures);
     }

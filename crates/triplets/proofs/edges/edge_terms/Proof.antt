@@ -7,7 +7,7 @@ use lib.ListN.{length}
 use Rattle.sums.specs.Sum.{sum}
 use Rattle.sums.specs.theorems.SumLaws.{sum-step}
 use Rattle.shapes.specs.theorems.TripletCounts.{edgeTerm}
-use Rattle.tree_pairs.specs.lemmas.EdgeRows.{aboveIn, sizeAt, parent-word}
+use Rattle.tree_pairs.specs.lemmas.EdgeRows.{aboveIn, rowSize, parent-word}
 use Rattle.triplets.specs.lemmas.EdgeSums.{edgeSum, sum-start, edge-term-most}
 use Rattle.triplets.specs.lemmas.EdgeSums.{EdgeSizes, edge-sizes, edges-low}
 use borrow.Author.Needs.{needs}
@@ -16,7 +16,7 @@ use Rattle.triplets.proofs.edges.edge_terms.Tie as tie
 
 abbrev Inv-loop : tie.InvT-loop
 Inv-loop work step parents last total₀ i₀ total i =
-    (i ≤ last) × (total ≡ sum i (λ j. edgeTerm (sizeAt work step (j + 1)) (sizeAt work step (aboveIn parents (j + 1)))))
+    (i ≤ last) × (total ≡ sum i (λ j. edgeTerm (rowSize work step (j + 1)) (rowSize work step (aboveIn parents (j + 1)))))
 
 abbrev μ-loop : tie.MeasureT-loop
 μ-loop work step parents last total₀ i₀ total i = last - i
@@ -48,7 +48,7 @@ term : (c : tie.After-edge-term Inv-loop μ-loop)
     → (let s = start (turn (c .before)) .args in
     let i = turn (c .before) .before .loop .i in
     c .edge-term .result
-    ≡ edgeTerm (sizeAt (s .work .now) (s .step) (i + 1)) (sizeAt (s .work .now) (s .step) (aboveIn (s .parents .now) (i + 1))))
+    ≡ edgeTerm (rowSize (s .work .now) (s .step) (i + 1)) (rowSize (s .work .now) (s .step) (aboveIn (s .parents .now) (i + 1))))
 term c =
     c .edge-term .ensures
     ∙ ap₂ edgeTerm (c .before .before .before .cell-count .ensures .0) (c .before .cell-count2 .ensures .0)

@@ -7,7 +7,7 @@ use lib.ListN.{length}
 use Rattle.sums.specs.Sum.{sum}
 use Rattle.sums.specs.theorems.SumLaws.{sum-step}
 use Rattle.triplets.specs.lemmas.EdgeSums.{sum-start}
-use Rattle.triplets.specs.lemmas.PairCells.{alikeRow, apartRow, alikeSum, apartSum}
+use Rattle.triplets.specs.lemmas.PairCells.{alikeRow, tripletsApartRow, alikeSum, apartSum}
 use Rattle.triplets.specs.lemmas.ListedRows.{row-low, rows-low}
 use borrow.Author.Needs.{needs}
 use Rattle.triplets.proofs.pairs.pair_terms.Statement.{statement}
@@ -16,7 +16,7 @@ use Rattle.triplets.proofs.pairs.pair_terms.Tie as tie
 abbrev Inv-loop : tie.InvT-loop
 Inv-loop work first-parents second-parents columns above count last alike₀ apart₀ i₀ alike apart i =
     (i ≤ last) × (alike ≡ sum i (λ r. alikeRow work first-parents second-parents (r + 1)))
-    × (apart ≡ sum i (λ r. apartRow work first-parents second-parents (r + 1)))
+    × (apart ≡ sum i (λ r. tripletsApartRow work first-parents second-parents (r + 1)))
 
 abbrev μ-loop : tie.MeasureT-loop
 μ-loop work first-parents second-parents columns above count last alike₀ apart₀ i₀ alike apart i = last - i
@@ -32,14 +32,14 @@ low : (c : tie.In-loop Inv-loop μ-loop)
     → (let s = start c .args in
     let i = c .before .loop .i in
     (sum i (λ r. alikeRow (s .work .now) (s .first-parents .now) (s .second-parents .now) (r + 1)) ≤ 17592186044416)
-    × (sum i (λ r. apartRow (s .work .now) (s .first-parents .now) (s .second-parents .now) (r + 1)) ≤ 17592186044416))
+    × (sum i (λ r. tripletsApartRow (s .work .now) (s .first-parents .now) (s .second-parents .now) (r + 1)) ≤ 17592186044416))
 low c = rows-low _ _ _ (start c .pre .0) _ (omega (arith, c .before .loop .inv .0))
 
 row-most : (c : tie.In-loop Inv-loop μ-loop)
     → (let s = start c .args in
     let i = c .before .loop .i in
     (alikeRow (s .work .now) (s .first-parents .now) (s .second-parents .now) (i + 1) ≤ 17179869184)
-    × (apartRow (s .work .now) (s .first-parents .now) (s .second-parents .now) (i + 1) ≤ 17179869184))
+    × (tripletsApartRow (s .work .now) (s .first-parents .now) (s .second-parents .now) (i + 1) ≤ 17179869184))
 row-most c = row-low _ _ _ (start c .pre .0) _ (omega arith) (omega (arith, c .loop-test .taken))
 
 -- ---- the needs
