@@ -4,8 +4,25 @@ import typing
 from math import comb
 
 
+class KeptTips:
+    """Trees on the same tips, some of which may be struck."""
+
+    tips: int
+    struck: tuple[str, ...] | None
+
+    @property
+    def kept(self) -> int:
+        """How many tips are kept: all that are not struck."""
+        return self.tips - len(self.struck or ())
+
+    @property
+    def sets_of_four(self) -> int:
+        """All sets of four kept tips."""
+        return comb(self.kept, 4)
+
+
 @dataclasses.dataclass(frozen=True)
-class Comparison:
+class Comparison(KeptTips):
     """Two trees on the same tips, counted against each other by every set of four tips, and by every set of three under an
     outgroup. If tips are struck, sets of four and splits are of kept tips alone; the triplets count all tips.
 
@@ -72,16 +89,6 @@ class Comparison:
     weight: float | None = dataclasses.field(default=None, kw_only=True)
     weighted_distance: float | None = dataclasses.field(default=None, kw_only=True)
     struck: tuple[str, ...] | None = dataclasses.field(default=None, kw_only=True)
-
-    @property
-    def kept(self) -> int:
-        """How many tips are kept: all that are not struck."""
-        return self.tips - len(self.struck or ())
-
-    @property
-    def sets_of_four(self) -> int:
-        """All sets of four kept tips: A + B + C + D + E."""
-        return comb(self.kept, 4)
 
     @property
     def normalised_distance(self) -> float:

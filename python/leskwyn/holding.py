@@ -6,7 +6,7 @@ from collections.abc import Sequence
 
 from leskwyn import _library, counting
 from leskwyn._library import FiveCounts, Marks, QuartetTable, ViewAnswer, Words
-from leskwyn.figures import normalised
+from leskwyn.figures import KeptTips, normalised
 
 # LESKWYN_STRUCK of the header.
 STRUCK = 0
@@ -74,7 +74,7 @@ class Dropped(Counted):
 
 
 @dataclasses.dataclass(frozen=True, kw_only=True)
-class Influence(Counted):
+class Influence(Counted, KeptTips):
     """Which tips drive the distance of two trees.
 
     first, second   where the trees come from, in words
@@ -95,11 +95,6 @@ class Influence(Counted):
     populations: tuple[Holding, ...]
     dropped: tuple[Dropped, ...] | None = None
     struck: tuple[str, ...] | None = None
-
-    @property
-    def kept(self) -> int:
-        """How many tips are kept: all that are not struck before."""
-        return self.tips - len(self.struck or ())
 
     def as_dict(self) -> dict[str, typing.Any]:
         """All of it under its names, in the order of docs/COMMANDS.md. What is dropped is there if that is asked for, and struck

@@ -7,7 +7,7 @@ from math import comb
 from leskwyn import _library, counting
 from leskwyn.counting import Progress
 from leskwyn.errors import Refusal, Trouble, counted
-from leskwyn.figures import STRUCK_KEYS, in_lists, normalised
+from leskwyn.figures import STRUCK_KEYS, KeptTips, in_lists, normalised
 from leskwyn.trees import Table
 
 # How many trees the library's call takes. It counts all labels.
@@ -37,7 +37,7 @@ ROW_KEYS = tuple(field.name for field in dataclasses.fields(TreeSum))
 
 
 @dataclasses.dataclass(frozen=True, kw_only=True)
-class NearestTree:
+class NearestTree(KeptTips):
     """The tree with the least summed quartet distance to all of several trees on the same tips.
 
     position     which it is, from 0; of equal sums the earliest
@@ -72,16 +72,6 @@ class NearestTree:
     def as_near(self) -> tuple[int, ...]:
         """The positions of the other trees with the same sum; all come later."""
         return tuple(at for at, one in enumerate(self.rows) if one.sum == self.sum and at != self.position)
-
-    @property
-    def kept(self) -> int:
-        """How many tips are kept: all that are not struck."""
-        return self.tips - len(self.struck or ())
-
-    @property
-    def sets_of_four(self) -> int:
-        """All sets of four kept tips."""
-        return comb(self.kept, 4)
 
     def as_dict(self) -> dict[str, typing.Any]:
         """All of it under its names, in the order of docs/COMMANDS.md, with lists for tuples. Struck names are there if some are

@@ -7,7 +7,7 @@ from collections.abc import Sequence
 from leskwyn import _library, counting
 from leskwyn._library import Marks, Words
 from leskwyn.counting import Number
-from leskwyn.figures import STRUCK_KEYS, in_lists, normalised
+from leskwyn.figures import STRUCK_KEYS, KeptTips, in_lists, normalised
 from leskwyn.holding import CASES, Counted, cases
 from leskwyn.tables import ORDINALS
 from leskwyn.weights import Weight
@@ -53,7 +53,7 @@ def length(pair: TreePair) -> Number:
 
 
 @dataclasses.dataclass(frozen=True, kw_only=True)
-class ThreeTrees:
+class ThreeTrees(KeptTips):
     """Three trees on the same tips, side by side.
 
     first, second, third   where the trees come from, in words
@@ -72,16 +72,6 @@ class ThreeTrees:
     pairs: tuple[TreePair, ...]
     weight: float | None = None
     struck: tuple[str, ...] | None = None
-
-    @property
-    def kept(self) -> int:
-        """How many tips are kept: all that are not struck."""
-        return self.tips - len(self.struck or ())
-
-    @property
-    def sets_of_four(self) -> int:
-        """All sets of four kept tips: A + B + C + D + E of each pair."""
-        return self.pairs[0].sets_of_four
 
     @property
     def closest(self) -> tuple[Two, ...]:
