@@ -15,7 +15,7 @@ use table_words::{NODES, TABLE_WORDS, TIPS, as_index, as_word};
 use tree_check::{Checked, check, refusal_of};
 
 // The number, and how many words the copy has.
-#[derive(Drop)]
+#[derive(Clone, Copy)]
 pub struct CopyAnswer {
     pub refusal: u16,
     pub words: u16,

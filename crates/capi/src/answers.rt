@@ -2,7 +2,7 @@
 
 // The number; the first cell of the labels beyond an edge, and how many they are.
 #[repr(C)]
-#[derive(Drop)]
+#[derive(Clone, Copy)]
 pub struct BeyondAnswer {
     pub refusal: u16,
     pub start: u16,
@@ -11,7 +11,7 @@ pub struct BeyondAnswer {
 
 // The number; the node, or 0.
 #[repr(C)]
-#[derive(Drop)]
+#[derive(Clone, Copy)]
 pub struct CentreAnswer {
     pub refusal: u16,
     pub node: u16,
@@ -19,7 +19,7 @@ pub struct CentreAnswer {
 
 // The number; 1 for a butterfly and 0 for a star; the partner of the smallest label, or 0.
 #[repr(C)]
-#[derive(Drop)]
+#[derive(Clone, Copy)]
 pub struct TopologyAnswer {
     pub refusal: u16,
     pub butterfly: u16,
@@ -28,7 +28,7 @@ pub struct TopologyAnswer {
 
 // The number; S, S', S2 and S3.
 #[repr(C)]
-#[derive(Drop)]
+#[derive(Clone, Copy)]
 pub struct ClaimSumsAnswer {
     pub refusal: u16,
     pub first: u64,
@@ -39,7 +39,7 @@ pub struct ClaimSumsAnswer {
 
 // The number; A to E and B + C + D.
 #[repr(C)]
-#[derive(Drop)]
+#[derive(Clone, Copy)]
 pub struct QuartetTableAnswer {
     pub refusal: u16,
     pub a: u64,
@@ -52,7 +52,7 @@ pub struct QuartetTableAnswer {
 
 // The number; the splits of the first tree, of the second, of both; and the Robinson-Foulds distance.
 #[repr(C)]
-#[derive(Drop)]
+#[derive(Clone, Copy)]
 pub struct SplitCountsAnswer {
     pub refusal: u16,
     pub first: u64,
@@ -63,7 +63,7 @@ pub struct SplitCountsAnswer {
 
 // The number; A to E and B + C + D of the triplets.
 #[repr(C)]
-#[derive(Drop)]
+#[derive(Clone, Copy)]
 pub struct TripletTableAnswer {
     pub refusal: u16,
     pub a: u64,
@@ -76,7 +76,7 @@ pub struct TripletTableAnswer {
 
 // The number; and the weighted distance.
 #[repr(C)]
-#[derive(Drop)]
+#[derive(Clone, Copy)]
 pub struct WeightedDistanceAnswer {
     pub refusal: u16,
     pub distance: f64,
@@ -84,7 +84,7 @@ pub struct WeightedDistanceAnswer {
 
 // The number; 0 to 4 for the cases A to E; for each tree 1 and its edge, or 0 and its meeting node.
 #[repr(C)]
-#[derive(Drop)]
+#[derive(Clone, Copy)]
 pub struct EvidenceAnswer {
     pub refusal: u16,
     pub which: u16,
@@ -96,7 +96,7 @@ pub struct EvidenceAnswer {
 
 // The number; A to E: of the sets that hold a label, or once a label is struck or restored.
 #[repr(C)]
-#[derive(Drop)]
+#[derive(Clone, Copy)]
 pub struct FiveCountsAnswer {
     pub refusal: u16,
     pub a: u64,
@@ -108,7 +108,7 @@ pub struct FiveCountsAnswer {
 
 // The number; and how many words the copy has.
 #[repr(C)]
-#[derive(Drop)]
+#[derive(Clone, Copy)]
 pub struct CopyAnswer {
     pub refusal: u16,
     pub words: u16,
@@ -116,7 +116,7 @@ pub struct CopyAnswer {
 
 // The number; how many exchanges fall in each tally.
 #[repr(C)]
-#[derive(Drop)]
+#[derive(Clone, Copy)]
 pub struct ExchangeAnswer {
     pub refusal: u16,
     pub tallies: [u64; 11],
@@ -124,7 +124,7 @@ pub struct ExchangeAnswer {
 
 // The number; the distance of an exchange.
 #[repr(C)]
-#[derive(Drop)]
+#[derive(Clone, Copy)]
 pub struct ExchangeDistanceAnswer {
     pub refusal: u16,
     pub distance: u64,
@@ -132,7 +132,7 @@ pub struct ExchangeDistanceAnswer {
 
 // The number; the position of the tree nearest to all, from 0; its summed distance.
 #[repr(C)]
-#[derive(Drop)]
+#[derive(Clone, Copy)]
 pub struct NearestAnswer {
     pub refusal: u16,
     pub position: u16,
@@ -142,7 +142,7 @@ pub struct NearestAnswer {
 // The number; how many labels are visible; A to E and B + C + D over them; and their splits: of the first tree, of the second, of
 // both, and the Robinson-Foulds distance.
 #[repr(C)]
-#[derive(Drop)]
+#[derive(Clone, Copy)]
 pub struct ViewAnswer {
     pub refusal: u16,
     pub visible: u64,

@@ -253,7 +253,7 @@ fn which_of(which: Case) -> u16
 }
 
 // 1 and the edge, or 0 and the meeting node.
-#[derive(Drop)]
+#[derive(Clone, Copy)]
 struct PlainWitness {
     edge: u16,
     number: u16,

@@ -1,5 +1,7 @@
 // The operations for callers in C and Rust: numbers, slices and plain structs. Each has the promise of the operation that
 // it wraps.
+#![tactic(auto)]
+
 mod answers; // answers.rt: the answers as plain structs
 mod exports; // exports.rt: the exported functions
 mod labels; // labels.rt: those for one label: a tree re-rooted at it, the sets that hold it, and its mark changed

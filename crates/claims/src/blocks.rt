@@ -22,7 +22,7 @@ fn block_sums(
     along: &mut [u64],
 )
     requires block { Block cells.now rows columns }
-    requires rows_in_bounds { (rows ≤ length sums.old) × (columns ≤ length totals.old)
+    requires room { (rows ≤ length sums.old) × (columns ≤ length totals.old)
         × (columns ≤ length down.old) × (rows ≤ length along.old) }
     ensures { Summed cells.now sums.new totals.new down.new
         along.new rows columns }

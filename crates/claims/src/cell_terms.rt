@@ -5,7 +5,7 @@ ghost use Rattle.shapes.specs.Claims.{choose2};
 ghost use Rattle.claims.specs.lemmas.CellTerms.{TermRoom, CellGives};
 
 // What cells give: to twice S2, to S3, and what is too much in that.
-#[derive(Drop)]
+#[derive(Clone, Copy)]
 pub(crate) struct CellSums {
     pub pairs: u64,
     pub plus: u64,
@@ -15,7 +15,7 @@ pub(crate) struct CellSums {
 // Two labels of the cell t, times two cells elsewhere in different rows and columns: x and y are the rest of its row
 // and of its column, `rest` the cells in neither, and `base` what the squares have too much.
 fn pairs_term(t: u64, rest: u64, x: u64, y: u64, more: u64, base: u64) -> u64
-    requires le_t { (1 ≤ t) × (t ≤ tips_most) × (rest ≤ tips_most) × (x ≤ tips_most) × (y ≤ tips_most) × (more ≤ 327680) }
+    requires sizes { (1 ≤ t) × (t ≤ tips_most) × (rest ≤ tips_most) × (x ≤ tips_most) × (y ≤ tips_most) × (more ≤ 327680) }
     requires base_bound { base ≤ rest * rest + t * t + x * x + y * y + more }
     ensures { (result ≡ choose2 t * (rest * rest + t * t + x * x + y * y + more - base))
         × (result ≤ 68719476736) }

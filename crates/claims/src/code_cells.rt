@@ -34,7 +34,7 @@ pub(crate) fn second_only(work: &[Cell], base: usize, c: usize) -> u16
 // Beyond neither, of n labels.
 pub(crate) fn neither(work: &[Cell], base: usize, c: usize, n: u16) -> u16
     requires cell_room { CellRoom work.now base c × (n ≤ tips_most) }
-    requires c_bound { word work.now base + word work.now c ≤ n + word work.now (base + c) }
+    requires fits { word work.now base + word work.now c ≤ n + word work.now (base + c) }
     ensures { (result ≡ n + word work.now (base + c) - word work.now base - word work.now c)
         × (result ≤ tips_most) }
 {

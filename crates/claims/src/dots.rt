@@ -10,7 +10,7 @@ use super::lines::total_squares;
 use table_words::as_count;
 
 // The squares of dot products, and of their terms.
-#[derive(Drop)]
+#[derive(Clone, Copy)]
 pub(crate) struct DotSums {
     pub dots: u64,
     pub terms: u64,
@@ -31,9 +31,9 @@ fn clear(dots: &mut [u64], lines: usize)
 // t times each cell of a line is added to its dot product. The squares of what was added.
 fn add_line(cells: &[u16], t: u64, at: usize, gap: usize, lines: usize, dots: &mut [u64]) -> u64
     requires { AddRoom cells.now t at gap lines dots.old }
-    ensures dots_after { dots.new
+    ensures dots_added { dots.new
         ≡ filled_to (added cells.now dots.old t at gap) lines dots.old }
-    ensures value { (result ≡ sum lines (squared (scaled cells.now t at gap)))
+    ensures squares { (result ≡ sum lines (squared (scaled cells.now t at gap)))
         × (result ≤ lines * 4294967296) }
 {
     let mut s: u64 = 0;

@@ -25,7 +25,7 @@ fn child_row(work: &[Cell], base: usize, columns: &[usize], block: &mut [u16], a
 // The row of the node's own edge, in front.
 fn own_row(work: &[Cell], base: usize, n: u16, columns: &[usize], block: &mut [u16])
     requires block_row_room { BlockRowRoom work.now base columns.now (length block.old) 0 × (n ≤ tips_most) }
-    requires columns_bound { word work.now base + word work.now (word columns.now 0)
+    requires fits { word work.now base + word work.now (word columns.now 0)
         ≤ n + word work.now (base + word columns.now 0) }
     ensures { BlockWritten block.old block.new 0 (length columns.now)
         (own_cell work.now base n (word columns.now)) }
@@ -48,7 +48,7 @@ pub(crate) fn fill_block(
     block: &mut [u16],
 )
     requires node_edges { NodeEdges work.now width n rows.now columns.now }
-    requires columns_in_bounds { length rows.now * length columns.now ≤ length block.old }
+    requires block_room { length rows.now * length columns.now ≤ length block.old }
     ensures { RowsFilled work.now width n rows.now columns.now
         block.new (length rows.now) }
 {

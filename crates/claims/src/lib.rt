@@ -1,4 +1,6 @@
 // The claim sums of two tree tables, from their crossings.
+#![tactic(auto)]
+
 mod code_cells; // code_cells.rt: the crossing of two codes, from the crossings of their edges
 mod sizes; // sizes.rt: the sizes behind the codes into a node
 mod lines; // lines.rt: sums along rows and columns of a block

@@ -7,7 +7,7 @@ use super::terms::PairTerms;
 
 // Three diagonals, each of three cells in different rows and columns: the sum of their products, and that of their
 // products times their sums.
-#[derive(Drop)]
+#[derive(Clone, Copy)]
 struct Diagonals {
     products: u64,
     weighed: u64,

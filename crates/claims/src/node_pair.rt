@@ -17,7 +17,7 @@ use super::terms::PairTerms;
 use table_words::{Cell, as_count};
 
 // Three cells of a row.
-#[derive(Drop)]
+#[derive(Clone, Copy)]
 struct ThreeCells {
     a: u64,
     b: u64,
@@ -27,7 +27,7 @@ struct ThreeCells {
 // The row of a node's own edge.
 fn own_cells(work: &[Cell], base: usize, n: u16, c0: usize, c1: usize, c2: usize) -> ThreeCells
     requires three_room { ThreeRoom work.now base c0 c1 c2 × (n ≤ tips_most) }
-    requires c0_bound { word work.now base + word work.now c0 ≤ n + word work.now (base + c0) }
+    requires fits { word work.now base + word work.now c0 ≤ n + word work.now (base + c0) }
     ensures { OwnRow work.now n base c0 c1 c2 result.a result.b result.c }
 {
     ThreeCells {
@@ -52,7 +52,7 @@ fn child_cells(work: &[Cell], base: usize, c0: usize, c1: usize, c2: usize) -> T
 // Two nodes with three codes into each.
 fn nine_cells(work: &[Cell], width: usize, n: u16, rows: &[usize], columns: &[usize]) -> PairTerms
     requires node_edges { NodeEdges work.now width n rows.now columns.now }
-    requires rows_len { (length rows.now ≡ 3) × (length columns.now ≡ 3) }
+    requires three { (length rows.now ≡ 3) × (length columns.now ≡ 3) }
     ensures { (result.s2 ≡ pair_s2 3 3
         (code_cell work.now width n (word rows.now) (word columns.now)))
         × (result.s3 ≡ pair_s3 3 3

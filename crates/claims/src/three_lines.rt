@@ -12,7 +12,7 @@ use table_words::as_count;
 
 // A line and another: the sum of the first and of its squares, the products of cells at the same place, and these times
 // the sums of the cells.
-#[derive(Drop)]
+#[derive(Clone, Copy)]
 struct LineSums {
     sum: u64,
     squares: u64,
@@ -21,7 +21,7 @@ struct LineSums {
 }
 
 // Three lines: the products of cells at the same place, and these times the sums of the cells.
-#[derive(Drop)]
+#[derive(Clone, Copy)]
 struct Products {
     sum: u64,
     weighed: u64,
@@ -101,8 +101,8 @@ fn apart(x: u64, y: u64, beside: u64) -> u64
 
 // Three products added up.
 fn three_products(a: u64, b: u64, c: u64, x: u64, y: u64, z: u64) -> u64
-    requires a_bound { (a ≤ 8589934592) × (b ≤ 8589934592) × (c ≤ 8589934592) }
-    requires x_bound { (x ≤ 131072) × (y ≤ 131072) × (z ≤ 131072) }
+    requires sums_low { (a ≤ 8589934592) × (b ≤ 8589934592) × (c ≤ 8589934592) }
+    requires cells_low { (x ≤ 131072) × (y ≤ 131072) × (z ≤ 131072) }
     ensures { (result ≡ a * x + b * y + c * z) × (result ≤ 3377699720527872) }
 {
     a * x + b * y + c * z

@@ -12,7 +12,7 @@ use table_words::{CODES, Cell, STARTS, TIPS};
 use tree_pairs::cross_pair;
 
 // The number; S, S', S2 and S3.
-#[derive(Drop)]
+#[derive(Clone, Copy)]
 pub struct ClaimSums {
     pub refusal: u16,
     pub first: u64,

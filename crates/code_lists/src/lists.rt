@@ -28,7 +28,7 @@ fn code_counts(parents: &[u16]) -> [usize; NODES]
 // Where the codes into each node begin in the list of all: in `starts`, and in `next` in the place of their counts.
 fn code_starts(parents: &[u16], next: &mut [usize; NODES], starts: &mut [usize])
     requires parents { Parents parents.now × CountedCodes parents.now (λ v. 0) (codes_of parents.now) next.old }
-    requires parents_in_bounds { length parents.now < length starts.old }
+    requires room { length parents.now < length starts.old }
     ensures { StartsIn parents.now starts.old next.new starts.new }
 {
     let mut at = 0;
@@ -47,7 +47,7 @@ fn code_starts(parents: &[u16], next: &mut [usize; NODES], starts: &mut [usize])
 // children's. `next` is where the next code into each node belongs.
 fn edge_list(parents: &[u16], next: &mut [usize; NODES], edges: &mut [usize])
     requires parents { Parents parents.now × CountedCodes parents.now (codes_before parents.now) 0 next.old }
-    requires parents_in_bounds { codes_of parents.now ≤ length edges.old }
+    requires room { codes_of parents.now ≤ length edges.old }
     ensures { EdgesIn parents.now edges.old edges.new }
 {
     let mut i = 1;

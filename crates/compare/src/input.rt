@@ -4,7 +4,7 @@ ghost use Rattle.compare.specs.Input.{Within};
 ghost use Rattle.compare.specs.lemmas.InputLaws.{read_answer};
 
 // How many bytes came; or that a read failed.
-#[derive(Drop)]
+#[derive(Clone, Copy)]
 pub enum Input {
     Bytes(usize),
     Failed,

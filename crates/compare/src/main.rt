@@ -1,5 +1,7 @@
 // The comparing program: the two tables of standard input compared, and the listing written to standard output. Input
 // that cannot be read is not compared: then there is a line on standard error, and nothing on standard output.
+#![tactic(auto)]
+
 mod input; // input.rt: standard input, read to its end or to a failure
 
 use input::{Input, read_input};

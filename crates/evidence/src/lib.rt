@@ -1,5 +1,7 @@
 // Two tree tables: the evidence for one set of four. Every public function takes any words in slices of any length, and answers
 // in full or refuses with one number.
+#![tactic(auto)]
+
 mod shown; // shown.rt: the case of four labels, and what shows it in each tree
 
 pub use counting::Case;

@@ -10,7 +10,7 @@ use trees::{Topology, Witness, witness_of};
 
 // The number; the case; and for each tree the lowest-numbered edge that parts the four two and two, or the node where all
 // their paths meet.
-#[derive(Drop)]
+#[derive(Clone, Copy)]
 pub struct EvidenceAnswer {
     pub refusal: u16,
     pub which: Case,

@@ -5,7 +5,7 @@ use super::print;
 use trees::{Checked, Topology};
 
 // The labels of a code.
-#[derive(Drop)]
+#[derive(Clone, Copy)]
 struct Four {
     w: u16,
     x: u16,

@@ -2,6 +2,8 @@
 //
 // A case is a line of decimal numbers; cases.rt lists the kinds. The files stdin and stdout are written by
 // tests/example_cases.py, which works the answers out of docs/SPECIFICATION.md and shares nothing with the libraries.
+#![tactic(auto)]
+
 mod cases; // cases.rt: the kinds of cases
 mod cells; // cells.rt: what lent cells hold before a call, and their sum afterwards
 mod changes; // changes.rt: every change of one word of a table

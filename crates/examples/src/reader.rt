@@ -1,7 +1,7 @@
 // The numbers of a line, each but the last with one space after it, read byte by byte.
 
 // A line as far as it has been read: how many numbers it has, and the number that is being read.
-#[derive(Drop)]
+#[derive(Clone, Copy)]
 pub(crate) struct Line {
     pub(crate) len: usize,
     pub(crate) number: u16,

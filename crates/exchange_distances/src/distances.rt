@@ -12,7 +12,7 @@ use table_words::{NODES, TIPS, as_index};
 use trees::{Checked, asked_refusal, check, refusal_of};
 
 // The number of the refusal with 0, or 0 with the distance.
-#[derive(Drop)]
+#[derive(Clone, Copy)]
 pub struct ExchangeDistance {
     pub refusal: u16,
     pub distance: u64,

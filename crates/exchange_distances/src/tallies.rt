@@ -15,7 +15,7 @@ use tree_check::{Checked, check, refusal_of};
 const LARGE: u16 = 82;
 
 // The number of the refusal with zeros, or 0 with how many exchanges fall in each tally.
-#[derive(Drop)]
+#[derive(Clone, Copy)]
 pub struct ExchangeAnswer {
     pub refusal: u16,
     pub tallies: [u64; 11],

@@ -2,7 +2,7 @@
 ghost use Rattle.std.specs.Prelude.{◌≡◌, ◌-◌, length};
 ghost use Rattle.table_words.specs.Sizes.{node_room};
 ghost use Rattle.sums.specs.Sum.{sum};
-ghost use Rattle.kept_triplets.specs.lemmas.Edges.{adds as Edges·adds, adds_at, ListedEdges, NodeSums, ListedSums, edge_listed};
+ghost use Rattle.kept_triplets.specs.lemmas.Edges.{adds as edges_adds, adds_at, ListedEdges, NodeSums, ListedSums, edge_listed};
 
 use super::terms::{cell, edge_term};
 use table_words::{Cell, NODES, TIPS, as_index};
@@ -10,7 +10,7 @@ use table_words::{Cell, NODES, TIPS, as_index};
 // Whether an edge adds anything, with s kept labels beyond it and p beyond its parent's edge: it has two, and fewer than the
 // edge above it.
 fn adds(s: u64, p: u64) -> bool
-    ensures { result ≡ Edges·adds s p }
+    ensures { result ≡ edges_adds s p }
 {
     if s < 2 {
         return false;

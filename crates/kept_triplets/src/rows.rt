@@ -1,7 +1,7 @@
 // What pairs of edges add, row by row: the totals of an edge of the first tree are enough for its row.
 ghost use Rattle.std.specs.Prelude.{◌≡◌, ◌+◌, ◌-◌, ◌≤◌, ◌<◌};
 ghost use Rattle.sums.specs.Sum.{sum};
-ghost use Rattle.tree_check.specs.Table.{tips as Table·tips, nodes as Table·nodes};
+ghost use Rattle.tree_check.specs.Table.{tips as table_tips, nodes as table_nodes};
 ghost use Rattle.counting.specs.theorems.KeptTripletSums.{edge_over, alike_over, apart_over};
 ghost use Rattle.kept_triplets.specs.lemmas.Rows.{FourSums, RowSums, Prepared, kept_alike_at, kept_apart_at, kept_alike_listed, kept_apart_listed};
 ghost use Rattle.kept_triplets.specs.lemmas.AllRows.{RowsListed};
@@ -10,7 +10,7 @@ use super::places::{fill_span, weigh};
 use super::terms::{alike_term, apart_term, cell};
 use table_words::{Cell, NODES, TIPS, as_index};
 
-#[derive(Drop)]
+#[derive(Clone, Copy)]
 pub(crate) struct PairTerms {
     pub alike: u64,
     pub apart: u64,
@@ -83,11 +83,11 @@ fn row_at(
     count: usize,
 ) -> PairTerms
     requires { Prepared first.now second.now marks.now n first_begin.now first_end.now second_begin.now
-        second_end.now at.now columns.now count × (2 ≤ v) × (v < Table·nodes first.now) }
-    ensures { (result.alike ≡ sum (Table·nodes second.now - 2) (λ j. alike_over marks.now
-        (Table·tips first.now) first.now second.now v (j + 2)))
-        × (result.apart ≡ sum (Table·nodes second.now - 2) (λ j. apart_over marks.now
-        (Table·tips first.now) first.now second.now v (j + 2))) }
+        second_end.now at.now columns.now count × (2 ≤ v) × (v < table_nodes first.now) }
+    ensures { (result.alike ≡ sum (table_nodes second.now - 2) (λ j. alike_over marks.now
+        (table_tips first.now) first.now second.now v (j + 2)))
+        × (result.apart ≡ sum (table_nodes second.now - 2) (λ j. apart_over marks.now
+        (table_tips first.now) first.now second.now v (j + 2))) }
 {
     let p = as_index(first[2 + v]);
     let mut weights = [0u64; TIPS];
@@ -117,11 +117,11 @@ pub(crate) fn all_rows(
     requires { Prepared first.now second.now marks.now n first_begin.now first_end.now second_begin.now
         second_end.now at.now columns.now column_count
         × RowsListed first.now second.now marks.now rows.now row_count }
-    ensures { (result.alike ≡ sum (Table·nodes first.now - 2) (λ i. sum (Table·nodes second.now - 2)
-        (λ j. alike_over marks.now (Table·tips first.now) first.now second.now
+    ensures { (result.alike ≡ sum (table_nodes first.now - 2) (λ i. sum (table_nodes second.now - 2)
+        (λ j. alike_over marks.now (table_tips first.now) first.now second.now
         (i + 2) (j + 2))))
-        × (result.apart ≡ sum (Table·nodes first.now - 2) (λ i. sum (Table·nodes second.now - 2)
-        (λ j. apart_over marks.now (Table·tips first.now) first.now second.now
+        × (result.apart ≡ sum (table_nodes first.now - 2) (λ i. sum (table_nodes second.now - 2)
+        (λ j. apart_over marks.now (table_tips first.now) first.now second.now
         (i + 2) (j + 2)))) }
 {
     let mut alike = 0u64;

@@ -10,7 +10,7 @@ use table_words::{Cell, NODES, TIPS};
 use walks::spans;
 
 // What edges of the first tree add, edges of the second, and pairs of edges; and how many labels but 0 are kept.
-#[derive(Drop)]
+#[derive(Clone, Copy)]
 pub(crate) struct KeptSums {
     pub first: u64,
     pub second: u64,

@@ -11,7 +11,7 @@ use table_words::{as_index, cell_word};
 const HIGHEST: u16 = 3;
 
 // The number, and how many labels are visible.
-#[derive(Drop)]
+#[derive(Clone, Copy)]
 pub struct CheckedLevels {
     pub refusal: u16,
     pub visible: u16,

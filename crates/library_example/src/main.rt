@@ -1,4 +1,6 @@
 // The quartet distance of two trees, (0,1,(2,(3,4))) and (0,1,(2,3,4)), printed by a program over the libraries.
+#![tactic(auto)]
+
 ghost use Rattle.std.specs.Prelude.{◌≡◌, [], ◌∷◌};
 ghost use Rattle.quartets.specs.QuartetAnswer.{quartet_answer};
 

@@ -1,7 +1,7 @@
 // What is printed of a comparison.
 
 // S, S', S2 and S3.
-#[derive(Drop)]
+#[derive(Clone, Copy)]
 pub struct Claims {
     pub first: u64,
     pub second: u64,
@@ -10,7 +10,7 @@ pub struct Claims {
 }
 
 // The five cases of quartets, A to E.
-#[derive(Drop)]
+#[derive(Clone, Copy)]
 pub struct Quartets {
     pub a: u64,
     pub b: u64,
@@ -20,7 +20,7 @@ pub struct Quartets {
 }
 
 // The splits of the first tree, of the second, of both; and the Robinson-Foulds distance.
-#[derive(Drop)]
+#[derive(Clone, Copy)]
 pub struct Splits {
     pub first: u16,
     pub second: u16,
@@ -29,7 +29,7 @@ pub struct Splits {
 }
 
 // The five cases of triplets, A to E.
-#[derive(Drop)]
+#[derive(Clone, Copy)]
 pub struct Triplets {
     pub a: u64,
     pub b: u64,
@@ -39,7 +39,7 @@ pub struct Triplets {
 }
 
 // The refusal, or 0; and what a comparison that is not refused gives.
-#[derive(Drop)]
+#[derive(Clone, Copy)]
 pub struct Figures {
     pub refusal: u16,
     pub tips: u16,

@@ -1,4 +1,6 @@
 // What the comparing program prints of a comparison, as bytes.
+#![tactic(auto)]
+
 mod figures; // figures.rt: what is printed of a comparison
 mod text; // text.rt: words, numbers and lines put into a text
 mod printed; // printed.rt: the listing of a comparison

@@ -80,10 +80,10 @@ fn put_listing(figures: Figures, out: &mut [u8]) -> usize
 // The listing, in front of `out`; and how many bytes it has, which are never more than 512. A buffer that is too
 // short for it is left as it is, and the number is 0.
 pub fn listing(figures: Figures, out: &mut [u8]) -> usize
-    ensures value { (result ≡ bytes_listed figures out.old)
+    ensures listed { (result ≡ bytes_listed figures out.old)
         × (out.new ≡ after_listing figures out.old)
         × (length (listed figures) ≤ text_room) }
-    ensures prefix_len { IsPrefixLen result out.new }
+    ensures fits { IsPrefixLen result out.new }
 {
     let mut text = [0u8; TEXT];
     let n = put_listing(figures, &mut text);

@@ -1,7 +1,7 @@
 // Words, numbers and lines, put into a text one after the other. Each function answers where the text ends.
 ghost use Rattle.std.specs.Prelude.{◌≡◌, ◌+◌, ◌*◌, ◌≤◌, length};
 ghost use Rattle.listings.specs.lemmas.Written.{TextWritten, text_written};
-ghost use Rattle.listings.specs.Lines.{spaced, spaced_all, line as Lines·line};
+ghost use Rattle.listings.specs.Lines.{spaced, spaced_all, line as lines_line};
 
 // The bytes, from `at` on.
 pub(crate) fn copy(bytes: &[u8], at: usize, out: &mut [u8]) -> usize
@@ -46,7 +46,7 @@ fn put_numbers(numbers: &[u64], at: usize, out: &mut [u8]) -> usize
 // The word, then the numbers, then a line end.
 pub(crate) fn put_line(word: &[u8], numbers: &[u64], at: usize, out: &mut [u8]) -> usize
     requires { at + length word.now + 21 * length numbers.now + 1 ≤ length out.old }
-    ensures { TextWritten at out.old (Lines·line word.now numbers.now) result out.new
+    ensures { TextWritten at out.old (lines_line word.now numbers.now) result out.new
         × (result ≤ at + length word.now + 21 * length numbers.now + 1) }
 {
     let middle = copy(word, at, out);

@@ -7,7 +7,7 @@ ghost use Rattle.marks.specs.Marks.{is_kept, kept_of, checked_marks};
 use table_words::as_index;
 
 // The number, and how many labels are kept.
-#[derive(Drop)]
+#[derive(Clone, Copy)]
 pub struct CheckedMarks {
     pub refusal: u16,
     pub kept: u16,

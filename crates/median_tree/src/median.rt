@@ -8,7 +8,7 @@ use table_words::{Cell, as_word};
 use tree_lists::check_list;
 
 // The number; the position of the tree, from 0; and its summed distance to all.
-#[derive(Drop)]
+#[derive(Clone, Copy)]
 pub struct NearestAnswer {
     pub refusal: u16,
     pub position: u16,

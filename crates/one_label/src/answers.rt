@@ -1,17 +1,17 @@
 // What the calls on one label are given, and what they answer.
 ghost use Rattle.std.specs.Prelude.{◌≡◌};
 ghost use Rattle.one_label.specs.FiveAnswers.{refused_five};
-ghost use Rattle.one_label.specs.Changes.{restores as Changes·restores};
+ghost use Rattle.one_label.specs.Changes.{restores as changes_restores};
 
 // What is wished for a label.
-#[derive(Drop)]
+#[derive(Clone, Copy)]
 pub enum Wish {
     Strike,
     Restore,
 }
 
 // The sets of four in each of the five cases.
-#[derive(Drop)]
+#[derive(Clone, Copy)]
 pub struct FiveCounts {
     pub a: u64,
     pub b: u64,
@@ -21,7 +21,7 @@ pub struct FiveCounts {
 }
 
 // The number, and the five counts: zeros with a number.
-#[derive(Drop)]
+#[derive(Clone, Copy)]
 pub struct FiveAnswer {
     pub refusal: u16,
     pub a: u64,
@@ -46,7 +46,7 @@ pub(crate) fn refused(number: u16) -> FiveAnswer
 
 // Whether a wish is to restore.
 pub(crate) fn restores(wish: Wish) -> bool
-    ensures { result ≡ Changes·restores wish }
+    ensures { result ≡ changes_restores wish }
 {
     match wish {
         Wish::Strike => false,

@@ -1,5 +1,7 @@
 // Two tree tables checked together, with marks and the number of work cells or without. Every public function takes any words
 // in slices of any length, and tells a pair or one number.
+#![tactic(auto)]
+
 mod pairs; // pairs.rt: the pair check
 mod clearing; // clearing.rt: the lent work cells cleared
 

@@ -2,7 +2,7 @@
 // the lent work has cells enough.
 ghost use Rattle.std.specs.Prelude.{◌≡◌, ◌*◌, ◌<◌};
 ghost use Rattle.tree_check.specs.Refusals.{refusal};
-ghost use Rattle.tree_check.specs.Table.{tips as Table·tips};
+ghost use Rattle.tree_check.specs.Table.{tips as table_tips};
 ghost use Rattle.marks.specs.Marks.{kept_of};
 ghost use Rattle.pair_check.specs.PairOrder.{tables_order, cells_order, pair_order};
 ghost use Rattle.pair_check.specs.CheckedPair.{checked_pair, checked_cells, checked_work, pair_number, PairTold};
@@ -14,7 +14,7 @@ use tree_check::{Checked, check, refusal_of};
 
 // What the check finds: a pair with its tips, how many of them are counted, the first tree's edges and the second's, or the
 // number of the refusal.
-#[derive(Drop)]
+#[derive(Clone, Copy)]
 pub enum CheckedPair {
     Pair {
         tips: u16,
@@ -44,7 +44,7 @@ pub fn pair_refusal(answer: CheckedPair) -> u16
 pub fn check_pair(first: &[u16], second: &[u16]) -> CheckedPair
     ensures { (result ≡ checked_pair first.now second.now)
         × PairTold (refusal (tables_order first.now second.now)) first.now second.now
-        (Table·tips first.now) result }
+        (table_tips first.now) result }
 {
     let answer = check(first);
     let Checked::Tree { tips, nodes } = answer else {
@@ -87,7 +87,7 @@ fn measured(tips: u16, counted: u16, rows: usize, columns: usize, cells: usize) 
 pub fn check_cells(first: &[u16], second: &[u16], cells: usize) -> CheckedPair
     ensures { (result ≡ checked_cells first.now second.now cells)
         × PairTold (refusal (cells_order first.now second.now cells)) first.now second.now
-        (Table·tips first.now) result }
+        (table_tips first.now) result }
 {
     let answer = check_pair(first, second);
     let CheckedPair::Pair {
@@ -107,7 +107,7 @@ pub fn check_cells(first: &[u16], second: &[u16], cells: usize) -> CheckedPair
 pub fn check_work(first: &[u16], second: &[u16], marks: &[u8], cells: usize) -> CheckedPair
     ensures { (result ≡ checked_work first.now second.now marks.now cells)
         × PairTold (refusal (pair_order first.now second.now marks.now cells))
-        first.now second.now (kept_of marks.now (Table·tips first.now)) result }
+        first.now second.now (kept_of marks.now (table_tips first.now)) result }
 {
     let answer = check_pair(first, second);
     let CheckedPair::Pair {

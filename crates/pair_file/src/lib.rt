@@ -1,4 +1,6 @@
 // One comparison file: its bytes compared.
+#![tactic(auto)]
+
 mod words; // words.rt: the words of a file
 mod comparison; // comparison.rt: a file compared
 

@@ -1,5 +1,7 @@
 // Two tree tables: crossings, claim sums, the quartet table, split counts, the triplet table, and the evidence for four labels.
 // Every public function takes any words in slices of any length, and answers in full or refuses with one number.
+#![tactic(auto)]
+
 mod tables; // tables.rt: the quartet table of two trees
 
 pub use claims::{ClaimSums, claim_sums};

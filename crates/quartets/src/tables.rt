@@ -11,7 +11,7 @@ use table_words::Cell;
 
 // The number; the same butterfly in both trees, different butterflies, a butterfly in the first only, in the second
 // only, a star in both; and the distance B + C + D.
-#[derive(Drop)]
+#[derive(Clone, Copy)]
 pub struct QuartetTable {
     pub refusal: u16,
     pub a: u64,

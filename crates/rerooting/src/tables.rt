@@ -1,6 +1,6 @@
 // A tree table re-rooted at another tip.
 ghost use Rattle.std.specs.Prelude.{◌≡◌, ◌+◌, ◌*◌, ◌≤◌, ◌<◌, length};
-ghost use Rattle.tree_check.specs.Table.{tips as Table·tips, nodes as Table·nodes};
+ghost use Rattle.tree_check.specs.Table.{tips as table_tips, nodes as table_nodes};
 ghost use Rattle.tree_check.specs.Refusals.{refusal};
 ghost use Rattle.tree_check.specs.IsTree.{IsTree};
 ghost use Rattle.sums.specs.Swaps.{swapped};
@@ -41,7 +41,7 @@ fn parent_for(i: usize, last: usize, p: usize) -> usize
 
 // The parent and the label of each node, where its new number says.
 fn write_nodes(table: &[u16], m: usize, x: u16, news: &[usize; NODES], out: &mut [u16])
-    requires { TableNumbered table.now m x news.now × (2 + 2 * Table·nodes table.now ≤ length out.old) }
+    requires { TableNumbered table.now m x news.now × (2 + 2 * table_nodes table.now ≤ length out.old) }
     ensures { NodesWritten table.now x m out.old out.new }
 {
     let last = news[0];
@@ -57,8 +57,8 @@ fn write_nodes(table: &[u16], m: usize, x: u16, news: &[usize; NODES], out: &mut
 
 // The whole table.
 fn write_table(table: &[u16], m: usize, x: u16, out: &mut [u16])
-    requires { IsTree table.now × (m ≡ Table·nodes table.now) × (x < Table·tips table.now)
-        × (2 + 2 * Table·nodes table.now ≤ length out.old) }
+    requires { IsTree table.now × (m ≡ table_nodes table.now) × (x < table_tips table.now)
+        × (2 + 2 * table_nodes table.now ≤ length out.old) }
     ensures { out.new ≡ written table.now x out.old }
 {
     let z = node_of(&table[2 + m..], x);

@@ -10,7 +10,7 @@ use table_words::{Cell, as_count};
 use tree_pairs::cross_pair;
 
 // The number; the first tree's splits, the second's, those of both; and the Robinson-Foulds distance.
-#[derive(Drop)]
+#[derive(Clone, Copy)]
 pub struct SplitCounts {
     pub refusal: u16,
     pub first: u16,

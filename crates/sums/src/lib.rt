@@ -1,1 +1,2 @@
 // Finite sums, counts and tests over natural numbers: theory only, in specs/.
+#![tactic(auto)]

@@ -1,5 +1,7 @@
 // The words of tables and the cells of the work: their sizes, and the numbers that code makes of them.
 // specs/Sizes has the same sizes for contracts.
+#![tactic(auto)]
+
 mod cutting; // cutting.rt: how many words a table takes of those that begin with it
 
 ghost use Rattle.std.specs.Prelude.{◌≡◌, ◌%◌, ◌≤◌, ◌<◌};

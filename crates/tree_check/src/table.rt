@@ -13,7 +13,7 @@ use super::tallies::tally;
 use table_words::{INNER, TIPS, as_index};
 
 // What the check finds: a tree with its tips and nodes, or the number of the refusal.
-#[derive(Drop)]
+#[derive(Clone, Copy)]
 pub enum Checked {
     Tree { tips: u16, nodes: u16 },
     Refused(u16),

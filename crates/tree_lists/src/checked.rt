@@ -1,8 +1,8 @@
 // The tables of a list checked, and the largest of them.
 ghost use Rattle.std.specs.Prelude.{◌≡◌, not, ◌&&◌, ◌||◌, ◌-◌, ◌≤◌, ◌<◌, eqb, leb, length};
 ghost use Rattle.sums.specs.Tests.{some};
-ghost use Rattle.tree_check.specs.Table.{tips as Table·tips};
-ghost use Rattle.tree_check.specs.Refusals.{refusal as Refusals·refusal};
+ghost use Rattle.tree_check.specs.Table.{tips as table_tips};
+ghost use Rattle.tree_check.specs.Refusals.{refusal as refusals_refusal};
 ghost use Rattle.tree_check.specs.TreeOrder.{tree_order};
 ghost use Rattle.tree_lists.specs.TreeLists.{trees_most, edges_at, wrong_tree, largest};
 ghost use Rattle.tree_lists.specs.CheckedList.{refused_list, checked_list};
@@ -14,7 +14,7 @@ use tree_check::{Checked, check};
 
 // The number; how many trees there are; how many tips each has; how many edges the largest has; where each table starts, and where
 // they end.
-#[derive(Drop)]
+#[derive(Clone, Copy)]
 pub struct TreeList {
     pub refusal: u16,
     pub trees: usize,
@@ -48,7 +48,7 @@ fn is_few(k: usize) -> bool
 
 // Whether a table is refused, or its n is not this one.
 fn is_wrong(table: &[u16], n: u16) -> bool
-    ensures { result ≡ (not (eqb (Refusals·refusal (tree_order table.now)) 0) || not (eqb (Table·tips table.now) n)) }
+    ensures { result ≡ (not (eqb (refusals_refusal (tree_order table.now)) 0) || not (eqb (table_tips table.now) n)) }
 {
     let answer = check(table);
     let Checked::Tree { tips, nodes: _ } = answer else {

@@ -1,6 +1,6 @@
 // The words of a list cut into tables.
 ghost use Rattle.std.specs.Prelude.{◌≡◌, ◌-◌, ◌≤◌, ◌<◌, length};
-ghost use Rattle.tree_check.specs.Table.{tips as Table·tips, nodes as Table·nodes};
+ghost use Rattle.tree_check.specs.Table.{tips as table_tips, nodes as table_nodes};
 ghost use Rattle.tree_lists.specs.TreeLists.{trees_most};
 ghost use Rattle.tree_lists.specs.lemmas.Starts.{TableStarts};
 
@@ -11,7 +11,7 @@ pub const STARTS: usize = 17;
 
 // Word 0; 0 where there is none.
 pub(crate) fn word_0(words: &[u16]) -> u16
-    ensures { result ≡ Table·tips words.now }
+    ensures { result ≡ table_tips words.now }
 {
     if words.len() == 0 {
         return 0;
@@ -21,7 +21,7 @@ pub(crate) fn word_0(words: &[u16]) -> u16
 
 // One less than word 1 of a table: its edges; 0 where there is none.
 pub(crate) fn edges_of(words: &[u16]) -> usize
-    ensures { (result ≡ Table·nodes words.now - 1) × (result < 65536) }
+    ensures { (result ≡ table_nodes words.now - 1) × (result < 65536) }
 {
     if words.len() < 2 {
         return 0;

@@ -2,7 +2,7 @@
 ghost use Rattle.std.specs.Prelude.{◌≡◌, length};
 ghost use Rattle.tree_check.specs.lemmas.TableParts.{table_of};
 ghost use Rattle.tree_check.specs.Refusals.{refusal};
-ghost use Rattle.tree_check.specs.Table.{tips as Table·tips};
+ghost use Rattle.tree_check.specs.Table.{tips as table_tips};
 ghost use Rattle.marks.specs.Marks.{kept_of};
 ghost use Rattle.pair_check.specs.PairOrder.{PairWithCells, cells_order, pair_order};
 ghost use Rattle.pair_check.specs.CheckedPair.{checked_cells, checked_work, PairTold};
@@ -62,7 +62,7 @@ fn fill_all(first: &[u16], second: &[u16], work: &mut [Cell])
 pub fn cross_pair(first: &[u16], second: &[u16], marks: &[u8], work: &mut [Cell]) -> CheckedPair
     ensures { (result ≡ checked_work first.now second.now marks.now (length work.old))
         × PairTold (refusal (pair_order first.now second.now marks.now (length work.old)))
-        first.now second.now (kept_of marks.now (Table·tips first.now)) result
+        first.now second.now (kept_of marks.now (table_tips first.now)) result
         × (work.new
         ≡ after_crossings first.now second.now marks.now work.old) }
 {
@@ -77,7 +77,7 @@ pub fn cross_pair(first: &[u16], second: &[u16], marks: &[u8], work: &mut [Cell]
 pub fn cross_all(first: &[u16], second: &[u16], work: &mut [Cell]) -> CheckedPair
     ensures { (result ≡ checked_cells first.now second.now (length work.old))
         × PairTold (refusal (cells_order first.now second.now (length work.old)))
-        first.now second.now (Table·tips first.now) result
+        first.now second.now (table_tips first.now) result
         × (work.new ≡ after_all first.now second.now work.old) }
 {
     let pair = check_cells(first, second, work.len());

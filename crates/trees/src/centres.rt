@@ -12,7 +12,7 @@ use table_words::{as_index, as_word};
 use tree_check::{Checked, check, refusal_of};
 
 // The number of the refusal with node 0, or 0 with the centre.
-#[derive(Drop)]
+#[derive(Clone, Copy)]
 pub struct CentreAnswer {
     pub refusal: u16,
     pub node: u16,

@@ -11,14 +11,14 @@ use tree_check::{Checked, check, refusal_of};
 use walks::add_up;
 
 // A butterfly names the partner of the smallest label; a star names nobody.
-#[derive(Drop)]
+#[derive(Clone, Copy)]
 pub enum Topology {
     Butterfly(u16),
     Star,
 }
 
 // The number of the refusal with a star, or 0 with the topology.
-#[derive(Drop)]
+#[derive(Clone, Copy)]
 pub struct TopologyAnswer {
     pub refusal: u16,
     pub topology: Topology,

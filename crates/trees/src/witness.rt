@@ -13,14 +13,14 @@ use table_words::{NODES, as_index, as_word};
 use tree_check::{Checked, check, refusal_of};
 
 // The lowest-numbered edge that parts four labels two and two, or the node where all their paths meet.
-#[derive(Drop)]
+#[derive(Clone, Copy)]
 pub enum Witness {
     Edge(u16),
     Meet(u16),
 }
 
 // The number of the refusal with a star and meeting node 0, or 0 with the topology and its witness.
-#[derive(Drop)]
+#[derive(Clone, Copy)]
 pub struct WitnessAnswer {
     pub refusal: u16,
     pub topology: Topology,

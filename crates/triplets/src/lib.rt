@@ -1,5 +1,7 @@
 // Two tree tables: their triplet table. Every public function takes any words in slices of any length, and answers in full
 // or refuses with one number.
+#![tactic(auto)]
+
 mod columns; // columns.rt: the columns with two labels or more, listed
 mod edges; // edges.rt: what the edges of one tree add
 mod pairs; // pairs.rt: what pairs of edges add

@@ -12,7 +12,7 @@ use table_words::{Cell, NODES, as_index, cell_count};
 const FEW: usize = 128;
 
 // What pairs of edges add to twice A, and to B.
-#[derive(Drop)]
+#[derive(Clone, Copy)]
 pub(crate) struct PairTerms {
     pub alike: u64,
     pub apart: u64,

@@ -14,7 +14,7 @@ use tree_pairs::cross_all;
 
 // The number; the triplets resolved alike in both trees, differently, in the first only, in the second only, in neither;
 // and the distance B + C + D.
-#[derive(Drop)]
+#[derive(Clone, Copy)]
 pub struct TripletTable {
     pub refusal: u16,
     pub a: u64,

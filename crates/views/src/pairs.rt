@@ -9,7 +9,7 @@ use table_words::{Cell, as_count, as_index};
 
 // The number; how many labels are visible; A to E and B + C + D over them; their splits in the first tree, in the second and in
 // both, and the Robinson-Foulds distance.
-#[derive(Drop)]
+#[derive(Clone, Copy)]
 pub struct ViewAnswer {
     pub refusal: u16,
     pub visible: u64,

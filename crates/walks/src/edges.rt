@@ -22,7 +22,7 @@ fn no_edge(edge: u16, nodes: u16) -> bool
 }
 
 // The number of the refusal with zeros, or 0 with the first cell of the labels beyond an edge and how many they are.
-#[derive(Drop)]
+#[derive(Clone, Copy)]
 pub struct PartBeyond {
     pub refusal: u16,
     pub start: u16,

@@ -3,7 +3,7 @@
 ghost use Rattle.std.specs.Prelude.{◌≡◌, ◌-◌, ◌≤◌, length};
 ghost use Rattle.table_words.specs.Sizes.{node_room};
 ghost use Rattle.sums.specs.Lists.{in_front};
-ghost use Rattle.tree_check.specs.Table.{tips as Table·tips, nodes as Table·nodes, node_of};
+ghost use Rattle.tree_check.specs.Table.{tips as table_tips, nodes as table_nodes, node_of};
 ghost use Rattle.tree_check.specs.lemmas.TableParts.{table_of};
 ghost use Rattle.tree_check.specs.Refusals.{refusal};
 ghost use Rattle.walks.specs.Spans.{lists_order, spans_order, span_begin, span_end, filled};
@@ -83,11 +83,11 @@ pub fn spans(table: &[u16], labelled: &mut [u16], begin: &mut [Cell], end: &mut 
     ensures { (result ≡ refusal (spans_order table.now (length labelled.old) (length begin.old)
         (length end.old)))
         × (labelled.new
-        ≡ filled result (Table·tips table.now) (node_of table.now) labelled.old)
+        ≡ filled result (table_tips table.now) (node_of table.now) labelled.old)
         × (begin.new
-        ≡ filled result (Table·nodes table.now) (span_begin table.now) begin.old)
+        ≡ filled result (table_nodes table.now) (span_begin table.now) begin.old)
         × (end.new
-        ≡ filled result (Table·nodes table.now) (span_end table.now) end.old) }
+        ≡ filled result (table_nodes table.now) (span_end table.now) end.old) }
 {
     let answer = check(table);
     let Checked::Tree { tips, nodes } = answer else {

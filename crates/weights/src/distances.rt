@@ -4,7 +4,7 @@ ghost use Rattle.tree_check.specs.Refusals.{refusal};
 ghost use Rattle.tree_check.specs.Table.{tips};
 ghost use Rattle.counting.specs.Kept.{kept};
 ghost use Rattle.counting.specs.declared.Case.TheVariants.{B, C, D};
-ghost use Rattle.counting.specs.Cases.{quartets as Cases·quartets};
+ghost use Rattle.counting.specs.Cases.{quartets as cases_quartets};
 ghost use Rattle.pair_check.specs.PairOrder.{MarkedPair};
 ghost use Rattle.tree_pairs.specs.Crossings.{crossed_kept};
 ghost use Rattle.weights.specs.Weights.{over256, numerator_of};
@@ -16,7 +16,7 @@ use quartets::quartet_table;
 use table_words::Cell;
 
 // The number; and B + p(C + D).
-#[derive(Drop)]
+#[derive(Clone, Copy)]
 pub struct WeightedDistance {
     pub refusal: u16,
     pub distance: f64,
@@ -37,10 +37,10 @@ fn weigh_table(first: &[u16], second: &[u16], marks: &[u8], work: &mut [Cell], p
     requires { MarkedPair first.now second.now marks.now (length work.old) × (numerator_of p ≤ 256) }
     ensures { (result
         ≡ over256
-        (256 * Cases·quartets (kept marks.now (tips first.now)) first.now second.now B
+        (256 * cases_quartets (kept marks.now (tips first.now)) first.now second.now B
         + numerator_of p
-        * (Cases·quartets (kept marks.now (tips first.now)) first.now second.now C
-        + Cases·quartets (kept marks.now (tips first.now)) first.now second.now D)))
+        * (cases_quartets (kept marks.now (tips first.now)) first.now second.now C
+        + cases_quartets (kept marks.now (tips first.now)) first.now second.now D)))
         × (work.new
         ≡ crossed_kept first.now second.now marks.now work.old) }
 {

@@ -3,7 +3,7 @@ ghost use Rattle.std.specs.Prelude.{◌≡◌, ◌+◌, ◌*◌, ◌≤◌};
 ghost use Rattle.weights.specs.Weights.{over256, p_of, numerator_of};
 
 // Nothing, full, or a part with its fraction.
-#[derive(Drop)]
+#[derive(Clone, Copy)]
 pub enum Weight {
     None,
     Full,

@@ -4,7 +4,7 @@
 use Rattle.std.specs.Prelude.{◌≡◌, List, ℕ, suc, ◌-◌, ◌≤◌, ◌<◌, eqb}
 use Rattle.std.proofs.Math.Path.{sym, ap}
 use Rattle.std.proofs.Common.{◌∙◌, ap₂, subst, arith}
-use Rattle.std.proofs.Math.Logic.{Ne·symm}
+use Rattle.std.proofs.Math.Logic.{Ne-symm}
 use Rattle.sums.specs.Bits.{bit}
 use Rattle.sums.specs.SetsOfFour.{sets3}
 use Rattle.sums.specs.theorems.SetLaws.{sets3_ext}
@@ -57,8 +57,8 @@ module _ (l : Labels) (t u c d : Table) (g : IsTree t) (h : IsTree u) (e : tips 
   one_case w x y z f =
       case_of_tests t u (tips t) (l.at w) (l.at x) (l.at y) (l.at z) (at_four f)
       ∙ (λ i. case_in
-      (first_passed (bt w x y z f i) (bt w y x z (search Ne·symm) i) (bt w z x y (search Ne·symm) i))
-      (first_passed (bu w x y z f i) (bu w y x z (search Ne·symm) i) (bu w z x y (search Ne·symm) i)))
+      (first_passed (bt w x y z f i) (bt w y x z (search Ne-symm) i) (bt w z x y (search Ne-symm) i))
+      (first_passed (bu w x y z f i) (bu w y x z (search Ne-symm) i) (bu w z x y (search Ne-symm) i)))
       ∙ sym (case_of_tests c d l.number w x y z f)
     where
       bt : (w x y z : ℕ) → Four l.number w x y z → butterfly t (l.at w) (l.at x) (l.at y) (l.at z) ≡ butterfly c w x y z

@@ -5,7 +5,7 @@ use Rattle.std.specs.Prelude.{◌≡◌, refl, Bool, ℕ, ◌-◌, ◌<◌, min,
 use Rattle.std.proofs.Common.{sym, ◌∙◌, ap, arith}
 use Rattle.std.proofs.Math.Path.{ap₂}
 use Rattle.std.proofs.Math.Bool.{true, false}
-use Rattle.std.proofs.Math.Logic.{Ne·symm}
+use Rattle.std.proofs.Math.Logic.{Ne-symm}
 use Rattle.std.proofs.Math.Decide.{dec_lt, ℕ_discrete}
 use Rattle.std.proofs.Math.Dec.{ltb}
 use Rattle.sums.specs.theorems.TestLaws.{same_test, lt_iff}
@@ -118,8 +118,8 @@ module _ (l : Labels) (t c : Table) (g : IsTree t) (r : Rising (tips t) l) (d : 
   unfolding topology topology_at
   cut_topologies w x y z f = rw (
     cut_butterflies w x y z f,
-    cut_butterflies w y x z (search Ne·symm),
-    cut_butterflies w z x y (search Ne·symm),
+    cut_butterflies w y x z (search Ne-symm),
+    cut_butterflies w z x y (search Ne-symm),
     at_partner (tips t) l r w x y z f.la f.lb f.lc f.ld,
     at_partner (tips t) l r w y x z f.la f.lc f.lb f.ld,
     at_partner (tips t) l r w z x y f.la f.ld f.lb f.lc,

@@ -3,7 +3,7 @@
 use Rattle.std.specs.Prelude.{◌≡◌, refl, List, ℕ, ◌*◌, ◌-◌, eqb}
 use Rattle.std.proofs.Math.Path.{sym, ap₂}
 use Rattle.std.proofs.Common.{◌∙◌, ap, subst, arith}
-use Rattle.std.proofs.Math.Logic.{Ne·symm}
+use Rattle.std.proofs.Math.Logic.{Ne-symm}
 use Rattle.sums.specs.Bits.{bit}
 use Rattle.sums.specs.SetsOfFour.{sets4}
 use Rattle.sums.specs.theorems.SetLaws.{sets4_ext}
@@ -51,8 +51,8 @@ module _ (l : Labels) (t u c d : Table) (g : IsTree t) (h : IsTree u) (e : tips 
   unfolding topology_in
   topologies_in t c g r p w x y z f = rw (
     same_fours l t c g r p w x y z f,
-    same_fours l t c g r p w y x z (search Ne·symm),
-    same_fours l t c g r p w z x y (search Ne·symm),
+    same_fours l t c g r p w y x z (search Ne-symm),
+    same_fours l t c g r p w z x y (search Ne-symm),
   )
 
   same_cases : (k : Case) → quartets l t u k ≡ quartets (all l.number) c d k

@@ -3,7 +3,7 @@
 use Rattle.std.specs.Prelude.{◌≡◌, refl}
 use Rattle.std.proofs.Math.Path.{sym, ap, ap₂}
 use Rattle.std.proofs.Common.{◌∙◌, arith}
-use Rattle.std.proofs.Math.Logic.{Ne·symm}
+use Rattle.std.proofs.Math.Logic.{Ne-symm}
 use mathlib.Core.List.{List, [], ◌∷◌}
 use Prim.Native.Nat.{ℕ, zero, suc, ◌*◌}
 use Rattle.sums.specs.Bits.{bit}
@@ -70,8 +70,8 @@ module _ (l : Labels) (t t' : Table) (g : IsTree t) (g' : IsTree t') (r : Rising
   unfolding topology topology_at
   same_topologies a b c d f = rw (
     same_butterflies a b c d f,
-    same_butterflies a c b d (search Ne·symm),
-    same_butterflies a d b c (search Ne·symm),
+    same_butterflies a c b d (search Ne-symm),
+    same_butterflies a d b c (search Ne-symm),
   )
 
 -- .. among all labels

@@ -4,7 +4,7 @@
 use Rattle.std.specs.Prelude.{◌≡◌}
 use Rattle.std.proofs.Common.{sym, ◌∙◌, arith}
 use Rattle.std.proofs.Math.Path.{ap, ap₂}
-use Rattle.std.proofs.Math.Logic.{Ne·symm}
+use Rattle.std.proofs.Math.Logic.{Ne-symm}
 use Prim.Native.Nat.{ℕ, suc, ◌+◌, ◌*◌, ◌-◌, ◌/◌, ◌≤◌, ◌<◌}
 use Rattle.sums.specs.Sum.{sum}
 use Rattle.sums.specs.Bits.{bit, is}
@@ -55,8 +55,8 @@ module _ (t u : Table) (g : IsTree t) (h : IsTree u) (e : tips t ≡ tips u) (s 
     unfolding exchanged_topology
     same_exchanged a b c d f = rw (
       same_moved a b c d f,
-      same_moved a c b d (search Ne·symm),
-      same_moved a d b c (search Ne·symm),
+      same_moved a c b d (search Ne-symm),
+      same_moved a d b c (search Ne-symm),
     )
 
     same_cases : (k : Case) → exchange_cases t x y k ≡ exchange_cases u x y k

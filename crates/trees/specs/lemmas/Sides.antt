@@ -2,7 +2,7 @@
 -- Assumes nothing.
 use Rattle.std.specs.Prelude.{List, ◌≡◌, refl, Bool, true, false, not, ◌&&◌, ◌↔◌, ◌≢◌, ℕ, ◌+◌, ◌*◌, ◌≤◌, ◌<◌, eqb, length}
 use Rattle.std.specs.Bool.{beq}
-use Rattle.std.proofs.Math.Logic.{Iff·rfl}
+use mathlib.Core.Logic.Iff.{rfl}
 use Rattle.std.proofs.Common.{lit≤}
 use Rattle.sums.specs.Bits.{bit}
 use Rattle.sums.specs.theorems.TestLaws.{eq_iff}
@@ -81,7 +81,7 @@ pub apart_shown : (t : Table) (i a b c d : ℕ) → ((pairing (sides t i a b c d
 unfolding sides beyond parts
 apart_shown t i a b c d =
     let h = pairs_shown (beyond t i a) (beyond t i b) (beyond t i c) (beyond t i d) in
-    simp (← eq_iff, h.0, h.1, h.2, ← parts-iff) (Iff·rfl, Iff·rfl, Iff·rfl)
+    simp (← eq_iff, h.0, h.1, h.2, ← parts-iff) (rfl, rfl, rfl)
 
 -- ---- as code finds them
 

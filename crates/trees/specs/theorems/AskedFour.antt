@@ -3,7 +3,7 @@
 use Rattle.std.specs.Prelude.{◌≡◌, Bool, true, false, not, List, [], ◌∷◌, ◌≢◌, ◌↔◌, ℕ, zero, suc, ◌<◌, T}
 use Rattle.std.proofs.Math.Path.{refl}
 use Rattle.std.proofs.Common.{sym, ◌∙◌, ap, ap₂, arith}
-use Rattle.std.proofs.Math.Logic.{Ne·symm}
+use Rattle.std.proofs.Math.Logic.{Ne-symm}
 use Rattle.tree_check.specs.Refusals.{refusal}
 use Rattle.asked_labels.specs.LabelOrder.{too_large, two_equal, asked_order}
 use Rattle.asked_labels.specs.theorems.LabelOrderLaws.{AllBelow, Different, below_iff, different_iff}
@@ -96,16 +96,16 @@ unlike_four a b c d = let i = different_iff (four a b c d) in (
 unlike_moved : (a b c d : ℕ) {w x y z : ℕ} → Rearranged a b c d w x y z → Unlike a b c d ↔ Unlike w x y z
 unlike_moved a b c d as_is = (λ h. h, λ h. h)
 unlike_moved a b c d (first_two r) = let s = unlike_moved a b c d r in (
-  λ h. let k = s.0 h in search Ne·symm,
-  λ k. s.1 (search Ne·symm),
+  λ h. let k = s.0 h in search Ne-symm,
+  λ k. s.1 (search Ne-symm),
 )
 unlike_moved a b c d (middle r) = let s = unlike_moved a b c d r in (
-  λ h. let k = s.0 h in search Ne·symm,
-  λ k. s.1 (search Ne·symm),
+  λ h. let k = s.0 h in search Ne-symm,
+  λ k. s.1 (search Ne-symm),
 )
 unlike_moved a b c d (last_two r) = let s = unlike_moved a b c d r in (
-  λ h. let k = s.0 h in search Ne·symm,
-  λ k. s.1 (search Ne·symm),
+  λ h. let k = s.0 h in search Ne-symm,
+  λ k. s.1 (search Ne-symm),
 )
 
 -- ---- the order

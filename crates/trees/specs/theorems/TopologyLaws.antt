@@ -2,7 +2,8 @@
 -- Assumes nothing.
 use Rattle.std.specs.Prelude.{◌≡◌, refl, Bool, true, false, ◌≢◌, ◌↔◌, ℕ, ◌-◌, T}
 use Rattle.std.proofs.Common.{sym, ◌∙◌, arith}
-use Rattle.std.proofs.Math.Logic.{Ne·symm, Iff·rfl}
+use Rattle.std.proofs.Math.Logic.{Ne-symm}
+use mathlib.Core.Logic.Iff.{rfl}
 use Rattle.shapes.specs.theorems.FourLabels.{Four}
 use Rattle.shapes.specs.theorems.PartedFours.{parted-iff, parted-swap_left, parted-swap_right, parted_turn}
 use Rattle.shapes.specs.theorems.PartedFours.{AtMostOne, none, first, second, third, one-pairing}
@@ -56,7 +57,7 @@ named_star false false false p q r = (λ e. (λ u. u, λ u. u, λ u. u), λ h. r
 pub star_iff : (t : Table) (a b c d : ℕ) → (topology t a b c d ≡ Star)
     ↔ (PartedIn t a b c d → ⊥) × (PartedIn t a c b d → ⊥) × (PartedIn t a d b c → ⊥)
 unfolding topology
-star_iff t a b c d = simp (named_star, butterfly-parted) Iff·rfl
+star_iff t a b c d = simp (named_star, butterfly-parted) rfl
 
 named_passed : (x y z : Bool) (p q r : ℕ) → T x → named x y z p q r ≡ Butterfly p
 unfolding named
@@ -114,8 +115,8 @@ module _ (t : Table) (g : IsTree t) (a b c d : ℕ) where
     butterfly_turn t b c a d,
     butterfly_turn t b d a c,
     partner-swap_left b a c d,
-    partner_turn b c a d (search Ne·symm) f.bd (search Ne·symm) f.cd,
-    partner_turn b d a c (search Ne·symm) f.bc (search Ne·symm) (search Ne·symm),
+    partner_turn b c a d (search Ne-symm) f.bd (search Ne-symm) f.cd,
+    partner_turn b d a c (search Ne-symm) f.bc (search Ne-symm) (search Ne-symm),
   ) (named-swap_last _ _ _ (one-butterfly t g a b c d))
 
   order_middle : topology t a c b d ≡ topology t a b c d
@@ -139,9 +140,9 @@ pub data Rearranged (a b c d : ℕ) : ℕ → ℕ → ℕ → ℕ → Type 0 whe
 
 still_four : {n a b c d w x y z : ℕ} → Four n a b c d → Rearranged a b c d w x y z → Four n w x y z
 still_four f as_is = f
-still_four f (first_two r) = let h = still_four f r in search Ne·symm
-still_four f (middle r) = let h = still_four f r in search Ne·symm
-still_four f (last_two r) = let h = still_four f r in search Ne·symm
+still_four f (first_two r) = let h = still_four f r in search Ne-symm
+still_four f (middle r) = let h = still_four f r in search Ne-symm
+still_four f (last_two r) = let h = still_four f r in search Ne-symm
 
 -- in which order the four are given makes no difference
 pub any_order : (t : Table) → IsTree t → (a b c d : ℕ) {w x y z : ℕ} → Four (tips t) a b c d
