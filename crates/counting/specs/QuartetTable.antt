@@ -1,6 +1,6 @@
 -- The quartet table's five formulas, from the four claim sums and n alone (docs/SPECIFICATION.md, 'The five formulas').
 -- Assumes nothing.
-use Rattle.std.specs.Prelude.{ℕ, ◌+◌, ◌-◌, ◌/◌}
+use Rattle.std.specs.Prelude.{ℕ, ◌-◌, ◌/◌}
 use Rattle.sums.specs.Fours.{fours}
 
 -- A = S2/2

@@ -1,6 +1,6 @@
 -- The marks of labels: which are kept, and the rule that the marks of a call are held to (docs/SPECIFICATION.md, 'Marks').
 -- Assumes nothing.
-use Rattle.std.specs.Prelude.{◌≡◌, Bool, not, List, [], ◌∷◌, ℕ, zero, suc, ◌≤◌, ◌<◌, eqb, ltb, length}
+use Rattle.std.specs.Prelude.{◌≡◌, Bool, not, List, [], ◌∷◌, ℕ, ◌≤◌, ◌<◌, eqb, ltb, length}
 use Rattle.sums.specs.Counts.{count}
 use Rattle.sums.specs.Tests.{some}
 use Rattle.tree_check.specs.Table.{word}

@@ -1,6 +1,6 @@
 -- A table: its words, its parts, and which labels lie beyond an edge (docs/SPECIFICATION.md, 'Layout', 'Edges').
 -- Assumes nothing.
-use Rattle.std.specs.Prelude.{Bool, true, false, List, [], ℕ, zero, suc, ◌+◌, eqb, get_or, take, drop}
+use Rattle.std.specs.Prelude.{Bool, true, false, List, ℕ, zero, suc, ◌+◌, eqb, get_or, take, drop}
 use Rattle.shapes.specs.Ancestors.{anc}
 
 abbrev pub Table : Type 0

@@ -1,21 +1,19 @@
 -- With all marks 1 every figure is that of all labels.
 -- Assumes nothing.
-use Rattle.std.specs.Prelude.{◌≡◌, refl, Bool, ◌&&◌, List}
-use Rattle.std.proofs.Common.{sym, ◌∙◌, ap₂, arith}
+use Rattle.std.specs.Prelude.{◌≡◌, refl, ◌&&◌, List}
+use Rattle.std.proofs.Common.{◌∙◌, arith}
 use Rattle.std.proofs.Math.Path.{ap, fun_ext}
-use Prim.Native.Nat.{ℕ, ◌+◌, ◌*◌, ◌-◌, ◌<◌}
+use Prim.Native.Nat.{ℕ, ◌-◌, ◌<◌}
 use Rattle.sums.specs.Bits.{bit}
 use Rattle.sums.specs.Counts.{count}
 use Rattle.sums.specs.SetsOfFour.{sets4}
 use Rattle.sums.specs.theorems.SumLaws.{sum_ext}
 use Rattle.sums.specs.theorems.SetLaws.{sets4_ext}
 use Rattle.shapes.specs.Directions.{behind}
-use Rattle.shapes.specs.Claims.{sum_claims, claim_term, equation1, dcount}
+use Rattle.shapes.specs.Claims.{sum_claims, claim_term}
 use Rattle.shapes.specs.Splits.{splits_of, common_of}
 use Rattle.shapes.specs.theorems.SplitsExt.{splits_ext, common_ext}
-use Rattle.trees.specs.declared.quartet.Topology.{Topology}
-use Rattle.trees.specs.Topology.{topology}
-use Rattle.tree_check.specs.Table.{Table, tips, nodes, parent, node_of, beyond}
+use Rattle.tree_check.specs.Table.{Table, nodes, parent, node_of, beyond}
 use Rattle.counting.specs.Labels.{Labels, all}
 use Rattle.marks.specs.Marks.{is_kept}
 use Rattle.counting.specs.Kept.{kept}

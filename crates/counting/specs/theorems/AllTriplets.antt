@@ -1,11 +1,11 @@
 -- With all labels kept, the triplets over the labels other than 0 are those of the triplet table.
 -- Assumes nothing.
-use Rattle.std.specs.Prelude.{◌≡◌, refl, Bool, true, ℕ, zero, suc, ◌+◌, ◌*◌, ◌-◌, ◌≤◌, ◌<◌}
+use Rattle.std.specs.Prelude.{◌≡◌, refl, Bool, ℕ, zero, suc, ◌*◌, ◌-◌, ◌<◌}
 use Rattle.std.proofs.Common.{sym, ◌∙◌}
 use Rattle.std.proofs.Math.Path.{ap}
 use native.Mathlib.Omega.{arith}
 use Rattle.sums.specs.Sum.{sum}
-use Rattle.sums.specs.Bits.{bit, is}
+use Rattle.sums.specs.Bits.{bit}
 use Rattle.sums.specs.theorems.BitLaws.{is_other_lem}
 use Rattle.sums.specs.SetsOfFour.{sets2, sets3}
 use Rattle.sums.specs.theorems.SumLaws.{sum_none}

@@ -1,15 +1,12 @@
 -- The counting theorem over tables: what the claim sums say of the sets of four.
 -- Assumes nothing.
-use Rattle.std.specs.Prelude.{◌≡◌, ℕ, ◌+◌, ◌*◌, ◌-◌}
+use Rattle.std.specs.Prelude.{◌≡◌}
 use Rattle.std.proofs.Math.Path.{refl}
-use Rattle.std.proofs.Common.{sym, ◌∙◌, ap}
-use Rattle.sums.specs.Counts.{count}
-use Rattle.shapes.specs.Directions.{behind}
-use Rattle.shapes.specs.Claims.{sum_claims, claim_term}
+use Rattle.std.proofs.Common.{sym, ◌∙◌}
 use Rattle.shapes.specs.theorems.Shape.{Shape}
 use Rattle.shapes.specs.theorems.Topologies.{cases_in}
 use Rattle.shapes.specs.theorems.Counting.{S_in, S2_in, S3_in, SumsCount, Counted, counted}
-use Rattle.tree_check.specs.Table.{Table, tips, nodes, parent, node_of}
+use Rattle.tree_check.specs.Table.{Table, tips}
 use Rattle.tree_check.specs.IsTree.{IsTree}
 use Rattle.counting.specs.Labels.{Labels}
 use Rattle.counting.specs.theorems.LabelLaws.{Rising, rising_of}

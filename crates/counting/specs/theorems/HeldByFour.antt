@@ -1,15 +1,13 @@
 -- Each set of four kept labels is held by four of them: over all kept labels the sets that hold each add up to four times all.
 -- Assumes nothing.
-use Rattle.std.specs.Prelude.{◌≡◌, refl, Bool, not, ◌≢◌, List, ℕ, zero, suc, ◌+◌, ◌*◌, ◌≤◌, ◌<◌, eqb, ltb}
+use Rattle.std.specs.Prelude.{◌≡◌, List, ℕ, zero, suc, ◌*◌, ◌≤◌, ◌<◌, ltb}
 use Rattle.std.proofs.Common.{sym, ◌∙◌, ap, ap₂, arith}
-use Rattle.std.proofs.Math.Decide.{ℕ_discrete}
 use Rattle.sums.specs.Sum.{sum}
 use Rattle.sums.specs.theorems.SumLaws.{sum_ext, sum-mul_left}
-use Rattle.sums.specs.Bits.{bit, is}
+use Rattle.sums.specs.Bits.{bit}
 use Rattle.sums.specs.theorems.BitLaws.{ne, bit-T, T-bit, ne_other, ne_self, ne_sym, is_ne}
 use Rattle.sums.specs.theorems.TestLaws.{lt_iff}
 use Rattle.sums.specs.theorems.Products.{times_pos, ne_times_pos}
-use Rattle.sums.specs.Counts.{count}
 use Rattle.sums.specs.SetsOfFour.{sets2, sets3, sets4}
 use Rattle.sums.specs.theorems.SetLaws.{tuples3, tuples4, six_ways, every_order, Symmetric, twenty_four_times, sets3_ext, sets4_ext}
 use Rattle.shapes.specs.theorems.FourLabels.{Four}
@@ -19,13 +17,13 @@ use Rattle.tree_check.specs.IsTree.{IsTree}
 use Rattle.trees.specs.Topology.{topology}
 use Rattle.trees.specs.theorems.TopologyLaws.{Rearranged, as_is, first_two, middle, last_two, any_order}
 use Rattle.marks.specs.Marks.{is_kept, kept_of}
-use Rattle.counting.specs.Kept.{kept_at, kept}
+use Rattle.counting.specs.Kept.{kept}
 use Rattle.counting.specs.declared.Case.{Case}
 use Rattle.counting.specs.Cases.{case_of, is_case, topology_at, quartets}
 use Rattle.counting.specs.theorems.KeptLaws.{sum_kept, sets4-kept}
 use Rattle.counting.specs.Kept.{is_other}
 use Rattle.counting.specs.theorems.OtherLabels.{other_bit}
-use Rattle.counting.specs.Holding.{holding, holding_kept}
+use Rattle.counting.specs.Holding.{holding_kept}
 use Rattle.counting.specs.theorems.OneLabelLaw.{held}
 
 -- equal where the factor is not 0

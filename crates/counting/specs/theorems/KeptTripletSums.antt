@@ -1,21 +1,20 @@
 -- The triplets over the kept labels, by sums over edges and over pairs of edges.
 -- Assumes nothing.
-use Rattle.std.specs.Prelude.{◌≡◌, refl, Bool, ◌≢◌, List, ℕ, zero, suc, ◌+◌, ◌*◌, ◌-◌, ◌≤◌, ◌<◌, eqb}
+use Rattle.std.specs.Prelude.{◌≡◌, refl, List, ℕ, suc, ◌+◌, ◌*◌, ◌-◌, ◌≤◌, ◌<◌, eqb}
 use Rattle.std.proofs.Common.{sym, ◌∙◌}
 use Rattle.std.proofs.Math.Path.{ap, ap₂}
 use native.Mathlib.Omega.{arith}
 use Rattle.sums.specs.Sum.{sum}
-use Rattle.sums.specs.theorems.SumLaws.{sum_ext, sum_first, sum_mono}
+use Rattle.sums.specs.theorems.SumLaws.{sum_ext, sum_first}
 use Rattle.sums.specs.Bits.{bit}
-use Rattle.sums.specs.theorems.BitLaws.{is_other_lem, bit_le}
+use Rattle.sums.specs.theorems.BitLaws.{is_other_lem}
 use Rattle.sums.specs.Counts.{count}
-use Rattle.sums.specs.SetsOfFour.{sets3}
 use Rattle.sums.specs.theorems.SetLaws.{sets3_ext}
 use Rattle.sums.specs.theorems.ThreesLaws.{threes}
 use Rattle.sums.specs.theorems.ThreesLaws.{threes-count}
 use Rattle.shapes.specs.Ancestors.{anc}
 use Rattle.shapes.specs.theorems.AncestorLaws.{anc_at_zero}
-use Rattle.shapes.specs.theorems.Shape.{Shape, beyond_in}
+use Rattle.shapes.specs.theorems.Shape.{Shape}
 use Rattle.shapes.specs.theorems.TripletCounts.{Outgroup, triplet_in, triplets_in, beyond_count, beyond_both, alike_term, apart_term, edge_term, TripletSums, triplet_sums}
 use Rattle.shapes.specs.theorems.TripletCounts.{leave_both, leave_second, leave_first}
 use Rattle.tree_check.specs.Table.{Table, tips, nodes, parent, node_of, beyond}
@@ -23,7 +22,6 @@ use Rattle.tree_check.specs.IsTree.{IsTree}
 use Rattle.tree_check.specs.theorems.RootedTables.{rooted}
 use Rattle.walks.specs.theorems.NodeLabels.{node_only}
 use Rattle.counting.specs.Labels.{Labels}
-use Rattle.counting.specs.theorems.LabelLaws.{Rising}
 use Rattle.counting.specs.Kept.{kept_at}
 use Rattle.counting.specs.declared.Case.{Case}
 use Rattle.counting.specs.declared.Case.TheVariants.{A, B, C, D, E}
@@ -35,7 +33,7 @@ use Rattle.counting.specs.theorems.TreeShape.{shape_of}
 use Rattle.counting.specs.theorems.CasesInShapes.{case_named}
 use Rattle.counting.specs.Kept.{is_other, others}
 use Rattle.counting.specs.Triplets.{triplets_over}
-use Rattle.counting.specs.theorems.OtherLabels.{after_tip0, with_tip0, with_tip-rising, other_at, others_rise}
+use Rattle.counting.specs.theorems.OtherLabels.{after_tip0, with_tip0, with_tip-rising, others_rise}
 
 -- how many kept labels but 0 lie beyond edge i; and beyond edge i of t and edge j of u, of n labels
 unfoldable pub size_over : List ℕ → ℕ → Table → ℕ → ℕ

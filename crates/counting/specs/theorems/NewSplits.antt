@@ -5,7 +5,7 @@ use Rattle.std.specs.Prelude.{◌≡◌, refl, Bool, true, false, ◌&&◌, ◌�
 use Rattle.std.proofs.Common.{sym, ◌∙◌, subst, inl, inr, T_not}
 use Rattle.std.proofs.Math.Path.{ap}
 use Rattle.std.proofs.Math.Bool.{not}
-use Rattle.std.proofs.Math.Decide.{dec_le, ℕ_discrete}
+use Rattle.std.proofs.Math.Decide.{dec_le}
 use native.Mathlib.Omega.{arith}
 use Rattle.std.proofs.Math.Dec.{not_T}
 use Rattle.sums.specs.Bits.{bit}
@@ -13,7 +13,7 @@ use Rattle.sums.specs.Counts.{count}
 use Rattle.sums.specs.Tests.{some}
 use Rattle.sums.specs.theorems.SumLaws.{sum_ext, sum-add, sum_const}
 use Rattle.sums.specs.theorems.BitLaws.{bit_not, bit-T, T-bit, T_false}
-use Rattle.sums.specs.theorems.TestLaws.{and-iff, eq_iff, not_eq_iff, not-some-iff, some-iff, same_test, T_dec}
+use Rattle.sums.specs.theorems.TestLaws.{and-iff, eq_iff, not_eq_iff, some-iff, same_test, T_dec}
 use Rattle.sums.specs.theorems.Matchings.{count_mono, count_same}
 use Rattle.shapes.specs.Ancestors.{anc}
 use Rattle.shapes.specs.theorems.AncestorLaws.{parent-lt, anc_root, anc_self, anc_down, anc_past, anc_trans, anc-line, anc-le}
@@ -25,7 +25,6 @@ use Rattle.shapes.specs.theorems.RobinsonFoulds.{new_iff}
 use Rattle.tree_check.specs.Table.{Table, tips, nodes, parent, node_of, beyond}
 use Rattle.tree_check.specs.IsTree.{IsTree}
 use Rattle.tree_check.specs.theorems.RootedTables.{rooted}
-use Rattle.walks.specs.theorems.NodeLabels.{node_at}
 use Rattle.counting.specs.Labels.{Labels, all}
 use Rattle.counting.specs.theorems.LabelLaws.{Rising, all-rising}
 use Rattle.counting.specs.SplitCounts.{beyond_at}

@@ -1,17 +1,14 @@
 -- The one-label law: the counts over the kept labels with x are those without x, and the sets that hold x.
 -- Assumes nothing.
-use Rattle.std.specs.Prelude.{◌≡◌, Bool, true, false, ◌&&◌, ◌≢◌, List, ℕ, zero, suc, ◌+◌, ◌*◌, ◌≤◌, ◌<◌, length, set}
+use Rattle.std.specs.Prelude.{◌≡◌, ◌&&◌, ◌≢◌, List, ℕ, ◌+◌, ◌*◌, ◌<◌}
 use Rattle.std.proofs.Math.Path.{refl, ap, fun_ext}
-use Rattle.std.proofs.Common.{sym, ◌∙◌, ap₂, inl, inr, arith, eq-eqb, ne_eqb, get_or-set_same, get_or-set_other}
+use Rattle.std.proofs.Common.{sym, ◌∙◌, ap₂, inl, inr, arith}
 use Rattle.std.proofs.Math.Bool.{not}
 use Rattle.std.proofs.Math.Decide.{ℕ_discrete}
 use Rattle.std.proofs.Math.Dec.{eqb}
-use Rattle.sums.specs.Sum.{sum}
-use Rattle.sums.specs.theorems.SumLaws.{sum_ext, sum-mul_left}
 use Rattle.sums.specs.Bits.{bit, is}
-use Rattle.sums.specs.theorems.BitLaws.{is_self, is_other_lem, is_eq, bit_inj, bit_not, alike}
-use Rattle.sums.specs.Counts.{count}
-use Rattle.sums.specs.SetsOfFour.{sets2, sets3, sets4}
+use Rattle.sums.specs.theorems.BitLaws.{is_other_lem, is_eq, bit_inj, alike}
+use Rattle.sums.specs.SetsOfFour.{sets3, sets4}
 use Rattle.shapes.specs.theorems.FourLabels.{Four}
 use Rattle.trees.specs.declared.quartet.Topology.{Topology}
 use Rattle.tree_check.specs.Table.{Table, word, tips}
@@ -19,12 +16,11 @@ use Rattle.tree_check.specs.IsTree.{IsTree}
 use Rattle.trees.specs.Topology.{topology}
 use Rattle.trees.specs.theorems.TopologyLaws.{Rearranged, as_is, first_two, middle, last_two, any_order}
 use Rattle.marks.specs.Marks.{is_kept}
-use Rattle.counting.specs.Labels.{Labels}
-use Rattle.counting.specs.Kept.{kept_at, kept}
+use Rattle.counting.specs.Kept.{kept}
 use Rattle.counting.specs.declared.Case.{Case}
 use Rattle.counting.specs.Cases.{case_of, is_case, topology_at, quartets}
-use Rattle.counting.specs.theorems.KeptLaws.{sum_kept, sum_before, sets4-kept}
-use Rattle.counting.specs.Kept.{is_other, others}
+use Rattle.counting.specs.theorems.KeptLaws.{sets4-kept}
+use Rattle.counting.specs.Kept.{is_other}
 use Rattle.counting.specs.theorems.OtherLabels.{sets3-kept, other_bit, not_itself}
 use Rattle.counting.specs.Holding.{holding, holding_kept}
 use Rattle.sums.specs.theorems.Inserted.{one-number_more}

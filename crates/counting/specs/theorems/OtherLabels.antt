@@ -1,14 +1,14 @@
 -- Laws of the kept labels other than one, and of sums over them.
 -- Assumes nothing.
-use Rattle.std.specs.Prelude.{◌≡◌, Bool, true, not, ◌&&◌, ◌≢◌, List, ℕ, zero, suc, ◌+◌, ◌*◌, ◌-◌, ◌≤◌, ◌<◌, eqb}
+use Rattle.std.specs.Prelude.{◌≡◌, Bool, true, ◌&&◌, List, ℕ, zero, suc, ◌+◌, ◌*◌, ◌-◌, ◌≤◌, ◌<◌}
 use Rattle.std.proofs.Math.Path.{refl}
 use Rattle.std.proofs.Common.{sym, ◌∙◌, ap, inl, inr, arith, eq-eqb, ne_eqb}
 use Rattle.std.proofs.Math.Bool.{false}
-use Rattle.std.proofs.Math.Decide.{dec_lt, ℕ_discrete}
+use Rattle.std.proofs.Math.Decide.{dec_lt}
 use Rattle.sums.specs.Sum.{sum}
 use Rattle.sums.specs.theorems.SumLaws.{sum-add, sum_ext, sum-mul_left, sum-part}
 use Rattle.sums.specs.Bits.{bit, is}
-use Rattle.sums.specs.theorems.BitLaws.{is_self, is_other_lem, alike, bit_le, bit_not, sum_is}
+use Rattle.sums.specs.theorems.BitLaws.{is_self, is_other_lem, alike, sum_is}
 use Rattle.sums.specs.Counts.{count}
 use Rattle.sums.specs.SetsOfFour.{sets2, sets3}
 use Rattle.marks.specs.Marks.{is_kept, kept_of}

@@ -1,6 +1,6 @@
 -- The quartet theorem: what the five formulas give, for two tree tables on the same tips and any labels of theirs.
 -- Assumes nothing.
-use Rattle.std.specs.Prelude.{◌≡◌, refl, ◌↔◌, ℕ, ◌+◌, ◌*◌, ◌-◌, ◌/◌, ◌%◌, ◌≤◌}
+use Rattle.std.specs.Prelude.{◌≡◌, ◌↔◌, ℕ, ◌+◌, ◌*◌, ◌-◌, ◌/◌, ◌%◌, ◌≤◌}
 use Rattle.std.proofs.Common.{sym, ◌∙◌, arith}
 use Rattle.table_words.specs.Sizes.{tips_most}
 use Rattle.sums.specs.Fours.{fours}
@@ -13,7 +13,7 @@ use Rattle.counting.specs.theorems.LabelLaws.{Rising, rising_of, number-le}
 use Rattle.counting.specs.ClaimSums.{S, S2, S3}
 use Rattle.counting.specs.declared.Case.{Case}
 use Rattle.counting.specs.declared.Case.TheVariants.{A, B, C, D, E}
-use Rattle.counting.specs.Cases.{case_number, quartets, distance}
+use Rattle.counting.specs.Cases.{quartets, distance}
 use Rattle.counting.specs.QuartetTable.{formula_a, formula_b, formula_c, formula_d, formula_e}
 use Rattle.counting.specs.theorems.FiveFormulas.{FormulasCount, formulas-count}
 use Rattle.counting.specs.SplitCounts.{beyond_at, HaveSameSplits}

@@ -1,6 +1,6 @@
 -- The reference pairs K1 to K9, computed from the definitions (docs/SPECIFICATION.md, 'The figures K1 to K9').
 -- Assumes nothing.
-use Rattle.std.specs.Prelude.{◌≡◌, refl, true, false, List, [], ◌∷◌, ◌++◌, ℕ, ◌+◌}
+use Rattle.std.specs.Prelude.{◌≡◌, refl, true, false, List, [], ◌∷◌, ◌++◌, ℕ}
 use Rattle.sums.specs.Sum.{sum}
 use Rattle.sums.specs.Bits.{bit}
 use Rattle.sums.specs.Tests.{some, every}
@@ -21,7 +21,7 @@ use Rattle.counting.specs.Labels.{Labels, all}
 use Rattle.counting.specs.Kept.{kept_at, kept}
 use Rattle.counting.specs.ClaimSums.{codes, behind_edge, size, crossing, S, S2, S3}
 use Rattle.counting.specs.declared.Case.TheVariants.{A, B, C, D, E}
-use Rattle.counting.specs.Cases.{case_of, case_number, is_case, topology_at, quartets, distance}
+use Rattle.counting.specs.Cases.{case_of, is_case, topology_at, quartets, distance}
 use Rattle.counting.specs.QuartetTable.{formula_a, formula_b, formula_c, formula_e, formula_d}
 use Rattle.counting.specs.theorems.QuartetTheorem.{formula_distance}
 use Rattle.counting.specs.SplitCounts.{beyond_at, splits, common_splits, robinson_foulds}

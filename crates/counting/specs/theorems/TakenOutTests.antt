@@ -12,7 +12,7 @@ use Rattle.shapes.specs.Ancestors.{anc}
 use Rattle.shapes.specs.theorems.AncestorLaws.{anc-le}
 use Rattle.tree_check.specs.Table.{Table, tips, nodes, parent, label}
 use Rattle.tree_check.specs.IsTree.{IsTree}
-use Rattle.tree_check.specs.TreeOrder.{is_child, children}
+use Rattle.tree_check.specs.TreeOrder.{children}
 use Rattle.tree_check.specs.theorems.RootedTables.{rooted}
 use Rattle.counting.specs.theorems.PassThrough.{PassThrough, NoPassThrough, NextAbove, TakenOut}
 use Rattle.counting.specs.theorems.PassThroughNodes.{single_child, one_child}

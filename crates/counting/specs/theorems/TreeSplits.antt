@@ -1,19 +1,15 @@
 -- Some label lies beyond each edge of a tree table, and label 0 beyond none; common splits and the Robinson-Foulds distance
 -- are the same counted from either tree.
 -- Assumes nothing.
-use Rattle.std.specs.Prelude.{◌≡◌, refl, Bool, ◌≢◌, ◌↔◌, T}
-use Rattle.std.proofs.Common.{sym, ◌∙◌, ap, arith}
+use Rattle.std.specs.Prelude.{◌≡◌, refl, Bool, ◌↔◌, T}
+use Rattle.std.proofs.Common.{◌∙◌, arith}
 use Rattle.std.proofs.Math.Logic.{inl, inr}
 use Prim.Native.Nat.{ℕ, zero, suc, ◌+◌, ◌*◌, ◌-◌, ◌≤◌, ◌<◌}
-use Rattle.std.proofs.Math.Decide.{dec_lt, ℕ_discrete}
 use Rattle.sums.specs.Bits.{bit}
-use Rattle.sums.specs.theorems.BitLaws.{bit_not, bit_no, bit-T, is_other_lem}
+use Rattle.sums.specs.theorems.BitLaws.{is_other_lem}
 use Rattle.shapes.specs.Ancestors.{anc}
-use Rattle.shapes.specs.theorems.AncestorLaws.{parent-lt, anc_at_zero, anc_self, anc_down, anc_trans, anc-line}
-use Rattle.shapes.specs.theorems.AncestorLaws.{one_child}
-use Rattle.shapes.specs.theorems.PathLaws.{towards}
-use Rattle.shapes.specs.Splits.{is_split, is_new_split, splits_of, common_of, SameSides, same, turned}
-use Rattle.shapes.specs.theorems.SplitLaws.{robinson_foulds_of, same_splits_of, Distinct, same_splits-iff}
+use Rattle.shapes.specs.theorems.AncestorLaws.{parent-lt, anc_at_zero, anc_self, anc_down, anc_trans}
+use Rattle.shapes.specs.theorems.SplitLaws.{robinson_foulds_of, same_splits_of, same_splits-iff}
 use Rattle.shapes.specs.theorems.RobinsonFoulds as rf
 use Rattle.shapes.specs.theorems.RobinsonFoulds.{new_where_distinct, common_turned}
 use Rattle.shapes.specs.theorems.SameSplits as ss

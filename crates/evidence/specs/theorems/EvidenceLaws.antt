@@ -1,18 +1,17 @@
 -- The evidence for one set of four: what is accepted, the case that the quartet table counts, and that the order of the labels
 -- plays no part. What each tree's witness shows is in trees, theorems/WitnessLaws.
 -- Assumes nothing.
-use Rattle.std.specs.Prelude.{◌≡◌, refl, ◌↔◌, ℕ, T, eqb}
+use Rattle.std.specs.Prelude.{◌≡◌, refl, ◌↔◌, ℕ}
 use Rattle.std.proofs.Math.Path.{sym, ap}
-use Rattle.std.proofs.Common.{◌∙◌, ap₂, arith}
+use Rattle.std.proofs.Common.{◌∙◌, arith}
 use mathlib.Core.List.{List, [], ◌∷◌, ◌++◌}
 use Rattle.std.proofs.Math.Decide.{ℕ_discrete}
 use Rattle.shapes.specs.theorems.FourLabels.{Four}
 use Rattle.tree_check.specs.Table.{Table, tips}
 use Rattle.tree_check.specs.Refusals.{Rule, refusal, if_accepted}
 use Rattle.tree_check.specs.theorems.RefusalLaws.{accepted, kept_append, numbered_append, if_accepted_lem, if_refused}
-use Rattle.asked_labels.specs.LabelOrder.{too_large, two_equal, asked_order}
+use Rattle.asked_labels.specs.LabelOrder.{asked_order}
 use Rattle.trees.specs.Topology.{topology}
-use Rattle.trees.specs.Witness.{witness}
 use Rattle.asked_labels.specs.theorems.LabelOrderLaws.{AllBelow, Different, below_iff, different_iff}
 use Rattle.trees.specs.theorems.AskedFour.{asked_any_order}
 use Rattle.trees.specs.theorems.TopologyLaws.{Rearranged, any_order}

@@ -4,9 +4,9 @@
 use Rattle.std.specs.Prelude.{◌≡◌, ◌≢◌}
 use Rattle.std.proofs.Math.Path.{sym, ap}
 use Rattle.std.proofs.Common.{◌∙◌, arith}
-use Prim.Native.Nat.{ℕ, ◌-◌, ◌<◌}
+use Prim.Native.Nat.{ℕ, ◌<◌}
 use Rattle.std.proofs.Math.Decide.{ℕ_discrete}
-use Rattle.sums.specs.Bits.{bit, is}
+use Rattle.sums.specs.Bits.{bit}
 use Rattle.sums.specs.theorems.SetLaws.{sets4_ext}
 use Rattle.trees.specs.declared.quartet.Topology.{Topology}
 use Rattle.tree_check.specs.Table.{Table, word, tips, nodes, parents, parent, label, node_of}

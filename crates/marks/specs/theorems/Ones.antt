@@ -1,8 +1,7 @@
 -- Marks of 1 are marks, and keep every label.
 -- Assumes nothing.
-use Rattle.std.specs.Prelude.{◌≡◌, refl, true, List, [], ◌∷◌, ℕ, zero, suc, ◌*◌, ◌≤◌, ◌<◌, length, take}
+use Rattle.std.specs.Prelude.{◌≡◌, refl, true, List, [], ◌∷◌, ℕ, zero, suc, ◌≤◌, ◌<◌, length, take}
 use Rattle.std.proofs.Common.{◌∙◌, ap, arith, eq-eqb}
-use Rattle.sums.specs.Sum.{sum}
 use Rattle.sums.specs.theorems.SumLaws.{sum_ext, sum_const}
 use Rattle.sums.specs.Bits.{bit}
 use Rattle.tree_check.specs.Table.{word}

@@ -1,6 +1,6 @@
 -- The quartet distance is a metric on trees up to their splits, and so is the weighted distance with k from 128 on.
 -- Assumes nothing.
-use Rattle.std.specs.Prelude.{◌≡◌, refl, ◌↔◌, ℕ, ◌+◌, ◌*◌, ◌≤◌}
+use Rattle.std.specs.Prelude.{◌≡◌, ◌↔◌, ℕ, ◌+◌, ◌*◌, ◌≤◌}
 use Rattle.std.proofs.Common.{sym, ◌∙◌, ap, subst, mul-le-mul_right, arith}
 use Rattle.shapes.specs.theorems.SameSplits.{same_splits-refl}
 use Rattle.tree_check.specs.Table.{Table, tips}

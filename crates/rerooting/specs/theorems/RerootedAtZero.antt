@@ -1,6 +1,6 @@
 -- Re-rooted at tip 0, a table is what it was.
 -- Assumes nothing.
-use Rattle.std.specs.Prelude.{◌≡◌, ℕ, ◌-◌, ◌<◌, get_or}
+use Rattle.std.specs.Prelude.{◌≡◌, ℕ, ◌<◌, get_or}
 use Rattle.std.proofs.Common.{sym, ◌∙◌, ap, ap₂, inl, inr, arith}
 use Rattle.sums.specs.theorems.BitLaws.{bit_cases}
 use Rattle.shapes.specs.Ancestors.{anc}

@@ -1,6 +1,6 @@
 -- Four nodes that no edge parts two and two: their paths meet at one node, the centre of three of them.
 -- Assumes nothing.
-use Rattle.std.specs.Prelude.{◌≡◌, Bool, ◌||◌, ◌⊎◌, ◌↔◌, ℕ, suc, ◌+◌, ◌*◌, ◌/◌, ◌≤◌, ◌<◌, T}
+use Rattle.std.specs.Prelude.{◌≡◌, Bool, ◌||◌, ◌↔◌, ℕ, suc, ◌+◌, ◌/◌, ◌≤◌, T}
 use Rattle.std.proofs.Common.{sym, ◌∙◌, inl, inr, arith}
 use Rattle.std.proofs.Math.Path.{ap, fun_ext}
 use Rattle.sums.specs.Tests.{first}
@@ -9,13 +9,13 @@ use Rattle.sums.specs.theorems.BitLaws.{bit_cases, bit_not}
 use Rattle.sums.specs.theorems.TestLaws.{and-iff, or-iff, first_is, same_test}
 use Rattle.shapes.specs.Ancestors.{anc}
 use Rattle.shapes.specs.theorems.AncestorLaws.{Rooted}
-use Rattle.shapes.specs.Directions.{head, behind}
+use Rattle.shapes.specs.Directions.{behind}
 use Rattle.shapes.specs.theorems.DirectionLaws.{behind_even, behind_odd, code_cases}
 use Rattle.shapes.specs.Quartets.{parts, parts_four, Apart, TwoAndTwo, with_b, with_c, with_d}
 use Rattle.shapes.specs.theorems.PartedFours.{parts-iff}
 use Rattle.shapes.specs.theorems.PathLaws.{OnPath, on_path-iff}
-use Rattle.shapes.specs.Centres.{on_all, centre_of, on_six, meet_of}
-use Rattle.shapes.specs.theorems.OneCentre.{OnAll, on_all-iff, centre_on, centre_only}
+use Rattle.shapes.specs.Centres.{centre_of, on_six, meet_of}
+use Rattle.shapes.specs.theorems.OneCentre.{on_all-iff, centre_on, centre_only}
 
 -- ---- the tests in ordinary mathematics
 

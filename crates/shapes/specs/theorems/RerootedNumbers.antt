@@ -1,22 +1,22 @@
 -- New numbers of a re-rooted tree: each number is taken once, the path comes first, and parents have smaller numbers.
 -- Assumes nothing.
-use Rattle.std.specs.Prelude.{◌≡◌, refl, Bool, not, ◌&&◌, ◌⊎◌, ◌≢◌, ℕ, zero, suc, ◌+◌, ◌*◌, ◌-◌, ◌≤◌, ◌<◌, T}
+use Rattle.std.specs.Prelude.{◌≡◌, Bool, ◌&&◌, ℕ, zero, suc, ◌+◌, ◌*◌, ◌-◌, ◌≤◌, ◌<◌, T}
 use Rattle.std.proofs.Math.Path.{sym, ap}
-use Rattle.std.proofs.Common.{◌∙◌, subst, inl, inr, eq-zero-or-pos, eq-or-lt_of_le, le_of_suc-le-suc, arith, T_not}
+use Rattle.std.proofs.Common.{◌∙◌, inl, inr, eq-zero-or-pos, arith}
 use Rattle.std.proofs.Math.Bool.{true, false}
-use Rattle.std.proofs.Math.Decide.{dec_le, dec_lt, ℕ_discrete}
+use Rattle.std.proofs.Math.Decide.{dec_lt}
 use Rattle.std.proofs.Math.Dec.{eqb, ltb}
 use Rattle.sums.specs.Sum.{sum}
-use Rattle.sums.specs.theorems.SumLaws.{sum-add, sum_ext, sum_mono, sum_none, sum_one, sum-swap, sum-pos, sum_const}
+use Rattle.sums.specs.theorems.SumLaws.{sum-add, sum_ext, sum_none}
 use Rattle.sums.specs.Bits.{bit, is}
-use Rattle.sums.specs.theorems.BitLaws.{bit_le, bit-T, T-bit, T_true, T_false, bit_cases, bit_no, bit_inj, is_eq, is_self, is_other_lem, alike, sum_is}
-use Rattle.sums.specs.Tests.{some, first}
-use Rattle.sums.specs.theorems.TestLaws.{and-iff, lt_iff, eq_iff, T_dec, some-iff, first_passes, first-le, first_hit}
+use Rattle.sums.specs.theorems.BitLaws.{bit_le, bit-T, T-bit, T_true, T_false, bit_cases, bit_no, is_other_lem, alike, sum_is}
+use Rattle.sums.specs.Tests.{first}
+use Rattle.sums.specs.theorems.TestLaws.{and-iff, lt_iff, eq_iff, some-iff, first_passes, first-le, first_hit}
 use Rattle.sums.specs.Counts.{count}
 use Rattle.sums.specs.theorems.Permutations.{onto}
 use Rattle.sums.specs.theorems.Products.{bit_and}
 use Rattle.shapes.specs.Ancestors.{anc}
-use Rattle.shapes.specs.theorems.AncestorLaws.{Rooted, anc-le, anc-lt, anc_up, anc_self, anc_root, anc_trans, anc-line, anc_past, anc_down, anc_at_zero, parent-lt}
+use Rattle.shapes.specs.theorems.AncestorLaws.{Rooted, anc-le, anc-lt, anc_self, anc_root, parent-lt}
 use Rattle.shapes.specs.Rerooting.{path_after, renumbered, node_numbered, rerooted_up}
 
 passed : (b : Bool) → bit b ≡ 1 → T b

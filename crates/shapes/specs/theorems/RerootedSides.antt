@@ -1,14 +1,14 @@
 -- A re-rooted tree has the edges of the old one: off the path with the same side beyond, on it with the other.
 -- Assumes nothing.
-use Rattle.std.specs.Prelude.{◌≡◌, refl, ◌⊎◌, ◌≢◌, ℕ, zero, suc, ◌+◌, ◌*◌, ◌-◌, ◌≤◌, ◌<◌, T}
+use Rattle.std.specs.Prelude.{◌≡◌, ◌≢◌, ℕ, zero, suc, ◌+◌, ◌-◌, ◌≤◌, ◌<◌}
 use Rattle.std.proofs.Common.{sym, ◌∙◌, ap, subst, inl, inr, eq-zero-or-pos, arith}
 use Rattle.std.proofs.Math.Decide.{dec_le, dec_lt, ℕ_discrete}
 use Rattle.sums.specs.Bits.{bit, is}
-use Rattle.sums.specs.theorems.BitLaws.{bit_le, bit-T, bit_cases, bit_no, is_eq, is_self, is_other_lem, alike}
+use Rattle.sums.specs.theorems.BitLaws.{bit-T, bit_cases, bit_no, is_eq, is_other_lem, alike}
 use Rattle.shapes.specs.Ancestors.{anc}
-use Rattle.shapes.specs.theorems.AncestorLaws.{Rooted, anc-le, anc-lt, anc_up, anc_self, anc_root, anc_trans, anc-line, anc_past, anc_down, anc_at_zero, parent-lt}
+use Rattle.shapes.specs.theorems.AncestorLaws.{Rooted, anc-le, anc-lt, anc_up, anc_self, anc_trans, anc-line, anc_past, anc_down, anc_at_zero, parent-lt}
 use Rattle.shapes.specs.Rerooting.{renumbered, node_numbered, rerooted_up}
-use Rattle.shapes.specs.theorems.RerootedNumbers.{renumbered-lt, renumbered-one, renumbered_root, rerooted_rooted, numbered_is, numbered_back}
+use Rattle.shapes.specs.theorems.RerootedNumbers.{renumbered-lt, renumbered-one, renumbered_root, rerooted_rooted, numbered_is}
 use Rattle.shapes.specs.theorems.RerootedNumbers.{up_on, up_off, path_before, path_back, off_pos, up_less, path_end}
 
 anc_step : (up : ℕ → ℕ) → Rooted up → (i j : ℕ) → 1 ≤ j → bit (anc up i j) ≡ is i j + bit (anc up i (up j))

@@ -1,17 +1,13 @@
 -- Splits are a matter of the labels that there are: sides that agree on them give the same counts.
 -- Assumes nothing.
-use Rattle.std.specs.Prelude.{◌≡◌, Bool, ◌&&◌, ◌||◌, ℕ, suc, ◌+◌, ◌*◌, ◌-◌, ◌<◌}
-use Rattle.std.proofs.Common.{sym, ◌∙◌}
+use Rattle.std.specs.Prelude.{◌≡◌, Bool, ◌&&◌, ◌||◌, ℕ, suc, ◌<◌}
 use Rattle.std.proofs.Math.Path.{ap, ap₂}
 use Rattle.std.proofs.Math.Bool.{not, beq}
 use Rattle.std.proofs.Math.Dec.{leb}
-use Rattle.sums.specs.Tests.{some, every}
 use Rattle.sums.specs.theorems.TestLaws.{some_ext, every_ext}
 use Rattle.sums.specs.Bits.{bit}
-use Rattle.sums.specs.Counts.{count}
 use Rattle.sums.specs.theorems.SumLaws.{sum_ext}
 use Rattle.shapes.specs.Splits.{Sides, is_split, same_sides, occurs, is_new_split, splits_of, common_of}
-use Rattle.shapes.specs.theorems.SplitLaws.{robinson_foulds_of}
 
 -- on n labels the two are the same
 abbrev pub Agree : ℕ → Sides → Sides → Type 0

@@ -8,7 +8,7 @@ use Prim.Native.Nat.{ℕ, zero, suc, ◌+◌, ◌*◌, ◌-◌, ◌≤◌, ◌<�
 use native.Mathlib.Omega.{arith}
 use Rattle.sums.specs.Sum.{sum}
 use Rattle.sums.specs.theorems.SumLaws.{sum_cong, sum-add, sum_none, sum_first}
-use Rattle.sums.specs.Bits.{bit, is}
+use Rattle.sums.specs.Bits.{bit}
 use Rattle.sums.specs.theorems.BitLaws.{ne, bit_le, bit_cases, bit_not, bit-T, T-bit, is_other_lem, ne_self, ne_other}
 use Rattle.sums.specs.theorems.TestLaws.{same_test}
 use Rattle.sums.specs.theorems.Products.{bit_sq}

@@ -1,15 +1,14 @@
 -- A sum over sets of three does not depend on the names of the numbers.
 -- Assumes nothing.
-use Rattle.std.specs.Prelude.{◌≡◌, refl, ◌≢◌, ℕ, zero, suc, ◌+◌, ◌*◌, ◌<◌}
+use Rattle.std.specs.Prelude.{◌≡◌, refl, ◌≢◌, ℕ, ◌*◌, ◌<◌}
 use Rattle.std.proofs.Common.{sym, ◌∙◌, ap, inl, inr}
 use native.Mathlib.Omega.{arith}
 use Rattle.sums.specs.Sum.{sum}
 use Rattle.sums.specs.theorems.SumLaws.{sum_ext, sum-mul_left}
-use Rattle.sums.specs.Bits.{is}
 use Rattle.sums.specs.theorems.BitLaws.{ne, ne_self, ne_other, alike}
 use Rattle.sums.specs.theorems.Permutations.{sum_permuted}
 use Rattle.sums.specs.SetsOfFour.{sets2, sets3}
-use Rattle.sums.specs.theorems.SetLaws.{tuples2, tuples3, tuples3_cong, six_ways, every_order, sets3_ext, sets3-add}
+use Rattle.sums.specs.theorems.SetLaws.{tuples2, tuples3, tuples3_cong, six_ways, every_order, sets3_ext}
 
 -- numbers below n exchanged in pairs
 module _ (n : ℕ) (σ : ℕ → ℕ) (inside : (i : ℕ) → i < n → σ i < n) (back : (i : ℕ) → σ (σ i) ≡ i) where

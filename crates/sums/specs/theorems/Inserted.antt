@@ -1,12 +1,12 @@
 -- Sums over sets that hold one number v are sums over sets of the others.
 -- Assumes nothing.
-use Rattle.std.specs.Prelude.{◌≡◌, refl, Bool, ◌⊎◌, ◌≢◌, ℕ, zero, suc, ◌+◌, ◌*◌, ◌≤◌, ◌<◌}
-use Rattle.std.proofs.Common.{sym, ◌∙◌, ap, ap₂, inl, inr, arith}
+use Rattle.std.specs.Prelude.{◌≡◌, refl, ℕ, zero, suc, ◌+◌, ◌*◌, ◌<◌}
+use Rattle.std.proofs.Common.{sym, ◌∙◌, ap, arith}
 use Rattle.std.proofs.Math.Decide.{ℕ_discrete}
 use Rattle.sums.specs.Sum.{sum}
-use Rattle.sums.specs.theorems.SumLaws.{sum-suc, sum_ext, sum_none, sum-add}
+use Rattle.sums.specs.theorems.SumLaws.{sum-suc, sum_ext, sum_none}
 use Rattle.sums.specs.Bits.{is}
-use Rattle.sums.specs.theorems.BitLaws.{is_self, is_other_lem, sum_is, alike}
+use Rattle.sums.specs.theorems.BitLaws.{is_self, is_other_lem, sum_is}
 use Rattle.sums.specs.SetsOfFour.{sets2, sets3, sets4}
 use Rattle.sums.specs.theorems.SetLaws.{sets3_ext, sets4_ext, sets4_none, sets4-add}
 

@@ -1,6 +1,6 @@
 -- The parents of a tree table are a tree with the root 0.
 -- Assumes nothing.
-use Rattle.std.specs.Prelude.{◌≡◌, refl, ℕ, suc, ◌-◌, ◌≤◌, take, drop}
+use Rattle.std.specs.Prelude.{◌≡◌, refl, ℕ, suc, ◌≤◌, take, drop}
 use Rattle.std.proofs.Common.{ap, inl, inr, lt_of_not-le, eq-zero-or-pos, arith, length-take}
 use Rattle.std.proofs.Math.Decide.{dec_le}
 use Rattle.std.proofs.Math.ListN.{get_or-eq_default}

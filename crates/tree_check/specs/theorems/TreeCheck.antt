@@ -1,6 +1,6 @@
 -- The tree check accepts exactly the tree tables.
 -- Assumes nothing.
-use Rattle.std.specs.Prelude.{◌≡◌, refl, ◌&&◌, ◌⊎◌, ◌≢◌, ◌↔◌, List, [], T, ltb, leb, length}
+use Rattle.std.specs.Prelude.{◌≡◌, refl, ◌&&◌, ◌⊎◌, ◌≢◌, ◌↔◌, List, T, ltb, leb, length}
 use Rattle.std.proofs.Common.{◌∙◌, lt_of_not-le, eq-zero-or-pos, arith, le-ltb, eq-eqb, ne_eqb}
 use Rattle.std.proofs.Math.Path.{ap}
 use Rattle.std.proofs.Math.Bool.{Bool}

@@ -11,7 +11,6 @@ use Rattle.sums.specs.Lists.{in_front}
 use Rattle.sums.specs.theorems.SumLaws.{sum_ext}
 use Rattle.tree_check.specs.Table.{Table, tips, nodes}
 use Rattle.tree_check.specs.IsTree.{IsTree}
-use Rattle.marks.specs.Marks.{is_kept}
 use Rattle.marks.specs.theorems.Ones.{ones, ones_keep}
 use Rattle.counting.specs.Labels.{Labels, all}
 use Rattle.counting.specs.Kept.{kept}

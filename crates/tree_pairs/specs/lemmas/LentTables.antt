@@ -3,7 +3,7 @@
 use Rattle.std.specs.Prelude.{◌≡◌, refl, ◌≢◌, List, ℕ, ◌+◌, ◌*◌, ◌-◌, ◌≤◌, length, take, drop}
 use Rattle.std.proofs.Math.Path.{sym}
 use Rattle.std.proofs.Common.{◌∙◌, ap, subst, arith}
-use Rattle.tree_check.specs.Table.{Table, word, tips, nodes, parents, labels}
+use Rattle.tree_check.specs.Table.{Table, word, tips, nodes, parents}
 use Rattle.tree_check.specs.lemmas.TableParts.{rest, table_of, to_parts, of_parts}
 use Rattle.tree_check.specs.lemmas.TableParts.{parents-length, table_of-parts}
 use Rattle.tree_check.specs.Refusals.{refusal}

@@ -1,14 +1,13 @@
 -- What `witness_of` answers, as its code finds it: the first edge that shows a pairing, or none.
 -- Assumes nothing.
-use Rattle.std.specs.Prelude.{◌≡◌, Bool, true, false, List, [], ◌∷◌, ◌⊎◌, ◌≢◌, T, length}
+use Rattle.std.specs.Prelude.{◌≡◌, List, [], ◌∷◌, ◌≢◌, T, length}
 use Rattle.std.proofs.Math.Path.{refl, sym, ap, ap₂}
-use Rattle.std.proofs.Common.{◌∙◌, subst, inl, inr}
-use Prim.Native.Nat.{ℕ, zero, suc, ◌+◌, ◌*◌, ◌-◌, ◌≤◌, ◌<◌}
+use Rattle.std.proofs.Common.{◌∙◌, subst}
+use Prim.Native.Nat.{ℕ, zero, suc, ◌-◌, ◌≤◌, ◌<◌}
 use Rattle.std.proofs.Math.Decide.{ℕ_discrete}
 use native.Mathlib.Omega.{arith}
 use Rattle.table_words.specs.Sizes.{node_room}
-use Rattle.sums.specs.Bits.{bit}
-use Rattle.sums.specs.Tests.{some, first}
+use Rattle.sums.specs.Tests.{some}
 use Rattle.sums.specs.theorems.BitLaws.{T_true, T_false}
 use Rattle.sums.specs.theorems.TestLaws.{some-iff, first_is}
 use Rattle.shapes.specs.Quartets.{TwoAndTwo, with_b, with_c, with_d}
@@ -31,7 +30,7 @@ use Rattle.trees.specs.declared.witness.WitnessAnswer.{WitnessAnswer}
 use Rattle.trees.specs.Centre.{centre}
 use Rattle.asked_labels.specs.LabelOrder.{asked_order, label_order}
 use Rattle.trees.specs.Topology.{topology, butterfly_of}
-use Rattle.trees.specs.Witness.{parts_labels, parting_edge, meeting_node, witness, witness_answer, is_edge, witness_number, WitnessTold}
+use Rattle.trees.specs.Witness.{parts_labels, parting_edge, meeting_node, witness, witness_answer, is_edge, WitnessTold}
 use Rattle.asked_labels.specs.theorems.LabelOrderLaws.{label_check}
 use Rattle.trees.specs.theorems.WitnessLaws.{butterfly_by_edge, witness_shown}
 use Rattle.trees.specs.lemmas.CentreOutcomes.{centre_over, centre_of-parts}

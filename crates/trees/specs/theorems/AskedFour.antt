@@ -2,9 +2,8 @@
 -- Assumes nothing.
 use Rattle.std.specs.Prelude.{◌≡◌, Bool, true, false, not, List, [], ◌∷◌, ◌≢◌, ◌↔◌, ℕ, zero, suc, ◌<◌, T}
 use Rattle.std.proofs.Math.Path.{refl}
-use Rattle.std.proofs.Common.{sym, ◌∙◌, ap, ap₂, arith}
+use Rattle.std.proofs.Common.{arith}
 use Rattle.std.proofs.Math.Logic.{Ne-symm}
-use Rattle.tree_check.specs.Refusals.{refusal}
 use Rattle.asked_labels.specs.LabelOrder.{too_large, two_equal, asked_order}
 use Rattle.asked_labels.specs.theorems.LabelOrderLaws.{AllBelow, Different, below_iff, different_iff}
 use Rattle.trees.specs.theorems.TopologyLaws.{Rearranged, as_is, first_two, middle, last_two}

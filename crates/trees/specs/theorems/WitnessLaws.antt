@@ -3,14 +3,13 @@
 -- Assumes nothing.
 use Rattle.std.specs.Prelude.{◌≡◌, Bool, ◌⊎◌, ◌↔◌, T}
 use Rattle.std.proofs.Math.Path.{refl, ap₂, fun_ext}
-use Rattle.std.proofs.Common.{sym, ◌∙◌, ap, subst, inl, inr, arith, T_not}
+use Rattle.std.proofs.Common.{sym, ◌∙◌, ap, inl, inr, arith, T_not}
 use Rattle.std.proofs.Math.Bool.{true, false}
 use Prim.Native.Nat.{ℕ, zero, suc, ◌-◌, ◌≤◌, ◌<◌}
 use Rattle.sums.specs.Tests.{some, first}
 use Rattle.sums.specs.theorems.BitLaws.{T_true, T_false}
 use Rattle.sums.specs.theorems.TestLaws.{T_dec, some-iff, first_passes}
 use Rattle.shapes.specs.Quartets.{Apart, with_b, with_c, with_d}
-use Rattle.shapes.specs.Centres.{on_six}
 use Rattle.shapes.specs.theorems.Meeting.{parts_four-iff, four_first_two, four_middle, four_last_two}
 use Rattle.shapes.specs.theorems.Meeting.{meet-first_two, meet_middle, meet_last_two}
 use Rattle.shapes.specs.theorems.Meeting as meeting
@@ -24,7 +23,7 @@ use Rattle.trees.specs.declared.witness.Witness.{Witness}
 use Rattle.trees.specs.declared.witness.Witness.TheVariants.{Edge, Meet}
 use Rattle.trees.specs.Topology.{partner, topology, butterfly_of, PartedIn}
 use Rattle.trees.specs.Witness.{parts_labels, parting_edge, meeting_node, witness, is_edge, witness_number}
-use Rattle.trees.specs.Witness.{PartsAt, LowestParting, OnAllPaths, OneMeeting, ShownBy}
+use Rattle.trees.specs.Witness.{PartsAt, LowestParting, OneMeeting, ShownBy}
 use Rattle.trees.specs.theorems.TopologyLaws.{star_iff, parted-butterfly, parted_with_c, parted_with_d}
 use Rattle.trees.specs.theorems.TopologyLaws.{Rearranged, as_is, first_two, middle, last_two}
 

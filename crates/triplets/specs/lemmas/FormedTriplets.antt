@@ -1,7 +1,7 @@
 -- The five counts, as the code forms them from its sums.
 -- Assumes nothing.
 use Rattle.std.specs.Prelude.{◌≡◌, refl, ℕ, ◌+◌, ◌*◌, ◌-◌, ◌/◌, ◌≤◌, ◌<◌}
-use Rattle.std.proofs.Common.{sym, ap, ap₂, arith}
+use Rattle.std.proofs.Common.{sym, ap₂, arith}
 use Rattle.sums.specs.theorems.Products.{product_le}
 use Rattle.sums.specs.theorems.ThreesLaws.{threes, threes_none}
 use Rattle.triplets.specs.declared.tables.TripletTable.{TripletTable}

@@ -2,9 +2,9 @@
 -- Assumes nothing.
 use Rattle.std.specs.Prelude.{◌≡◌, ◌&&◌, ◌≢◌, List, ℕ, zero, suc, ◌+◌, ◌*◌, ◌-◌, ◌≤◌, ◌<◌}
 use Rattle.std.proofs.Math.Path.{refl, sym, ap, ap₂}
-use Rattle.std.proofs.Common.{◌∙◌, mul-le-mul_right, add-one, arith}
+use Rattle.std.proofs.Common.{◌∙◌, add-one, arith}
 use Rattle.std.proofs.Math.ListN.{length}
-use Rattle.table_words.specs.Sizes.{node_room, nodes_most}
+use Rattle.table_words.specs.Sizes.{nodes_most}
 use Rattle.sums.specs.Sum.{sum}
 use Rattle.sums.specs.theorems.SumLaws.{sum_ext, sum_cong, sum_mono}
 use Rattle.sums.specs.Counts.{count}
@@ -28,7 +28,6 @@ use Rattle.counting.specs.Labels.{all}
 use Rattle.counting.specs.SplitCounts.{beyond_at}
 use Rattle.counting.specs.theorems.LabelLaws.{all-rising, all_of}
 use Rattle.counting.specs.declared.Case.TheVariants.{A, B, C, D, E}
-use Rattle.counting.specs.Cases.{case_number}
 use Rattle.counting.specs.Triplets.{triplets}
 use Rattle.counting.specs.theorems.TreeShape.{shape_of}
 use Rattle.counting.specs.theorems.TripletTheorem.{outgroup, triplets_in_shapes, triplets-total, all-triplets}
@@ -43,7 +42,6 @@ use Rattle.tree_pairs.specs.lemmas.EdgeRows.{above_in, row_size, earlier_parents
 use Rattle.tree_pairs.specs.lemmas.EdgeRows.{size_above_row, size_of_column, size_above_column}
 use Rattle.triplets.specs.lemmas.EdgeSums.{SizeCells, edge_sum}
 use Rattle.triplets.specs.lemmas.PairCells.{Nested, CrossedCells, pair_cell, alike_cell, apart_cell, alike_row, triplets_apart_row, alike_sum, apart_sum}
-use Rattle.triplets.specs.lemmas.ListedColumns.{ColumnRoom}
 use Rattle.triplets.specs.lemmas.ListedRows.{nested_read, alike_read, apart_read}
 use Rattle.triplets.specs.lemmas.FormedTriplets.{formed_triplets, TripletsFit, formed_is}
 

@@ -1,16 +1,16 @@
 -- The lists of spans as code writes them: the node of each label, and the places of each node's labels.
 -- Assumes nothing.
-use Rattle.std.specs.Prelude.{◌≡◌, ℕ, zero, suc, ◌+◌, ◌-◌, ◌%◌, ◌<◌, ◌≤◌, ◌≢◌, List, [], ◌∷◌, ◌++◌, length, slice_set, refl}
+use Rattle.std.specs.Prelude.{◌≡◌, ℕ, ◌+◌, ◌-◌, ◌%◌, ◌<◌, ◌≤◌, ◌≢◌, List, [], length, slice_set, refl}
 use Rattle.std.proofs.Math.Path.{sym, ap₂}
 use Rattle.std.proofs.Common.{◌∙◌, ap, mod-eq_of_lt, add-one, arith, eq-eqb, ne_eqb, lt-ltb, le-ltb, length-set, get_or-set_same, get_or-set_other}
 use Rattle.std.proofs.Math.Decide.{ℕ_discrete}
 use Rattle.table_words.specs.Sizes.{tips_most}
 use Rattle.sums.specs.Lists.{in_front}
 use Rattle.sums.specs.theorems.ListLaws.{in_front_is, in_front_at}
-use Rattle.tree_check.specs.Table.{Table, word, tips, nodes, label, node_below, node_of}
+use Rattle.tree_check.specs.Table.{Table, word, tips, nodes, node_below, node_of}
 use Rattle.tree_check.specs.IsTree.{IsTree}
 use Rattle.tree_check.specs.lemmas.TableParts.{table_of, tips_of_lem, nodes_of_lem}
-use Rattle.tree_check.specs.Refusals.{refusal, if_accepted}
+use Rattle.tree_check.specs.Refusals.{refusal}
 use Rattle.tree_check.specs.theorems.RefusalLaws.{refusal_none, refusal_here, refusal_next, if_accepted_lem, if_refused}
 use Rattle.tree_check.specs.TreeOrder.{tree_order}
 use Rattle.walks.specs.Spans.{lists_order, spans_order, span_begin, span_end, filled}

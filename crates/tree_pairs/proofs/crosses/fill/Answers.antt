@@ -1,0 +1,34 @@
+-- The first table is the one made of the parts that are lent on.
+-- Assumes nothing.
+use mathlib.Core.Path.{◌≡◌}
+use Prim.Native.Nat.{◌+◌, ◌*◌}
+use native.Mathlib.Omega.{arith}
+use lib.ListN.{length}
+use Rattle.tree_pairs.specs.lemmas.LentTables.{lent_length, lent_arrays, lent_crossed}
+use Rattle.tree_pairs.proofs.crosses.fill.Goals.{After-as_index-m}
+use Rattle.tree_pairs.proofs.crosses.fill.Goals as goal
+
+-- as many words as its number of nodes tells
+first-length : (c : After-as_index-m) → length c.args.first.now ≡ 2 + 2 * c.as_index-m.result
+first-length c =
+    lent_length _ _ c.args.work.now c.requires _ _ c.as_index-n.ensures.0 c.as_index-m.ensures.0
+
+-- ---- the needs
+
+pub slice_bounds-fill_arrays-end : goal.slice_bounds-fill_arrays-end
+slice_bounds-fill_arrays-end c = omega (arith, first-length c)
+
+pub slice_bounds-fill_arrays-count-2 : goal.slice_bounds-fill_arrays-count-2
+slice_bounds-fill_arrays-count-2 c = omega (arith, first-length (goal.at.slice_bounds-fill_arrays-count-2 c).After-as_index-m)
+
+pub slice_bounds-fill_arrays-start-2 : goal.slice_bounds-fill_arrays-start-2
+slice_bounds-fill_arrays-start-2 c = omega (arith, first-length (goal.at.slice_bounds-fill_arrays-start-2 c).After-as_index-m)
+
+pub fill_arrays-requires : goal.fill_arrays-requires
+fill_arrays-requires c =
+    lent_arrays _ _ _ c.requires _ _ c.as_index-n.ensures.0 c.as_index-m.ensures.0
+
+pub returns : goal.returns
+returns c =
+    lent_crossed _ _ _ c.requires _ _ c.as_index-n.ensures.0 c.as_index-m.ensures.0 _ _
+    c.fill_arrays.ensures
