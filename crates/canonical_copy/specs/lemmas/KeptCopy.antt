@@ -1,7 +1,7 @@
 -- The kept part of a tree table, re-rooted at the smallest kept label: from its words to the arrays of a tree that is rooted at
 -- the tip of rank 0.
 -- Assumes nothing.
-use Rattle.std.specs.Prelude.{◌≡◌, refl, ℕ, zero, ◌+◌, ◌*◌, ◌-◌, ◌≤◌, ◌<◌, T, length, take, drop}
+use Rattle.std.specs.Prelude.{◌≡◌, refl, ℕ, ◌+◌, ◌*◌, ◌-◌, ◌≤◌, ◌<◌, T, length, take, drop}
 use Rattle.std.proofs.Math.Path.{sym, ap, subst}
 use Rattle.std.proofs.Common.{◌∙◌, eq-zero-or-pos, arith}
 use Rattle.std.proofs.Math.Logic.{inl, inr}
