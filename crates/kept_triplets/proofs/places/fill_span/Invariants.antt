@@ -1,0 +1,13 @@
+-- The invariant: the places of the span before `k` have the value.
+-- Assumes nothing.
+use mathlib.Core.Path.{◌≡◌}
+use mathlib.Core.Logic.{◌⊎◌}
+use Prim.Native.Nat.{◌-◌, ◌≤◌}
+use Rattle.kept_triplets.specs.lemmas.Weighing.{SpanFilled}
+use Rattle.kept_triplets.proofs.places.fill_span.Given as goal
+
+abbrev pub invariant-loop-k : goal.invariant-loop-k
+invariant-loop-k l = (l.begin ≤ l.k) × ((l.k ≤ l.end) ⊎ (l.k ≡ l.begin)) × SpanFilled l.begin l.end l.k l.value l.initial.weights l.weights × (l.last ≡ l.end)
+
+abbrev pub decreases-loop-k : goal.decreases-loop-k
+decreases-loop-k l = l.last - l.k
