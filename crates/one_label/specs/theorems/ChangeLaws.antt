@@ -6,7 +6,7 @@ use Rattle.std.proofs.Common.{◌∙◌, length-set, get_or-set_same, get_or-set
 use Rattle.std.proofs.Math.Bool.{Bool, true, false}
 use Rattle.std.specs.Bool.{beq}
 use Rattle.std.proofs.Math.Logic.{inl, inr}
-use Prim.Native.Nat.{ℕ, zero, suc, ◌+◌, ◌-◌, ◌≤◌, ◌<◌}
+use Prim.Native.Nat.{ℕ, zero, suc, ◌+◌, ◌≤◌, ◌<◌}
 use Rattle.std.proofs.Math.Decide.{ℕ_discrete, dec_le}
 use native.Mathlib.Omega.{arith}
 use Rattle.std.proofs.Math.Dec.{T, ltb}

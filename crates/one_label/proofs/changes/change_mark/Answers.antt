@@ -1,0 +1,101 @@
+-- Each return is an outcome of the call's order.
+-- Assumes nothing.
+use mathlib.Core.Path.{◌≡◌, sym, ◌∙◌}
+use mathlib.Core.Bool.{Bool, true, false, not, ◌&&◌, beq}
+use native.Mathlib.Omega.{arith}
+use lib.Dec.{eqb}
+use Rattle.sums.specs.Fours.{fours}
+use Rattle.tree_check.specs.Table.{tips}
+use Rattle.marks.specs.Marks.{is_kept, kept_of}
+use Rattle.one_label.specs.FiveAnswers.{counts_of}
+use Rattle.one_label.specs.Changes.{restores, total_of, overdrawn}
+use Rattle.one_label.specs.lemmas.LabelCheck.{LabelFound}
+use Rattle.one_label.specs.lemmas.Changed.{label_refused, mark_refused, total_refused, draw_refused, change_accepted, all_fit, fours_few}
+use Rattle.one_label.specs.lemmas.Changed.{told_same, told_total, told_draw, kept_fits, total_fits, marks_changed}
+use Rattle.one_label.proofs.changes.change_mark.Goals.{After-adds_up, After-overdraws, After-restores-restore, After-same}
+use Rattle.one_label.proofs.changes.change_mark.Goals as goal
+
+-- ---- what is known there
+
+found : (c : After-restores-restore) → let r = c.check_label-told.result in let a = c.args in
+    LabelFound a.first.now a.second.now a.marks.now a.label r.tips r.kept r.first r.second
+found c = c.check_label-told.ensures.found c.if-number-ne0.false
+
+alike : (c : After-same) (v : Bool) → c.same.result ≡ v → let a = c.args in
+    beq (is_kept a.marks.now a.label) (restores a.wish) ≡ v
+alike c v e = let a = c.args in
+    told_same a.marks.now _ _ _ _ _ _ v c.same.ensures c.is_kept.ensures
+    c.as_index-x.ensures.0 c.restores-restore.ensures e
+
+total : (c : After-adds_up) (v : Bool) → c.adds_up.result ≡ v → let a = c.args in
+    eqb (total_of (counts_of a.counts)) (fours (kept_of a.marks.now (tips a.first.now))) ≡ v
+total c v e = let a = c.args in
+    told_total a.first.now a.marks.now a.counts _ _ _ _ v c.adds_up.ensures c.sets_of_four.ensures
+    c.as_count.ensures.0 (found (goal.at.After-adds_up c).After-restores-restore).kept_are e
+
+drawn : (c : After-overdraws) (v : Bool) → c.overdraws.result ≡ v → let a = c.args in
+    (not (restores a.wish) && overdrawn (counts_of a.counts) (counts_of c.held_counts-held.result)) ≡ v
+drawn c v e = told_draw c.args.counts _ _ _ _ v c.overdraws.ensures c.restores-restore.ensures e
+
+-- the label was not as wished, and the counts add up
+other : (c : After-overdraws) → let a = c.args in
+    beq (is_kept a.marks.now a.label) (restores a.wish) ≡ false
+other c = alike (goal.at.After-overdraws c).After-same false c.if-same.false
+
+whole : (c : After-overdraws) → let a = c.args in
+    eqb (total_of (counts_of a.counts)) (fours (kept_of a.marks.now (tips a.first.now))) ≡ true
+whole c = total (goal.at.After-overdraws c).After-adds_up true c.if-not-adds_up.false
+
+pub returns-then-number-ne0 : goal.returns-then-number-ne0
+returns-then-number-ne0 c =
+    let o = label_refused c.args.first.now c.args.second.now c.args.marks.now c.args.counts c.args.label c.args.wish _ c.check_label-told.ensures c.if-number-ne0.true in
+    (c.refused.ensures ∙ o.0, o.1)
+
+pub returns-then-same : goal.returns-then-same
+returns-then-same c =
+    let o = mark_refused c.args.first.now c.args.second.now c.args.marks.now c.args.counts c.args.label c.args.wish _ c.check_label-told.ensures c.if-number-ne0.false
+    (alike (goal.at.returns-then-same c).After-same true c.if-same.true) in
+    (c.refused-then-same.ensures ∙ o.0, o.1)
+
+pub sets_of_four-requires : goal.sets_of_four-requires
+sets_of_four-requires c = kept_fits _ _ _ _ _ _ _ _ _ (found (goal.at.sets_of_four-requires c).After-restores-restore) c.as_count.ensures.0
+
+pub adds_up-requires : goal.adds_up-requires
+adds_up-requires c =
+    omega (
+      arith,
+      c.sets_of_four.ensures,
+      fours_few _ (kept_fits _ _ _ _ _ _ _ _ _ (found (goal.at.adds_up-requires c).After-restores-restore) c.as_count.ensures.0),
+    )
+
+pub returns-then-not-adds_up : goal.returns-then-not-adds_up
+returns-then-not-adds_up c =
+    let o = total_refused c.args.first.now c.args.second.now c.args.marks.now c.args.counts c.args.label c.args.wish _ c.check_label-told.ensures c.if-number-ne0.false
+    (alike (goal.at.returns-then-not-adds_up c).After-same false c.if-same.false) (total (goal.at.returns-then-not-adds_up c).After-adds_up false c.if-not-adds_up.true) in
+    (c.refused-then-not-adds_up.ensures ∙ o.0, o.1)
+
+pub held_counts-held-requires : goal.held_counts-held-requires
+held_counts-held-requires c = let f = found (goal.at.held_counts-held-requires c).After-restores-restore in (f.first_sized, f.second_sized, f.marked, f.label_lt)
+
+pub returns-then-overdraws : goal.returns-then-overdraws
+returns-then-overdraws c =
+    let o = draw_refused c.args.first.now c.args.second.now c.args.marks.now c.args.counts c.args.label c.args.wish _ c.check_label-told.ensures c.if-number-ne0.false
+    (other (goal.at.returns-then-overdraws c).After-overdraws) (whole (goal.at.returns-then-overdraws c).After-overdraws) _ c.held_counts-held.ensures (drawn (goal.at.returns-then-overdraws c).After-overdraws true c.if-overdraws.true) in
+    (c.refused-then-overdraws.ensures ∙ o.0, o.1)
+
+pub bounds-marks-x : goal.bounds-marks-x
+bounds-marks-x c =
+    let f = found (goal.at.bounds-marks-x c).After-restores-restore in
+    omega (arith, f.label_lt, f.marked.long, c.as_index-x.ensures.0)
+
+pub changed-requires : goal.changed-requires
+changed-requires c =
+    all_fit c.args.counts _ _ (total_fits _ _ _ _ _ _ _ _ c.args.counts (found (goal.at.changed-requires c).After-restores-restore) (whole (goal.at.changed-requires c).After-overdraws))
+    c.held_counts-held.ensures.few (sym c.overdraws.ensures ∙ c.if-overdraws.false)
+
+pub returns : goal.returns
+returns c =
+    marks_changed _ _ _ _ _ _ _ _ _ _ _ c.restores-restore.ensures c.as_index-x.ensures.0 c.mark_of.ensures
+    c.changed.ensures
+    (change_accepted c.args.first.now c.args.second.now c.args.marks.now c.args.counts c.args.label c.args.wish _ c.check_label-told.ensures c.if-number-ne0.false
+    (other (goal.at.returns c).After-overdraws) (whole (goal.at.returns c).After-overdraws) _ c.held_counts-held.ensures (drawn (goal.at.returns c).After-overdraws false c.if-overdraws.false))
