@@ -10,7 +10,7 @@ use Rattle.tree_check.specs.lemmas.TableParts.{parents-length}
 use Rattle.tree_check.specs.Refusals.{refusal}
 use Rattle.tree_check.specs.theorems.RefusalLaws.{if_refused}
 use Rattle.tree_check.specs.IsTree.{IsTree}
-use Rattle.counting.specs.Labels.{Labels, all}
+use Rattle.counting.specs.Labels.{Labels}
 use Rattle.counting.specs.theorems.LabelLaws.{Rising, number-le}
 use Rattle.counting.specs.theorems.QuartetTheorem.{quartet_theorem}
 use Rattle.pair_check.specs.PairOrder.{PairWithCells, pair_order}

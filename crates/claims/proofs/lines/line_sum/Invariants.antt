@@ -1,0 +1,13 @@
+-- The invariant: `s` is the sum of the cells before cell `a`, and `k` the place of cell `a`.
+-- Assumes nothing.
+use mathlib.Core.Path.{◌≡◌}
+use Prim.Native.Nat.{◌+◌, ◌*◌, ◌-◌, ◌≤◌}
+use Rattle.sums.specs.Sum.{sum}
+use Rattle.claims.specs.lemmas.CellLines.{line_cell}
+use Rattle.claims.proofs.lines.line_sum.Given as goal
+
+abbrev pub invariant-loop-a : goal.invariant-loop-a
+invariant-loop-a l = (l.a ≤ l.len) × (l.k ≡ l.at + l.a * l.step) × (l.s ≡ sum l.a (line_cell l.cells l.at l.step)) × (l.s ≤ l.a * 65535)
+
+abbrev pub decreases-loop-a : goal.decreases-loop-a
+decreases-loop-a l = l.len - l.a

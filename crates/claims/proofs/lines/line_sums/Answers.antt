@@ -1,0 +1,38 @@
+-- What is known where the search needs a hint.
+-- Assumes nothing.
+use mathlib.Core.Path.{◌≡◌, refl}
+use native.Mathlib.Omega.{arith}
+use lib.ListN.{length-set}
+use Rattle.claims.specs.lemmas.CellLines.{line_sum}
+use Rattle.claims.specs.lemmas.Filled.{filled_to, filled_next}
+use Rattle.claims.proofs.lines.line_sums.Goals as goal
+
+pub loop-i-init : goal.loop-i-init
+unfolding filled_to
+loop-i-init c = (omega arith, omega arith, refl, refl)
+
+pub line_sum-requires : goal.line_sum-requires
+line_sum-requires c =
+    let l = c.loop-i in
+    rw l.invariant.1 (c.requires.0.line l.i c.loop-i-test.true)
+
+pub overflow_add-at : goal.overflow_add-at
+overflow_add-at c =
+    let l = c.loop-i in
+    omega (arith, c.requires.0.gap_le, (c.requires.0.line l.i c.loop-i-test.true).at_le)
+
+pub loop-i-preserved : goal.loop-i-preserved
+loop-i-preserved c =
+    let l = c.loop-i in
+    let f = line_sum c.args.cells.now c.args.gap c.args.step c.args.len in (
+      omega arith,
+      omega arith,
+      simp length-set l.invariant.2,
+      filled_next f l.i _ _ _ l.invariant.3 (rw l.invariant.1 at c.line_sum.ensures),
+    )
+
+pub returns : goal.returns
+returns c =
+    let l = c.loop-i in
+    let e : l.i ≡ c.args.lines = omega arith in
+    rw e at l.invariant.3
