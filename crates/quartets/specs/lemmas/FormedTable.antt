@@ -1,8 +1,8 @@
 -- The five formulas, as the code forms them, give the quartet table of a pair.
 -- Assumes nothing.
-use Rattle.std.specs.Prelude.{◌≡◌, ◌≢◌, List, ℕ, zero, suc, ◌+◌, ◌-◌, ◌/◌, ◌≤◌}
+use Rattle.std.specs.Prelude.{◌≡◌, ◌≢◌, List, ℕ, ◌+◌, ◌-◌, ◌/◌, ◌≤◌}
 use Rattle.std.proofs.Math.Path.{refl}
-use Rattle.std.proofs.Common.{sym, ◌∙◌, ap, subst, arith}
+use Rattle.std.proofs.Common.{sym, ◌∙◌, subst, arith}
 use Rattle.table_words.specs.Sizes.{tips_most}
 use Rattle.sums.specs.Fours.{fours}
 use Rattle.tree_check.specs.Table.{Table, tips}
@@ -13,8 +13,6 @@ use Rattle.marks.specs.theorems.MarksCheck.{kept_few}
 use Rattle.counting.specs.Labels.{Labels}
 use Rattle.counting.specs.Kept.{kept}
 use Rattle.counting.specs.ClaimSums.{S, S2, S3}
-use Rattle.counting.specs.declared.Case.TheVariants.{A, B, C, D, E}
-use Rattle.counting.specs.Cases.{quartets}
 use Rattle.counting.specs.QuartetTable.{formula_a, formula_b, formula_c, formula_d, formula_e}
 use Rattle.counting.specs.theorems.QuartetTheorem.{formula_distance, QuartetTheorem}
 use Rattle.pair_check.specs.PairOrder.{MarkedPair, pair_order}

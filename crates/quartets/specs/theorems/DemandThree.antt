@@ -3,7 +3,7 @@
 use Rattle.std.specs.Prelude.{◌≡◌, ◌≢◌, List}
 use Rattle.std.proofs.Math.Path.{refl}
 use Rattle.std.proofs.Common.{sym, ◌∙◌, arith}
-use Prim.Native.Nat.{ℕ, zero, suc, ◌+◌, ◌*◌, ◌-◌, ◌%◌}
+use Prim.Native.Nat.{ℕ, zero, suc, ◌*◌, ◌%◌}
 use Rattle.tree_check.specs.Table.{Table, tips}
 use Rattle.tree_check.specs.Refusals.{refusal, if_accepted}
 use Rattle.tree_check.specs.theorems.RefusalLaws.{if_accepted_lem, if_refused}
@@ -11,7 +11,6 @@ use Rattle.counting.specs.Labels.{Labels}
 use Rattle.counting.specs.Kept.{kept}
 use Rattle.counting.specs.theorems.KeptLaws.{kept-rising}
 use Rattle.counting.specs.declared.Case.TheVariants.{A, B, C, D, E}
-use Rattle.counting.specs.Cases.{quartets}
 use Rattle.counting.specs.theorems.QuartetTheorem.{QuartetTheorem, quartet_theorem}
 use Rattle.pair_check.specs.PairOrder.{MarkedPair, pair_order}
 use Rattle.pair_check.specs.theorems.PairCheck.{pair_check}
