@@ -1,6 +1,6 @@
 -- How long decimal numbers are, and that `io::decimal` writes them.
 -- Assumes nothing.
-use Rattle.std.specs.Prelude.{◌≡◌, refl, List, [], ◌++◌, ℕ, zero, suc, ◌-◌, ◌^◌, ◌/◌, ◌≤◌, ◌<◌}
+use Rattle.std.specs.Prelude.{◌≡◌, refl, List, ◌++◌, ℕ, zero, suc, ◌-◌, ◌^◌, ◌/◌, ◌≤◌, ◌<◌}
 use Rattle.std.proofs.Common.{◌∙◌, ap, pow-suc, arith, lt-ltb, le-ltb}
 use Rattle.std.proofs.Math.Nat.{pow-zero, one-le-pow, pow-le-pow_right}
 use Rattle.std.proofs.Math.Decide.{dec_le}

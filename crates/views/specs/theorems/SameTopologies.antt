@@ -9,7 +9,6 @@ use Rattle.sums.specs.theorems.SetLaws.{sets4_ext}
 use Rattle.shapes.specs.theorems.FourLabels.{Four}
 use Rattle.shapes.specs.theorems.SameSplits.{same_splits-refl}
 use Rattle.trees.specs.declared.quartet.Topology.{Topology}
-use Rattle.trees.specs.Topology.{topology}
 use Rattle.tree_check.specs.Table.{Table, tips}
 use Rattle.tree_check.specs.IsTree.{IsTree}
 use Rattle.counting.specs.Labels.{Labels}

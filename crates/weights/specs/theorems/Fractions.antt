@@ -1,6 +1,6 @@
 -- Which floats are a k/256, and that n/256 is exact.
 -- Assumes nothing.
-use Rattle.std.specs.Prelude.{◌≡◌, refl, Bool, true, false, ◌||◌, ◌↔◌, ℕ, zero, suc, ◌*◌, ◌^◌, ◌≤◌, ◌<◌, T, eqb, pos, Float}
+use Rattle.std.specs.Prelude.{◌≡◌, refl, Bool, true, false, ◌||◌, ◌↔◌, ℕ, ◌*◌, ◌^◌, ◌≤◌, ◌<◌, T, eqb, pos, Float}
 use Rattle.std.proofs.Common.{sym, ◌∙◌, ap, subst, subst₂, mul_assoc, mul_right_comm, lt_of_lt_of_le, mul-lt-mul_of_pos_right, zero-mul, arith, eqb→eq, lit<, lit≤, pow_pos}
 use Rattle.std.specs.Bool.{beq}
 use Rattle.std.proofs.Math.Nat.{eq_of_mul-eq-mul_right}

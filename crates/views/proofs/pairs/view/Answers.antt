@@ -1,0 +1,92 @@
+-- The tables, then the levels, then the two calls with the marks that the levels are.
+-- Assumes nothing.
+use mathlib.Core.Path.{◌≡◌, sym, ◌∙◌}
+use Prim.Native.Nat.{◌≤◌}
+use native.Mathlib.Omega.{arith}
+use Rattle.sums.specs.Counts.{count}
+use Rattle.table_words.specs.Sizes.{tips_most}
+use Rattle.tree_check.specs.Table.{tips}
+use Rattle.tree_check.specs.Refusals.{refusal}
+use Rattle.pair_check.specs.PairOrder.{IsPair}
+use Rattle.pair_check.specs.lemmas.PairOutcomes.{pair_passed, check_says}
+use Rattle.levels.specs.Levels.{is_visible, levels_order}
+use Rattle.levels.specs.theorems.LevelsCheck.{AreLevels}
+use Rattle.levels.specs.lemmas.LevelOutcomes.{levels_say}
+use Rattle.views.specs.lemmas.Marking.{marks_fit, marks-part, marks_are}
+use Rattle.views.specs.lemmas.ViewOutcomes.{tables_away, levels_away, room_away, accepted}
+use Rattle.views.proofs.pairs.view.Goals.{After-as_index-n, After-check_levels-told, After-marks_for-marks}
+use Rattle.views.proofs.pairs.view.Goals as goal
+
+-- ---- what is known there
+
+-- the tables are a pair, with n as told
+pair : (c : After-check_levels-told)
+    → let s = c.args in
+    IsPair s.first.now s.second.now × (c.in-Pair.tips ≡ tips s.first.now)
+pair c =
+    let h = check_says _ _ _ _ _ _ (sym c.check_pair-answer.ensures.0 ∙ c.in-Pair.is) in
+    (h.0, h.1)
+
+-- the levels are told
+said : (c : After-check_levels-told)
+    → let s = c.args in
+    (c.check_levels-told.result.refusal ≡ refusal (levels_order s.levels.now s.viewer (tips s.first.now)))
+    × (c.check_levels-told.result.refusal ≡ 0 → AreLevels s.levels.now s.viewer (tips s.first.now)
+    × (c.check_levels-told.result.visible ≡ count (tips s.first.now) (is_visible s.levels.now s.viewer)))
+said c = levels_say _ _ _ _ (pair c).1 _ c.check_levels-told.ensures
+
+-- they are right
+right : (c : After-marks_for-marks)
+    → let s = c.args in AreLevels s.levels.now s.viewer (tips s.first.now)
+right c = ((said (goal.at.After-marks_for-marks c).After-check_levels-told).1 c.if-told-ne0.false).0
+
+few : (c : After-marks_for-marks) → tips c.args.first.now ≤ tips_most
+few c = (pair (goal.at.After-marks_for-marks c).After-check_levels-told).0.first.tips_range.1
+
+-- n, as the marks are lent
+tips-are : (c : After-as_index-n) → c.as_index-n.result ≡ tips c.args.first.now
+tips-are c = c.as_index-n.ensures.0 ∙ (pair (goal.at.After-as_index-n c).After-check_levels-told).1
+
+pub returns-in_default : goal.returns-in_default
+returns-in_default c =
+    let h = pair_passed _ _ _ _ _ c.check_pair-answer.ensures.0 c.in_default.is c.pair_refusal.ensures in
+    rw c.refused.ensures (tables_away _ _ _ _ _ _ h.0 h.1)
+
+pub returns-then-told-ne0 : goal.returns-then-told-ne0
+returns-then-told-ne0 c =
+    rw c.refused-then-told-ne0.ensures (levels_away _ _ _ _ _ (pair (goal.at.returns-then-told-ne0 c).After-check_levels-told).0 _ (said (goal.at.returns-then-told-ne0 c).After-check_levels-told).0 c.if-told-ne0.true)
+
+pub marks_for-marks-requires : goal.marks_for-marks-requires
+marks_for-marks-requires c =
+    omega (arith, ((said (goal.at.marks_for-marks-requires c).After-check_levels-told).1 c.if-told-ne0.false).0.long, (pair (goal.at.marks_for-marks-requires c).After-check_levels-told).0.first.tips_range)
+
+pub slice_bounds-marks-end : goal.slice_bounds-marks-end
+slice_bounds-marks-end c =
+    marks_fit c.args.levels.now c.args.viewer _ (right (goal.at.slice_bounds-marks-end c).After-marks_for-marks).long (few (goal.at.slice_bounds-marks-end c).After-marks_for-marks) _ c.marks_for-marks.ensures _ (tips-are c)
+
+pub slice_bounds-quartet_table-end : goal.slice_bounds-quartet_table-end
+slice_bounds-quartet_table-end c =
+    marks-part c.args.levels.now c.args.viewer _ (right (goal.at.slice_bounds-quartet_table-end c).After-marks_for-marks).long (few (goal.at.slice_bounds-quartet_table-end c).After-marks_for-marks) _ c.marks_for-marks.ensures _ (tips-are (goal.at.slice_bounds-quartet_table-end c).After-as_index-n)
+
+pub returns-then-table-ne0 : goal.returns-then-table-ne0
+returns-then-table-ne0 c =
+    rw c.refused-then-table-ne0.ensures (room_away _ _ _ _ _ (pair (goal.at.returns-then-table-ne0 c).After-check_levels-told).0 (right (goal.at.returns-then-table-ne0 c).After-marks_for-marks) _
+    (marks_are _ _ _ (right (goal.at.returns-then-table-ne0 c).After-marks_for-marks).long (few (goal.at.returns-then-table-ne0 c).After-marks_for-marks) _ c.marks_for-marks.ensures _ (tips-are (goal.at.returns-then-table-ne0 c).After-as_index-n)) _ c.quartet_table-table.ensures.0
+    c.quartet_table-table.ensures.1.number _ c.quartet_table-table.ensures.2 c.if-table-ne0.true)
+
+pub slice_bounds-marks-end-2 : goal.slice_bounds-marks-end-2
+slice_bounds-marks-end-2 c =
+    marks_fit c.args.levels.now c.args.viewer _ (right (goal.at.slice_bounds-marks-end-2 c).After-marks_for-marks).long (few (goal.at.slice_bounds-marks-end-2 c).After-marks_for-marks) _ c.marks_for-marks.ensures _ (tips-are (goal.at.slice_bounds-marks-end-2 c).After-as_index-n)
+
+pub slice_bounds-split_counts-end : goal.slice_bounds-split_counts-end
+slice_bounds-split_counts-end c =
+    marks-part c.args.levels.now c.args.viewer _ (right (goal.at.slice_bounds-split_counts-end c).After-marks_for-marks).long (few (goal.at.slice_bounds-split_counts-end c).After-marks_for-marks) _ c.marks_for-marks.ensures _ (tips-are (goal.at.slice_bounds-split_counts-end c).After-as_index-n)
+
+pub returns : goal.returns
+returns c =
+    let em = marks_are _ _ _ (right (goal.at.returns c).After-marks_for-marks).long (few (goal.at.returns c).After-marks_for-marks) _ c.marks_for-marks.ensures _ (tips-are (goal.at.returns c).After-as_index-n) in
+    accepted _ _ _ _ _ (pair (goal.at.returns c).After-check_levels-told).0 (right (goal.at.returns c).After-marks_for-marks) _ em _ c.quartet_table-table.ensures.0 c.quartet_table-table.ensures.1.number _
+    c.quartet_table-table.ensures.2 c.if-table-ne0.false _ c.split_counts-splits.ensures.0 _ c.split_counts-splits.ensures.1
+    _ _ _ _ _ (c.as_count.ensures.0 ∙ ((said (goal.at.returns c).After-check_levels-told).1 c.if-told-ne0.false).1)
+    c.as_count-2.ensures.0 c.as_count-3.ensures.0 c.as_count-4.ensures.0
+    c.as_count-5.ensures.0
