@@ -5,7 +5,7 @@ use Rattle.std.proofs.Math.Path.{sym, ap, ap₂}
 use Rattle.std.proofs.Common.{◌∙◌, subst, mod-eq_of_lt}
 use native.Mathlib.Omega.{arith}
 use Rattle.sums.specs.Sum.{sum}
-use Rattle.tree_check.specs.Table.{word, tips}
+use Rattle.tree_check.specs.Table.{word}
 use Rattle.tree_check.specs.Refusals.{refusal}
 use Rattle.tree_check.specs.theorems.RefusalLaws.{if_accepted_lem, if_refused}
 use Rattle.tree_lists.specs.declared.checked.TreeList.{TreeList}

@@ -11,7 +11,7 @@ use Rattle.sums.specs.theorems.SumLaws.{sum_mono, sum_const, sum_none, sum_ext}
 use Rattle.shapes.specs.theorems.SameSplits.{same_splits-refl}
 use Rattle.tree_check.specs.Table.{tips}
 use Rattle.tree_check.specs.Refusals.{refusal, if_accepted}
-use Rattle.tree_check.specs.theorems.RefusalLaws.{refusal_none, refusal_here, refusal_next, refusal-first, refusal-kept, accepted, if_accepted_lem}
+use Rattle.tree_check.specs.theorems.RefusalLaws.{refusal_none, refusal_here, refusal_next, refusal-first, refusal-kept, if_accepted_lem}
 use Rattle.tree_lists.specs.TreeLists.{trees_of, tree_at, list_order}
 use Rattle.tree_lists.specs.theorems.ListCheck.{IsTreeList, list-kept, list_check}
 use Rattle.counting.specs.Labels.{all}

@@ -1,0 +1,36 @@
+-- What is known where the search needs a hint.
+-- Assumes nothing.
+use mathlib.Core.Path.{◌≡◌}
+use native.Mathlib.Omega.{arith}
+use Rattle.median_tree.specs.lemmas.RowSums.{least_none, least_takes, least_keeps}
+use Rattle.median_tree.proofs.summed.first_least.Goals.{else-sums-i, then-sums-i}
+use Rattle.median_tree.proofs.summed.first_least.Goals as goal
+
+pub loop-i-init : goal.loop-i-init
+loop-i-init c = (omega arith, least_none _, omega (arith, c.requires.0))
+
+pub offset_bounds-sums-i : goal.offset_bounds-sums-i
+offset_bounds-sums-i c = omega (arith, c.loop-i-test.true, c.requires.1)
+
+pub bounds-sums-i : goal.bounds-sums-i
+bounds-sums-i c = omega (arith, c.loop-i-test.true, c.requires.1)
+
+pub offset_bounds-sums-p : goal.offset_bounds-sums-p
+offset_bounds-sums-p c = omega (arith, c.loop-i.invariant.2, c.requires.1)
+
+pub bounds-sums-p : goal.bounds-sums-p
+bounds-sums-p c = omega (arith, c.loop-i.invariant.2, c.requires.1)
+
+pub loop-i-preserved : goal.loop-i-preserved
+loop-i-preserved c =
+    let l = c.loop-i in (
+      omega (arith, c.loop-i-test.true),
+      elim c.if-sums-i.branch [ then-sums-i h ↦ rw h.p-is (least_takes _ _ _ l.invariant.1 h.if-sums-i.true) | else-sums-i h ↦ rw h.p-is (least_keeps _ _ _ l.invariant.1 h.if-sums-i.false) ],
+      elim c.if-sums-i.branch [ then-sums-i h ↦ rw h.p-is c.loop-i-test.true | else-sums-i h ↦ rw h.p-is l.invariant.2 ],
+    )
+
+pub returns : goal.returns
+returns c =
+    let l = c.loop-i in
+    let e : l.i ≡ c.args.k = omega (arith, l.invariant.0, c.loop-i-test.false) in
+    (rw e at l.invariant.1, l.invariant.2)
