@@ -17,13 +17,13 @@ use Rattle.tree_check.specs.TreeOrder.{tips_fit, nodes_fit, parent_fits, label_f
 use Rattle.tree_check.specs.TreeOrder.{is_child, children, misplaced, arrays_order, tree_order}
 use Rattle.trees.specs.Topology.{butterfly, partner, named, topology}
 use Rattle.counting.specs.ClaimSums.{codes, behind_edge, size, crossing, S, S2, S3}
-use Rattle.counting.specs.Cases.{case_of, case_number, is_case, topology_at, quartets}
+use Rattle.counting.specs.Cases.{case_of, is_case, topology_at, quartets}
 use Rattle.counting.specs.SplitCounts.{beyond_at, splits, common_splits, robinson_foulds}
 use Rattle.counting.specs.Triplets.{together, triplet, triplets}
 use Rattle.pair_check.specs.PairOrder.{plus, tips_order, tables_order, work_order, cells_order}
 use Rattle.table_words.specs.Cutting.{table_length, first_table, later_words}
 use Rattle.pair_file.specs.PairFile.{file_words, words_order, file_order}
-use Rattle.pair_file.specs.PairFile.{figures_of, comparison}
+use Rattle.pair_file.specs.PairFile.{comparison}
 use Rattle.listings.specs.theorems.ListingExamples.{of_p_and_q}
 
 -- the bytes of P, and of Q
