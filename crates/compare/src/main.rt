@@ -20,9 +20,10 @@ fn write_listing(bytes: &[u8]) {
 // One byte more than a file may have, so that a longer one shows.
 const INPUT: usize = 1017;
 
-fn main() {
+fn main(rt: HostRuntime) {
     let mut bytes = [0u8; INPUT];
-    let input = read_input(&mut bytes);
+    let mut source = rt.stdin();
+    let input = read_input(&mut source, &mut bytes);
     let Input::Bytes(n) = input else {
         io::write_all(2, b"compare: cannot read standard input\n");
         return;

@@ -1,20 +1,18 @@
 -- A mark for a wish: the order of the export, and the outcomes of its call.
 -- Assumes nothing.
-use Rattle.std.specs.Prelude.{◌≡◌, Bool, false, ◌≢◌, ℕ, zero, suc, ◌≤◌, ◌<◌, ltb, set}
+use Rattle.std.specs.Prelude.{◌≡◌, ◌≢◌, ℕ, zero, suc, ◌≤◌, ◌<◌, set}
 use Rattle.std.proofs.Math.Path.{refl, sym}
-use Rattle.std.proofs.Common.{◌∙◌, ap, inl, inr, arith, lt-ltb, le-ltb}
+use Rattle.std.proofs.Common.{◌∙◌, arith, lt-ltb, le-ltb}
 use Rattle.std.proofs.Math.Bool.{true}
 use mathlib.Core.List.{List, [], ◌∷◌, ◌++◌}
 use Rattle.std.proofs.Math.Decide.{ℕ_discrete}
 use Rattle.sums.specs.Bits.{bit}
 use Rattle.tree_check.specs.Table.{Table}
 use Rattle.tree_check.specs.Refusals.{Rule, refusal}
-use Rattle.tree_check.specs.theorems.RefusalLaws.{Numbered, accepted, refusal-first, refusal-kept, refusal_here, refusal_next, if_accepted_lem, if_refused}
+use Rattle.tree_check.specs.theorems.RefusalLaws.{accepted, refusal-first, refusal-kept, refusal_here, refusal_next, if_refused}
 use Rattle.pair_check.specs.PairOrder.{tables_order}
 use Rattle.pair_check.specs.theorems.PairCheck.{tables_numbered}
-use Rattle.one_label.specs.declared.answers.FiveAnswer.{FiveAnswer}
 use Rattle.one_label.specs.declared.answers.FiveCounts.{FiveCounts}
-use Rattle.one_label.specs.declared.answers.Wish.{Wish}
 use Rattle.one_label.specs.declared.answers.Wish.TheVariants.{Strike, Restore}
 use Rattle.one_label.specs.FiveAnswers.{five_of, refused_five}
 use Rattle.one_label.specs.Changes.{restores, change_order, new_counts, change_answer, marks_after}

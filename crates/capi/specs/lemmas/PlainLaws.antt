@@ -13,7 +13,6 @@ use Rattle.trees.specs.Witness.{is_edge, witness_number}
 use Rattle.evidence.specs.declared.shown.EvidenceAnswer as shown
 use Rattle.counting.specs.Cases.{case_number}
 use Rattle.splits.specs.declared.counts.SplitCounts.{SplitCounts}
-use Rattle.capi.specs.declared.answers.TopologyAnswer.{TopologyAnswer}
 use Rattle.capi.specs.PlainAnswers.{plain_topology}
 use Rattle.capi.specs.PlainAnswers.{plain_splits, weight_of, plain_weighted, plain_evidence}
 use Rattle.weights.specs.declared.weight.Weight.TheVariants.{None, Full, Part}

@@ -1,6 +1,6 @@
 -- With the weight 127/256 the triangle fails: three trees with four tips, as `weighted_distance` answers them.
 -- Assumes nothing.
-use Rattle.std.specs.Prelude.{◌≡◌, refl, Bool, false, not, List, [], ◌∷◌, ℕ, ◌<◌, T}
+use Rattle.std.specs.Prelude.{◌≡◌, refl, Bool, false, not, List, [], ◌∷◌, ℕ, T}
 use Rattle.std.proofs.Common.{ap, subst, arith, lit<}
 use Rattle.std.specs.Float.{binary64}
 use Rattle.std.specs.Float.Ieee.{round, add, lt}

@@ -1,0 +1,14 @@
+-- A butterfly with its partner, or a star.
+-- Assumes nothing.
+use mathlib.Core.Path.{◌∙◌, ap}
+use Rattle.capi.specs.PlainAnswers.{plain_topology}
+use Rattle.capi.specs.lemmas.PlainLaws.{butterfly_plain, star_plain}
+use Rattle.capi.proofs.viewing.leskwyn_view_topology.Goals as goal
+
+pub returns-in-Butterfly : goal.returns-in-Butterfly
+returns-in-Butterfly c =
+    butterfly_plain c.view_topology-answer.result _ c.in-Butterfly.is ∙ ap plain_topology c.view_topology-answer.ensures.0
+
+pub returns-in-Star : goal.returns-in-Star
+returns-in-Star c =
+    star_plain c.view_topology-answer.result c.in-Star.is ∙ ap plain_topology c.view_topology-answer.ensures.0
