@@ -1,9 +1,11 @@
 // Names and numbers on a line of standard output.
-use libc::STDOUT_FILENO;
 use table_words::{Cell, cell_count};
 
+// The descriptor of standard output.
+const STDOUT: i32 = 1;
+
 pub(crate) fn name(text: &[u8]) {
-    io::write_all(STDOUT_FILENO, text);
+    io::write_all(STDOUT, text);
 }
 
 // A number after a space.
@@ -12,8 +14,8 @@ pub(crate) fn number(x: u16) {
 }
 
 pub(crate) fn large(x: u64) {
-    io::write_all(STDOUT_FILENO, b" ");
-    io::print_decimal(STDOUT_FILENO, x);
+    io::write_all(STDOUT, b" ");
+    io::print_decimal(STDOUT, x);
 }
 
 pub(crate) fn numbers(words: &[u16]) {
@@ -41,9 +43,9 @@ pub(crate) fn counts(counts: &[u64; 9]) {
 }
 
 pub(crate) fn end() {
-    io::write_all(STDOUT_FILENO, b"\n");
+    io::write_all(STDOUT, b"\n");
 }
 
 pub(crate) fn bad_case() {
-    io::write_all(STDOUT_FILENO, b"bad case");
+    io::write_all(STDOUT, b"bad case");
 }
