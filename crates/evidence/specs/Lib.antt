@@ -1,3 +1,2 @@
 pub mod EvidenceAnswer
-pub mod theorems
 pub mod lemmas

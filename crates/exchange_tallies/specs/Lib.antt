@@ -1,3 +1,2 @@
 pub mod ExchangeTallies
-pub mod theorems
 pub mod lemmas

@@ -3,17 +3,11 @@ pub mod Exchanged
 pub mod PathOrder
 pub mod ThreeNodes
 pub mod SetsChanged
-pub mod Products
-pub mod Distance
 pub mod Turns
 pub mod PathSum
 pub mod Steps
 pub mod Walk
-pub mod Tallies
-pub mod Fits
 pub mod Bounds
-pub mod LargeTrees
 pub mod ExchangedTables
 pub mod ExchangeExamples
 pub mod ExchangedTrees
-pub mod ExchangeLaws

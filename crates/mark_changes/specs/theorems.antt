@@ -1,3 +1,2 @@
-pub mod HeldAnswers
 pub mod SequenceTheorem
 pub mod Sequences

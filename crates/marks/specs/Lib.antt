@@ -1,3 +1,1 @@
 pub mod Marks
-pub mod theorems
-pub mod lemmas

@@ -1,3 +1,2 @@
 pub mod ChangeExamples
 pub mod ChangeLaws
-pub mod HoldingIsTriplets

@@ -1,2 +1,1 @@
 pub mod AllMarksOne
-pub mod DemandThree

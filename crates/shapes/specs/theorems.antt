@@ -1,12 +1,8 @@
 pub mod AncestorLaws
-pub mod ClaimCounts
-pub mod ClaimPairs
 pub mod ClaimsOfAnEdge
 pub mod Counting
 pub mod DirectionLaws
-pub mod EulerCentre
 pub mod FourLabels
-pub mod Holders
 pub mod LabelSums
 pub mod LowestAncestors
 pub mod Meeting
@@ -14,11 +10,7 @@ pub mod OneCentre
 pub mod OrderedClaims
 pub mod PartedFours
 pub mod PathLaws
-pub mod RerootedNumbers
-pub mod RerootedSides
 pub mod RobinsonFoulds
-pub mod SameFours
-pub mod SameSplits
 pub mod Shape
 pub mod Siblings
 pub mod SplitLaws
@@ -27,4 +19,3 @@ pub mod Topologies
 pub mod Totals
 pub mod Triples
 pub mod TripletCounts
-pub mod ZeroRule

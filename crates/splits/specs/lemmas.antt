@@ -1,6 +1,3 @@
-pub mod NewRows
-pub mod SharedRows
-pub mod SidesByCrossing
 pub mod SplitCells
 pub mod SplitLoops
 pub mod SplitsCounted

@@ -1,2 +1,1 @@
-pub mod CutWords
 pub mod Rooms

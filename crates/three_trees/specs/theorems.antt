@@ -1,4 +1,3 @@
-pub mod AcceptedAnswers
 pub mod ThreeAnswers
 pub mod ExchangedAnswers
 pub mod ReplacedAnswers

@@ -1,5 +1,3 @@
-pub mod AllLabels
-pub mod CellSizes
 pub mod CrossingTotals
 pub mod EdgeRows
 pub mod Filling

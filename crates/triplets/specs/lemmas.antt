@@ -1,6 +1,5 @@
 pub mod EdgeSums
 pub mod FormedTriplets
-pub mod LentTriplets
 pub mod ListedColumns
 pub mod ListedRows
 pub mod PairCells

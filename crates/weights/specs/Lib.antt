@@ -1,4 +1,3 @@
 pub mod Weights
 pub mod WeightedAnswer
 pub mod theorems
-pub mod lemmas

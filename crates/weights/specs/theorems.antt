@@ -1,4 +1,1 @@
-pub mod AllMarksOne
 pub mod BytesAsWords
-pub mod Fractions
-pub mod WeightedDistance

@@ -13,12 +13,13 @@ use Rattle.sums.specs.theorems.TestLaws.{and-iff, eq_iff, first_hit}
 use Rattle.sums.specs.theorems.CountLaws.{count-le}
 use Rattle.sums.specs.Tests.{first}
 use Rattle.shapes.specs.Ancestors.{anc}
-use Rattle.shapes.specs.theorems.AncestorLaws.{anc_trans, anc_root}
+use Rattle.shapes.proofs.theorems.AncestorLaws.{anc_trans, anc_root}
 use Rattle.tree_check.specs.Table.{word}
 use Rattle.canonical.specs.Copying.{full, low, branch, stays, copy_size, number}
-use Rattle.canonical.specs.theorems.Branches.{TipRooted, Branch, full_of, full_up, branch-iff_to, branch-iff_of, branch_above, branch-lt, root_stays}
-use Rattle.canonical.specs.theorems.Numbers.{low_label, low_least, number-zero, inside}
-use Rattle.canonical.specs.theorems.Positions.{size-all}
+use Rattle.canonical.specs.theorems.Branches.{TipRooted, Branch}
+use Rattle.canonical.proofs.theorems.Branches.{full_of, full_up, branch-iff_to, branch-iff_of, branch_above, branch-lt, root_stays}
+use Rattle.canonical.proofs.theorems.Numbers.{low_label, low_least, number-zero, inside}
+use Rattle.canonical.proofs.theorems.Positions.{size-all}
 use Rattle.canonical_copy.specs.lemmas.Chains.{IsNext}
 use Rattle.canonical_copy.specs.lemmas.Rounds.{done, taken_by, done_iff, done_of, number-taken, taken_next, taken_round, parent_done, taken_none}
 

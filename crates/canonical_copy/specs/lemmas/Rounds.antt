@@ -13,10 +13,11 @@ use Rattle.sums.specs.Bits.{bit, is}
 use Rattle.sums.specs.theorems.BitLaws.{bit-T, bit_no, alike, sum_is}
 use Rattle.sums.specs.theorems.Products.{bit_and}
 use Rattle.sums.specs.theorems.TestLaws.{and-iff, or-iff, lt_iff, eq_iff, same_test}
-use Rattle.shapes.specs.theorems.AncestorLaws.{anc_trans}
+use Rattle.shapes.proofs.theorems.AncestorLaws.{anc_trans}
 use Rattle.canonical.specs.Copying.{low, branch, stays, copy_size, earlier, number}
-use Rattle.canonical.specs.theorems.Branches.{TipRooted, Branch, branch-iff_to, branch_above, branch-lt}
-use Rattle.canonical.specs.theorems.Numbers.{low_label, low_least, low_apart, number-branch}
+use Rattle.canonical.specs.theorems.Branches.{TipRooted, Branch}
+use Rattle.canonical.proofs.theorems.Branches.{branch-iff_to, branch_above, branch-lt}
+use Rattle.canonical.proofs.theorems.Numbers.{low_label, low_least, low_apart, number-branch}
 
 module _ (up : ℕ → ℕ) (m : ℕ) (node : ℕ → ℕ) (k : ℕ) (h : TipRooted up m node k) where
   -- d comes before node v in the round of rank x

@@ -5,8 +5,8 @@ use Rattle.std.proofs.Common.{sym}
 use Rattle.tree_check.specs.Refusals.{refusal}
 use Rattle.weights.specs.Weights.{p_of}
 use Rattle.weights.specs.WeightedAnswer.{fraction_order}
-use Rattle.weights.specs.theorems.Fractions.{two_is_none}
-use Rattle.weights.specs.lemmas.WeightedOutcomes.{no_fraction}
+use Rattle.weights.proofs.theorems.Fractions.{two_is_none}
+use Rattle.weights.proofs.lemmas.WeightedOutcomes.{no_fraction}
 use Rattle.capi.specs.PlainAnswers.{weight_of}
 
 pub other_kinds : (kind : ℕ) (x : Float) → refusal (fraction_order (p_of (weight_of (suc (suc (suc kind))) x))) ≡ 30

@@ -11,16 +11,17 @@ use Rattle.sums.specs.Bits.{bit}
 use Rattle.sums.specs.theorems.BitLaws.{bit_not}
 use Rattle.sums.specs.Counts.{count}
 use Rattle.sums.specs.theorems.CountLaws.{count-le}
-use Rattle.shapes.specs.theorems.DirectionLaws.{behind_even, behind_odd}
+use Rattle.shapes.proofs.theorems.DirectionLaws.{behind_even, behind_odd}
 use Rattle.tree_check.specs.Table.{Table, word, tips, nodes, parent, node_of, beyond}
 use Rattle.counting.specs.Labels.{Labels}
-use Rattle.counting.specs.theorems.LabelLaws.{Rising, number-le}
+use Rattle.counting.specs.theorems.LabelLaws.{Rising}
+use Rattle.counting.proofs.theorems.LabelLaws.{number-le}
 use Rattle.counting.specs.ClaimSums.{behind_edge, size, crossing}
 use Rattle.counting.specs.SplitCounts.{beyond_at}
 use Rattle.pair_check.specs.PairOrder.{PairWithCells}
 use Rattle.tree_pairs.specs.Crossings.{edge_crossing, crossed}
-use Rattle.tree_pairs.specs.theorems.CrossingLaws.{crossed-length, cell_of_edges}
-use Rattle.tree_pairs.specs.lemmas.CellSizes.{row_cell, column_cell}
+use Rattle.tree_pairs.proofs.theorems.CrossingLaws.{crossed-length, cell_of_edges}
+use Rattle.tree_pairs.proofs.lemmas.CellSizes.{row_cell, column_cell}
 use Rattle.claims.specs.lemmas.CodeCells.{child_cell, own_cell, code_cell, Crossed}
 use Rattle.claims.specs.lemmas.CodeSizes.{code_size}
 

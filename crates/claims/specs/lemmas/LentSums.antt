@@ -9,11 +9,12 @@ use Rattle.marks.specs.Marks.{kept_of}
 use Rattle.counting.specs.Labels.{Labels}
 use Rattle.counting.specs.theorems.LabelLaws.{Rising}
 use Rattle.counting.specs.Kept.{kept}
-use Rattle.counting.specs.theorems.KeptLaws.{kept-rising}
+use Rattle.counting.proofs.theorems.KeptLaws.{kept-rising}
 use Rattle.pair_check.specs.PairOrder.{MarkedPair}
 use Rattle.pair_check.specs.theorems.PairCheck.{pair_check}
 use Rattle.tree_pairs.specs.Crossings.{crossed, after_crossings}
-use Rattle.tree_pairs.specs.lemmas.LentTables.{lent_parents, crossings_are, to_lent, of_lent}
+use Rattle.tree_pairs.specs.lemmas.LentTables.{lent_parents}
+use Rattle.tree_pairs.proofs.lemmas.LentTables.{crossings_are, to_lent, of_lent}
 use Rattle.claims.specs.declared.totals.ClaimSums.{ClaimSums}
 use Rattle.claims.specs.lemmas.SumsOf.{Summable, summed, summable, claims_over}
 use Rattle.claims.specs.ClaimAnswer.{sums_over, claim_answer}

@@ -7,7 +7,7 @@ use Rattle.std.proofs.Common.{sym, ◌∙◌, ap, ap₂, arith}
 use Rattle.table_words.specs.Sizes.{tips_most}
 use Rattle.sums.specs.theorems.Products.{product_le}
 use Rattle.shapes.specs.Claims.{choose2}
-use Rattle.shapes.specs.theorems.OrderedClaims.{choose2_square}
+use Rattle.shapes.proofs.theorems.OrderedClaims.{choose2_square}
 use Rattle.node_pairs.specs.theorems.Cells.{pair_s2, pair_s3}
 use Rattle.node_pairs.specs.theorems.ThreeByThree.{term_s2, term_s3, sum_row, sum_nine, pair_s2_three, pair_s3_three}
 

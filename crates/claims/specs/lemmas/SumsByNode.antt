@@ -14,11 +14,12 @@ use Rattle.tree_check.specs.Table.{Table, tips, nodes, parents}
 use Rattle.tree_check.specs.lemmas.TableParts.{parents-length}
 use Rattle.tree_check.specs.IsTree.{IsTree}
 use Rattle.counting.specs.Labels.{Labels}
-use Rattle.counting.specs.theorems.LabelLaws.{Rising, rising_of}
+use Rattle.counting.specs.theorems.LabelLaws.{Rising}
+use Rattle.counting.proofs.theorems.LabelLaws.{rising_of}
 use Rattle.counting.specs.ClaimSums.{size, crossing, S, S2, S3}
-use Rattle.counting.specs.theorems.Degrees.{sizes_most}
-use Rattle.counting.specs.theorems.NodePairSums.{node_term, pair_term_s2, pair_term_s3}
-use Rattle.counting.specs.theorems.NodePairSums.{S_over_nodes, S2_over_node_pairs, S3_over_node_pairs, cells_most}
+use Rattle.counting.proofs.theorems.Degrees.{sizes_most}
+use Rattle.counting.proofs.theorems.NodePairSums.{node_term, pair_term_s2, pair_term_s3}
+use Rattle.counting.proofs.theorems.NodePairSums.{S_over_nodes, S2_over_node_pairs, S3_over_node_pairs, cells_most}
 use Rattle.pair_check.specs.PairOrder.{PairWithCells}
 use Rattle.tree_pairs.specs.Crossings.{crossed}
 use Rattle.claims.specs.lemmas.CodeCells.{code_cell}

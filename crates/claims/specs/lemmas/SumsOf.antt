@@ -11,8 +11,9 @@ use Rattle.tree_check.specs.Refusals.{refusal}
 use Rattle.tree_check.specs.theorems.RefusalLaws.{if_refused}
 use Rattle.tree_check.specs.IsTree.{IsTree}
 use Rattle.counting.specs.Labels.{Labels}
-use Rattle.counting.specs.theorems.LabelLaws.{Rising, number-le}
-use Rattle.counting.specs.theorems.QuartetTheorem.{quartet_theorem}
+use Rattle.counting.specs.theorems.LabelLaws.{Rising}
+use Rattle.counting.proofs.theorems.LabelLaws.{number-le}
+use Rattle.counting.proofs.theorems.QuartetTheorem.{quartet_theorem}
 use Rattle.pair_check.specs.PairOrder.{PairWithCells, pair_order}
 use Rattle.tree_pairs.specs.Crossings.{crossed}
 use Rattle.claims.specs.ClaimAnswer.{sums_over, refused_sums, claim_answer}

@@ -13,8 +13,8 @@ use Rattle.tree_check.specs.IsTree.{IsTree}
 use Rattle.tree_check.specs.theorems.RootedTables.{rooted}
 use Rattle.counting.specs.ClaimSums.{codes}
 use Rattle.counting.specs.theorems.NodePairSums.{CodesInto}
-use Rattle.counting.specs.theorems.Degrees.{degree_most}
-use Rattle.counting.specs.theorems.TreeShape.{tip_leaf}
+use Rattle.counting.proofs.theorems.Degrees.{degree_most}
+use Rattle.counting.proofs.theorems.TreeShape.{tip_leaf}
 use Rattle.code_lists.specs.ListedCodes.{codes_of, degree_at, code_into}
 use Rattle.code_lists.specs.lemmas.CodesAt.{Parents, own_first, child_later}
 use Rattle.code_lists.specs.lemmas.CodesAt.{code_inside, head_of_code}

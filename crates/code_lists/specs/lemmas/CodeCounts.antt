@@ -10,7 +10,7 @@ use Rattle.table_words.specs.lemmas.Rooms.{code_room}
 use Rattle.sums.specs.Sum.{sum}
 use Rattle.sums.specs.theorems.BitLaws.{is_eq, is_other_lem}
 use Rattle.shapes.specs.Directions.{head}
-use Rattle.shapes.specs.theorems.DirectionLaws.{head_even, head_odd}
+use Rattle.shapes.proofs.theorems.DirectionLaws.{head_even, head_odd}
 use Rattle.node_pairs.specs.CodesInto.{degree_of}
 use Rattle.node_pairs.specs.theorems.CodesOfANode.{degree-suc}
 use Rattle.tree_check.specs.Table.{word}

@@ -10,7 +10,7 @@ use Rattle.sums.specs.theorems.SumLaws.{sum-suc, sum_none, sum-swap, sum_mono, s
 use Rattle.sums.specs.Bits.{is}
 use Rattle.sums.specs.theorems.BitLaws.{ne, is_eq, is_other_lem, alike}
 use Rattle.shapes.specs.Directions.{head}
-use Rattle.shapes.specs.theorems.DirectionLaws.{head_even, head_odd, code_cases}
+use Rattle.shapes.proofs.theorems.DirectionLaws.{head_even, head_odd, code_cases}
 use Rattle.node_pairs.specs.CodesInto.{degree_of, code_at}
 use Rattle.node_pairs.specs.theorems.CodesOfANode.{code_before, code_last, degree-suc, lists_codes}
 use Rattle.node_pairs.specs.theorems.CodesOfANode.{distinct}

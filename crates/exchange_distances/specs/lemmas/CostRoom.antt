@@ -4,7 +4,8 @@ use Rattle.std.specs.Prelude.{ℕ, ◌+◌, ◌*◌, ◌-◌, ◌≤◌}
 use Rattle.std.proofs.Common.{mul-le-mul, arith}
 use Rattle.table_words.specs.Sizes.{tips_most}
 use Rattle.exchanges.specs.theorems.PathSum.{cost}
-use Rattle.exchanges.specs.theorems.Bounds.{CostFits, cost-le}
+use Rattle.exchanges.specs.theorems.Bounds.{CostFits}
+use Rattle.exchanges.proofs.theorems.Bounds.{cost-le}
 use Rattle.exchange_distances.specs.lemmas.Powers.{square_le, cube_le}
 
 -- the most that one node takes, for 256 labels: 8 · 256³ + 3 · 256²

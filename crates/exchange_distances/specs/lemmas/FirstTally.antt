@@ -6,8 +6,8 @@ use Rattle.sums.specs.Lists.{in_order}
 use Rattle.tree_check.specs.Table.{Table, tips}
 use Rattle.tree_check.specs.IsTree.{IsTree}
 use Rattle.exchanges.specs.Exchanges.{tally}
-use Rattle.exchanges.specs.theorems.ExchangedTables.{few_tips-first, few_tips_later}
-use Rattle.exchanges.specs.theorems.ExchangeLaws.{large_first, large_later}
+use Rattle.exchanges.proofs.theorems.ExchangedTables.{few_tips-first, few_tips_later}
+use Rattle.exchanges.proofs.theorems.ExchangeLaws.{large_first, large_later}
 
 abbrev pub all_first : ℕ → List ℕ
 all_first n = n * (n - 1) / 2 ∷ replicate 10 0

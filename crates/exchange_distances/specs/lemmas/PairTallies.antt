@@ -15,11 +15,13 @@ use Rattle.tree_check.specs.Table.{Table, word, tips, parents}
 use Rattle.tree_check.specs.lemmas.Sized.{Sized}
 use Rattle.tree_check.specs.lemmas.TableParts.{to_parts, of_parts}
 use Rattle.exchanges.specs.Exchanges.{exchange_distance, tally_of, tally}
-use Rattle.exchanges.specs.theorems.ExchangedTables.{shape, distance_moved, tally_in-shape}
+use Rattle.exchanges.specs.theorems.ExchangedTables.{shape}
+use Rattle.exchanges.proofs.theorems.ExchangedTables.{distance_moved, tally_in-shape}
 use Rattle.exchanges.specs.theorems.Others.{Two}
-use Rattle.exchanges.specs.theorems.PathSum.{path_cost}
-use Rattle.exchanges.specs.theorems.Walk.{whole_cost, path_le}
-use Rattle.exchanges.specs.theorems.Tallies.{moved_by, moved_path, moved_either, moved_le, tally_in, tally-lt, tally_many, fours-some}
+use Rattle.exchanges.proofs.theorems.PathSum.{path_cost}
+use Rattle.exchanges.specs.theorems.Walk.{whole_cost}
+use Rattle.exchanges.proofs.theorems.Walk.{path_le}
+use Rattle.exchanges.proofs.theorems.Tallies.{moved_by, moved_path, moved_either, moved_le, tally_in, tally-lt, tally_many, fours-some}
 use Rattle.exchange_distances.specs.lemmas.Powers.{square_le}
 use Rattle.exchange_distances.specs.lemmas.WalkArrays.{Reads, WalkedArrays, CostsFrom}
 use Rattle.exchange_distances.specs.lemmas.TableArrays.{Arrays, table_walked}

@@ -11,7 +11,7 @@ use Rattle.sums.specs.theorems.BitLaws.{bit_le}
 use Rattle.shapes.specs.theorems.Shape.{Shape}
 use Rattle.tree_check.specs.Table.{word}
 use Rattle.exchanges.specs.theorems.Turns.{squares_into}
-use Rattle.exchanges.specs.theorems.Steps.{labels_below, below_root}
+use Rattle.exchanges.proofs.theorems.Steps.{labels_below, below_root}
 use Rattle.exchange_distances.specs.lemmas.Powers.{square_le}
 use Rattle.exchange_distances.specs.lemmas.Loops.{Squaring, squaring_next, squaring_done}
 use Rattle.exchange_distances.specs.lemmas.WalkArrays.{ShapeSizes}

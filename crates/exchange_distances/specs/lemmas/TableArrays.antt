@@ -18,9 +18,9 @@ use Rattle.tree_check.specs.lemmas.Sized.{Sized}
 use Rattle.walks.specs.Walk.{below}
 use Rattle.walks.specs.theorems.SpanLaws.{SpansOf, start_after}
 use Rattle.walks.specs.lemmas.SpanLists.{Spanned, spans_listed}
-use Rattle.counting.specs.theorems.TreeShape.{shape_of}
-use Rattle.counting.specs.theorems.TreeSplits.{labelled, zero_here}
-use Rattle.exchanges.specs.theorems.Steps as steps
+use Rattle.counting.proofs.theorems.TreeShape.{shape_of}
+use Rattle.counting.proofs.theorems.TreeSplits.{labelled, zero_here}
+use Rattle.exchanges.proofs.theorems.Steps as steps
 use Rattle.exchanges.specs.theorems.ExchangedTables.{shape}
 use Rattle.exchange_distances.specs.lemmas.SpanSizes.{SpansFit, SpanSizes}
 use Rattle.exchange_distances.specs.lemmas.WalkArrays.{ShapeSizes, Squared, Reads, WalkedArrays}

@@ -9,13 +9,14 @@ use Rattle.table_words.specs.Sizes.{tips_most, nodes_most, node_room}
 use Rattle.sums.specs.Bits.{bit}
 use Rattle.sums.specs.theorems.BitLaws.{bit_le}
 use Rattle.shapes.specs.Ancestors.{anc}
-use Rattle.shapes.specs.theorems.AncestorLaws.{anc-le}
+use Rattle.shapes.proofs.theorems.AncestorLaws.{anc-le}
 use Rattle.shapes.specs.theorems.Shape.{Shape}
 use Rattle.tree_check.specs.Table.{word}
 use Rattle.exchanges.specs.theorems.Turns.{squares_into}
-use Rattle.exchanges.specs.theorems.PathSum.{cost, path_cost}
-use Rattle.exchanges.specs.theorems.Steps.{labels_below}
-use Rattle.exchanges.specs.theorems.Bounds.{down_fits, up_fits, path_cost-le, toward_some}
+use Rattle.exchanges.specs.theorems.PathSum.{cost}
+use Rattle.exchanges.proofs.theorems.PathSum.{path_cost}
+use Rattle.exchanges.proofs.theorems.Steps.{labels_below}
+use Rattle.exchanges.proofs.theorems.Bounds.{down_fits, up_fits, path_cost-le, toward_some}
 use Rattle.exchange_distances.specs.lemmas.Loops.{Given, ClimbedTo, Swept, climb_start, climb_next, sweep_start, sweep_skip, sweep_next}
 use Rattle.exchange_distances.specs.lemmas.Loops.{sweep_done}
 use Rattle.exchange_distances.specs.lemmas.Powers.{square_le, cube_le}

@@ -15,8 +15,9 @@ use Rattle.counting.specs.declared.Case.{Case}
 use Rattle.counting.specs.declared.Case.TheVariants.{A, B, C, D, E}
 use Rattle.counting.specs.Kept.{is_other, others}
 use Rattle.counting.specs.Triplets.{triplets_over}
-use Rattle.counting.specs.theorems.OtherLabels.{not_itself}
-use Rattle.counting.specs.theorems.KeptTripletSums.{size_over, edge_over, alike_over, apart_over, first-sum, second_sum, alike_sum_lem, apart_sum_lem, total}
+use Rattle.counting.proofs.theorems.OtherLabels.{not_itself}
+use Rattle.counting.specs.theorems.KeptTripletSums.{size_over, edge_over, alike_over, apart_over}
+use Rattle.counting.proofs.theorems.KeptTripletSums.{first-sum, second_sum, alike_sum_lem, apart_sum_lem, total}
 use Rattle.kept_triplets.specs.lemmas.Rows.{Prepared, no_row}
 
 two_more : (i : ℕ) → i + 2 ≡ suc (suc i)

@@ -13,13 +13,13 @@ use Rattle.sums.specs.Bits.{bit}
 use Rattle.sums.specs.theorems.BitLaws.{bit_le}
 use Rattle.sums.specs.theorems.Products.{product_le}
 use Rattle.shapes.specs.theorems.TripletCounts.{edge_term}
-use Rattle.shapes.specs.theorems.LowestAncestors.{leaves_once}
+use Rattle.shapes.proofs.theorems.LowestAncestors.{leaves_once}
 use Rattle.tree_check.specs.Table.{Table, word, tips, nodes, parents, parent, node_of, beyond}
 use Rattle.tree_check.specs.IsTree.{IsTree}
 use Rattle.tree_check.specs.theorems.RootedTables.{rooted}
 use Rattle.counting.specs.Kept.{is_other}
 use Rattle.counting.specs.theorems.KeptTripletSums.{size_over, edge_over}
-use Rattle.triplets.specs.lemmas.EdgeSums.{edge_term_most, sum_most}
+use Rattle.triplets.proofs.lemmas.EdgeSums.{edge_term_most, sum_most}
 
 -- ---- as the code reads the totals
 

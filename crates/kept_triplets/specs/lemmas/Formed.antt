@@ -17,7 +17,8 @@ use Rattle.kept_triplets.specs.lemmas.AllRows.{others_few}
 use Rattle.kept_triplets.specs.lemmas.Prepare.{KeptSumsAre}
 use Rattle.tree_check.specs.lemmas.Sized.{Sized}
 use Rattle.triplets.specs.TripletAnswer.{refused_triplets}
-use Rattle.triplets.specs.lemmas.FormedTriplets.{formed_triplets, TripletsFit, formed_is}
+use Rattle.triplets.specs.lemmas.FormedTriplets.{formed_triplets, TripletsFit}
+use Rattle.triplets.proofs.lemmas.FormedTriplets.{formed_is}
 
 -- ---- the sums of two tables, formed
 

@@ -24,12 +24,12 @@ use Rattle.marks.specs.Marks.{is_kept}
 use Rattle.walks.specs.Spans.{span_begin, span_end}
 use Rattle.walks.specs.theorems.SpanLaws.{in_span, in_span-iff, SpansOf, start_after, listed_span}
 use Rattle.counting.specs.Kept.{is_other}
-use Rattle.counting.specs.theorems.OtherLabels.{other_bit, not_itself}
+use Rattle.counting.proofs.theorems.OtherLabels.{other_bit, not_itself}
 use Rattle.counting.specs.theorems.KeptTripletSums.{both_over, size_over}
 use Rattle.sums.specs.theorems.Permutations.{onto, sum_permuted}
 use Rattle.sums.specs.theorems.Products.{product_le}
-use Rattle.shapes.specs.theorems.AncestorLaws.{parent-lt}
-use Rattle.shapes.specs.theorems.LowestAncestors.{leaves_once}
+use Rattle.shapes.proofs.theorems.AncestorLaws.{parent-lt}
+use Rattle.shapes.proofs.theorems.LowestAncestors.{leaves_once}
 use Rattle.tree_check.specs.theorems.RootedTables.{rooted}
 use Rattle.kept_triplets.specs.lemmas.SpanSums.{span_sum}
 

@@ -11,7 +11,8 @@ use Rattle.tree_check.specs.IsTree.{IsTree}
 use Rattle.counting.specs.declared.Case.TheVariants.{A, B, C, D, E}
 use Rattle.counting.specs.Kept.{is_other, others}
 use Rattle.counting.specs.Triplets.{triplets_over}
-use Rattle.counting.specs.theorems.KeptTripletSums.{size_over, alike_over, apart_over, total}
+use Rattle.counting.specs.theorems.KeptTripletSums.{size_over, alike_over, apart_over}
+use Rattle.counting.proofs.theorems.KeptTripletSums.{total}
 use Rattle.kept_triplets.specs.lemmas.Places.{SpanLists, PlacesTo, Prefixed, all_others, column_is}
 use Rattle.kept_triplets.specs.lemmas.Edges.{adds_at, ListedEdges, SizesOf, ListedSums, edge_listed, NodeSums, node_sums, listed_sums, listed_node, listed_few, listed_enough, edge_sum_lem}
 use Rattle.kept_triplets.specs.lemmas.Rows.{Prepared}

@@ -11,16 +11,17 @@ use Rattle.sums.specs.theorems.SumLaws.{sum_ext, sum_none, sum_mono, sum-add, su
 use Rattle.sums.specs.Bits.{bit}
 use Rattle.sums.specs.theorems.Products.{product_le}
 use Rattle.shapes.specs.theorems.TripletCounts.{alike_term, apart_term}
-use Rattle.shapes.specs.theorems.LowestAncestors.{leaves_once}
+use Rattle.shapes.proofs.theorems.LowestAncestors.{leaves_once}
 use Rattle.tree_check.specs.Table.{Table, word, tips, nodes, parent, node_of, beyond}
 use Rattle.tree_check.specs.IsTree.{IsTree}
 use Rattle.tree_check.specs.theorems.RootedTables.{rooted}
 use Rattle.walks.specs.theorems.SpanLaws.{in_span}
 use Rattle.counting.specs.Kept.{is_other}
-use Rattle.counting.specs.theorems.KeptTripletSums.{size_over, both_over, alike_over, apart_over, nested}
+use Rattle.counting.specs.theorems.KeptTripletSums.{size_over, both_over, alike_over, apart_over}
+use Rattle.counting.proofs.theorems.KeptTripletSums.{nested}
 use Rattle.kept_triplets.specs.lemmas.Places.{SpanLists, PlacesTo, Prefixed, totals_of, totals_are, span_fits, cell_is, above_too}
 use Rattle.kept_triplets.specs.lemmas.Weighing.{leaving, Weighed, weighed-parts}
-use Rattle.triplets.specs.lemmas.EdgeSums.{sum_most}
+use Rattle.triplets.proofs.lemmas.EdgeSums.{sum_most}
 use Rattle.kept_triplets.specs.lemmas.Terms.{alike_most, apart_most}
 use Rattle.kept_triplets.specs.lemmas.Edges.{span_of, parent-word, size_few}
 

@@ -9,9 +9,10 @@ use Rattle.sums.specs.Bits.{bit}
 use Rattle.sums.specs.theorems.BitLaws.{bit_le}
 use Rattle.shapes.specs.theorems.AncestorLaws.{Rooted}
 use Rattle.shapes.specs.Directions.{head, behind}
-use Rattle.shapes.specs.theorems.DirectionLaws.{into, one_way}
+use Rattle.shapes.specs.theorems.DirectionLaws.{into}
+use Rattle.shapes.proofs.theorems.DirectionLaws.{one_way}
 use Rattle.shapes.specs.theorems.Shape.{Shape}
-use Rattle.shapes.specs.theorems.LabelSums.{bit_in, code_crossing}
+use Rattle.shapes.proofs.theorems.LabelSums.{bit_in, code_crossing}
 use Rattle.node_pairs.specs.theorems.Cells.{apart, sum_apart, pair_s2, pair_s3}
 use Rattle.node_pairs.specs.theorems.CodesOfANode.{Lists}
 

@@ -7,8 +7,8 @@ use Rattle.sums.specs.theorems.SumLaws.{sum_cong}
 use Rattle.shapes.specs.theorems.AncestorLaws.{Rooted}
 use Rattle.shapes.specs.Directions.{head}
 use Rattle.shapes.specs.Claims.{sum_claims, choose2, equation1, dcount}
-use Rattle.shapes.specs.theorems.OrderedClaims.{ordered_cong}
-use Rattle.shapes.specs.theorems.ClaimPairs.{sum_pairs, same_ordered, different_ordered}
+use Rattle.shapes.proofs.theorems.OrderedClaims.{ordered_cong}
+use Rattle.shapes.proofs.theorems.ClaimPairs.{sum_pairs, same_ordered, different_ordered}
 use Rattle.node_pairs.specs.theorems.Cells.{sum_apart, pair_s2, pair_s3}
 use Rattle.node_pairs.specs.theorems.ApartSums.{apart_sum_lem}
 use Rattle.node_pairs.specs.CodesInto.{degree_of, code_at}

@@ -11,9 +11,10 @@ use Rattle.sums.specs.theorems.Products.{sum-ne}
 use Rattle.sums.specs.theorems.Exclusion.{two_apart, two_apart_lem}
 use Rattle.shapes.specs.theorems.AncestorLaws.{Rooted}
 use Rattle.shapes.specs.Directions.{head}
-use Rattle.shapes.specs.theorems.EulerCentre.{head-le}
+use Rattle.shapes.proofs.theorems.EulerCentre.{head-le}
 use Rattle.shapes.specs.Claims.{sum_claims, choose2, claim_term}
-use Rattle.shapes.specs.theorems.OrderedClaims.{sum_ordered, ordered_cong, claims_ordered}
+use Rattle.shapes.specs.theorems.OrderedClaims.{sum_ordered}
+use Rattle.shapes.proofs.theorems.OrderedClaims.{ordered_cong, claims_ordered}
 use Rattle.node_pairs.specs.theorems.Cells.{apart, sum_apart}
 use Rattle.node_pairs.specs.theorems.CodesOfANode.{Lists, same_ne}
 

@@ -7,7 +7,7 @@ use Rattle.sums.specs.Sum.{sum}
 use Rattle.sums.specs.theorems.SumLaws.{sum_cong, sum-add, sum-mul_left}
 use Rattle.sums.specs.theorems.Exclusion.{three_apart, inclusion_exclusion}
 use Rattle.shapes.specs.Claims.{choose2}
-use Rattle.shapes.specs.theorems.OrderedClaims.{choose2_square}
+use Rattle.shapes.proofs.theorems.OrderedClaims.{choose2_square}
 use Rattle.node_pairs.specs.theorems.Cells.{pair_s2, pair_s3}
 use Rattle.node_pairs.specs.theorems.ApartSums.{orders, apart-products, apart_hooks}
 

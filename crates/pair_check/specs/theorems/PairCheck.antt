@@ -12,7 +12,7 @@ use Rattle.tree_check.specs.theorems.RefusalLaws.{refusal-first, refusal-kept}
 use Rattle.tree_check.specs.TreeOrder.{arrays_order, tree_order}
 use Rattle.tree_check.specs.theorems.TreeCheck.{tree_numbered, tree_kept, kept_tree}
 use Rattle.marks.specs.Marks.{marks_order, AreMarks}
-use Rattle.marks.specs.theorems.MarksCheck.{marks_numbered, marks-kept}
+use Rattle.marks.proofs.theorems.MarksCheck.{marks_numbered, marks-kept}
 use Rattle.pair_check.specs.PairOrder.{plus, tips_order, tables_order, cells_needed, work_order, cells_order, pair_order}
 use Rattle.pair_check.specs.PairOrder.{IsPair, PairWithCells, MarkedPair}
 

@@ -8,7 +8,7 @@ use Rattle.tree_check.specs.lemmas.TableParts.{rest}
 use Rattle.tree_check.specs.Refusals.{refusal, if_accepted}
 use Rattle.tree_check.specs.theorems.RefusalLaws.{if_refused}
 use Rattle.table_words.specs.Sizes.{tips_most}
-use Rattle.marks.specs.theorems.Ones.{ones, ones-marks, ones-taken}
+use Rattle.marks.proofs.theorems.Ones.{ones, ones-marks, ones-taken}
 use Rattle.pair_check.specs.PairOrder.{PairWithCells, cells_order}
 use Rattle.pair_check.specs.theorems.PairCheck.{cells_check}
 use Rattle.splits.specs.SplitAnswer.{split_answer}
@@ -19,7 +19,7 @@ use Rattle.claims.specs.ClaimAnswer.{claim_answer}
 use Rattle.claims.specs.declared.totals.ClaimSums.{ClaimSums}
 use Rattle.quartets.specs.QuartetAnswer.{quartet_answer}
 use Rattle.quartets.specs.declared.tables.QuartetTable.{QuartetTable}
-use Rattle.quartets.specs.theorems.AllMarksOne.{all-marks-one}
+use Rattle.quartets.proofs.theorems.AllMarksOne.{all-marks-one}
 use Rattle.listings.specs.declared.figures.Figures.{Figures}
 use Rattle.listings.specs.Listing.{of_refusal}
 use Rattle.table_words.specs.Cutting.{table_length, first_table, later_words}

@@ -13,7 +13,7 @@ use Rattle.pair_check.specs.theorems.PairCheck.{tables_check, cells_check, tree_
 use Rattle.pair_check.specs.lemmas.PairOutcomes.{first_refused, second_refused, tips-differ, tables_accepted}
 use Rattle.pair_check.specs.lemmas.PairOutcomes.{tables_refused}
 use Rattle.table_words.specs.Cutting.{first_table, later_words}
-use Rattle.table_words.specs.lemmas.CutWords.{cut_length}
+use Rattle.table_words.proofs.lemmas.CutWords.{cut_length}
 use Rattle.pair_file.specs.PairFile.{file_words, words_order, file_order}
 use Rattle.pair_file.specs.lemmas.FileWords.{words_length}
 use Rattle.pair_file.specs.lemmas.FileOrder.{too_long, odd_length, even_length}

@@ -8,11 +8,12 @@ use Rattle.table_words.specs.Sizes.{node_room}
 use Rattle.sums.specs.Bits.{bit}
 use Rattle.sums.specs.theorems.BitLaws.{bit_cases}
 use Rattle.shapes.specs.Ancestors.{anc}
-use Rattle.shapes.specs.theorems.AncestorLaws.{Rooted, anc-le, anc_self, anc_root, anc_down, anc_trans, anc-line, anc_past, parent-lt}
+use Rattle.shapes.specs.theorems.AncestorLaws.{Rooted}
+use Rattle.shapes.proofs.theorems.AncestorLaws.{anc-le, anc_self, anc_root, anc_down, anc_trans, anc-line, anc_past, parent-lt}
 use Rattle.tree_check.specs.Table.{word}
 use Rattle.shapes.specs.Rerooting.{path_after, renumbered}
-use Rattle.shapes.specs.theorems.RerootedNumbers.{renumbered-lt, renumbered_root, renumbered_on, renumbered_off, after_step}
-use Rattle.shapes.specs.theorems.RerootedSides.{step_up}
+use Rattle.shapes.proofs.theorems.RerootedNumbers.{renumbered-lt, renumbered_root, renumbered_on, renumbered_off, after_step}
+use Rattle.shapes.proofs.theorems.RerootedSides.{step_up}
 
 -- the number of the next node off the path, when it comes to v
 unfoldable pub counter : (ℕ → ℕ) → ℕ → ℕ → ℕ → ℕ

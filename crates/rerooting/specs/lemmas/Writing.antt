@@ -13,7 +13,7 @@ use Rattle.table_words.specs.Sizes.{node_room}
 use Rattle.sums.specs.Bits.{bit}
 use Rattle.sums.specs.theorems.BitLaws.{bit_cases}
 use Rattle.shapes.specs.Ancestors.{anc}
-use Rattle.shapes.specs.theorems.AncestorLaws.{anc_root}
+use Rattle.shapes.proofs.theorems.AncestorLaws.{anc_root}
 use Rattle.tree_check.specs.Table.{Table, word, tips, nodes, parents, labels, parent, label, node_below, node_of}
 use Rattle.tree_check.specs.Refusals.{refusal}
 use Rattle.tree_check.specs.IsTree.{IsTree}
@@ -27,7 +27,7 @@ use Rattle.walks.specs.theorems.WalkOrderLaws.{tree_refused, tree_accepted}
 use Rattle.shapes.specs.Rerooting.{renumbered, node_numbered}
 use Rattle.sums.specs.Swaps.{swapped}
 use Rattle.rerooting.specs.Rerooted.{new_parent, new_label, rerooted, reroot_order, written, after_reroot}
-use Rattle.shapes.specs.theorems.RerootedNumbers.{renumbered-lt, renumbered-one, numbered_is, numbered_back, up_on, up_off, path_before, path_back}
+use Rattle.shapes.proofs.theorems.RerootedNumbers.{renumbered-lt, renumbered-one, numbered_is, numbered_back, up_on, up_off, path_before, path_back}
 use Rattle.rerooting.specs.theorems.RerootedParts.{same_nodes, new_parent_lem, new_label_lem, rerooted-length}
 
 -- ---- the words of a node

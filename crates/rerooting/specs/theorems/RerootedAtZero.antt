@@ -4,7 +4,8 @@ use Rattle.std.specs.Prelude.{◌≡◌, ℕ, ◌<◌, get_or}
 use Rattle.std.proofs.Common.{sym, ◌∙◌, ap, ap₂, inl, inr, arith}
 use Rattle.sums.specs.theorems.BitLaws.{bit_cases}
 use Rattle.shapes.specs.Ancestors.{anc}
-use Rattle.shapes.specs.theorems.AncestorLaws.{Rooted, anc-le}
+use Rattle.shapes.specs.theorems.AncestorLaws.{Rooted}
+use Rattle.shapes.proofs.theorems.AncestorLaws.{anc-le}
 use Rattle.sums.specs.theorems.ListLaws.{in_order_is}
 use Rattle.sums.specs.theorems.SwapLaws.{swapped_none}
 use Rattle.tree_check.specs.Table.{Table, tips, nodes, parents, labels, parent, label, node_of}
@@ -14,7 +15,7 @@ use Rattle.tree_check.specs.lemmas.TableParts.{table_of, parents-length, labels_
 use Rattle.walks.specs.theorems.NodeLabels.{node_only}
 use Rattle.shapes.specs.Rerooting.{path_after, renumbered, node_numbered, rerooted_up}
 use Rattle.rerooting.specs.Rerooted.{new_parent, new_label, rerooted}
-use Rattle.shapes.specs.theorems.RerootedNumbers.{renumbered_on, renumbered_off, after_end, after_le, numbered_back, up_on, up_off}
+use Rattle.shapes.proofs.theorems.RerootedNumbers.{renumbered_on, renumbered_off, after_end, after_le, numbered_back, up_on, up_off}
 use Rattle.rerooting.specs.theorems.RerootedParts.{made}
 
 module _ (up : ℕ → ℕ) (m : ℕ) (r : Rooted up) (lm : 0 < m) where

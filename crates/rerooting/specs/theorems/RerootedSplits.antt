@@ -6,8 +6,8 @@ use native.Mathlib.Omega.{arith}
 use Rattle.sums.specs.Swaps.{swapped}
 use Rattle.sums.specs.theorems.BitLaws.{bit_inj, bit_not}
 use Rattle.shapes.specs.Splits.{Sides, SameSides, same, turned, SameSplits}
-use Rattle.shapes.specs.theorems.SplitLaws.{split_moves}
-use Rattle.shapes.specs.theorems.RerootedSides.{SameEdge, kept, reversed, edge_there, edge_back}
+use Rattle.shapes.proofs.theorems.SplitLaws.{split_moves}
+use Rattle.shapes.proofs.theorems.RerootedSides.{SameEdge, kept, reversed, edge_there, edge_back}
 use Rattle.tree_check.specs.Table.{Table, tips, nodes, parent, node_of, beyond}
 use Rattle.tree_check.specs.IsTree.{IsTree}
 use Rattle.tree_check.specs.theorems.RootedTables.{rooted}

@@ -9,10 +9,13 @@ use Rattle.sums.specs.theorems.BitLaws.{bit_cases}
 use Rattle.sums.specs.theorems.TestLaws.{same_test}
 use Rattle.shapes.specs.Ancestors.{anc}
 use Rattle.shapes.specs.Quartets.{Apart}
-use Rattle.shapes.specs.theorems.AncestorLaws.{Rooted, up_ind, anc_at_zero, anc_up, parent-lt}
-use Rattle.shapes.specs.theorems.FourLabels.{Four, swapped_four}
-use Rattle.shapes.specs.theorems.PartedFours.{parted-iff}
-use Rattle.shapes.specs.theorems.Topologies.{first_passed, case_in}
+use Rattle.shapes.specs.theorems.AncestorLaws.{Rooted}
+use Rattle.shapes.proofs.theorems.AncestorLaws.{up_ind, anc_at_zero, anc_up, parent-lt}
+use Rattle.shapes.specs.theorems.FourLabels.{Four}
+use Rattle.shapes.proofs.theorems.FourLabels.{swapped_four}
+use Rattle.shapes.proofs.theorems.PartedFours.{parted-iff}
+use Rattle.shapes.specs.theorems.Topologies.{first_passed}
+use Rattle.shapes.proofs.theorems.Topologies.{case_in}
 use Rattle.tree_check.specs.Table.{Table, tips, nodes, parent, node_of}
 use Rattle.tree_check.specs.IsTree.{IsTree}
 use Rattle.tree_check.specs.theorems.RootedTables.{rooted}
@@ -20,11 +23,11 @@ use Rattle.walks.specs.theorems.NodeLabels.{node_at}
 use Rattle.trees.specs.Topology.{butterfly, topology}
 use Rattle.trees.specs.theorems.PartnerLaws.{partner-apart, partner-swap_right}
 use Rattle.counting.specs.Cases.{case_of, case_number}
-use Rattle.counting.specs.theorems.CasesInShapes.{case_named}
+use Rattle.counting.proofs.theorems.CasesInShapes.{case_named}
 use Rattle.shapes.specs.Rerooting.{rerooted_up}
 use Rattle.rerooting.specs.Rerooted.{rerooted, new_parent}
-use Rattle.shapes.specs.theorems.RerootedNumbers.{rerooted_rooted}
-use Rattle.shapes.specs.theorems.RerootedSides.{SameEdge, kept, reversed, edge_there, edge_back, step_up}
+use Rattle.shapes.proofs.theorems.RerootedNumbers.{rerooted_rooted}
+use Rattle.shapes.proofs.theorems.RerootedSides.{SameEdge, kept, reversed, edge_there, edge_back, step_up}
 use Rattle.rerooting.specs.theorems.RerootedParts.{same_nodes, new_parent_lem}
 use Rattle.sums.specs.Swaps.{swapped}
 use Rattle.rerooting.specs.theorems.RerootedTree.{new_number, number_lt, rerooted_tree, rerooted_node, parent_on, parent_off}

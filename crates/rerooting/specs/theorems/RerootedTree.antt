@@ -8,16 +8,17 @@ use Rattle.sums.specs.Bits.{bit}
 use Rattle.sums.specs.theorems.BitLaws.{bit_cases}
 use Rattle.table_words.specs.Sizes.{inner_label}
 use Rattle.shapes.specs.Ancestors.{anc}
-use Rattle.shapes.specs.theorems.AncestorLaws.{Rooted, anc-le, anc_self, anc_root, anc_trans, anc-line, anc_past, anc_down, parent-lt}
+use Rattle.shapes.specs.theorems.AncestorLaws.{Rooted}
+use Rattle.shapes.proofs.theorems.AncestorLaws.{anc-le, anc_self, anc_root, anc_trans, anc-line, anc_past, anc_down, parent-lt}
 use Rattle.tree_check.specs.Table.{Table, tips, nodes, parent, label, node_of}
 use Rattle.tree_check.specs.IsTree.{IsTree, Child, StandsOnce}
 use Rattle.tree_check.specs.theorems.RootedTables.{rooted}
 use Rattle.walks.specs.theorems.NodeLabels.{node_at, node_only}
 use Rattle.shapes.specs.Rerooting.{renumbered, node_numbered, rerooted_up}
 use Rattle.rerooting.specs.Rerooted.{new_parent, new_label, rerooted}
-use Rattle.shapes.specs.theorems.RerootedNumbers.{renumbered-lt, renumbered-one, renumbered_root, rerooted_rooted, numbered_is, numbered_back}
-use Rattle.shapes.specs.theorems.RerootedNumbers.{up_on, up_off, path_before, path_back, off_pos, path_end}
-use Rattle.shapes.specs.theorems.RerootedSides.{path_step, step_up, renumbered-pos}
+use Rattle.shapes.proofs.theorems.RerootedNumbers.{renumbered-lt, renumbered-one, renumbered_root, rerooted_rooted, numbered_is, numbered_back}
+use Rattle.shapes.proofs.theorems.RerootedNumbers.{up_on, up_off, path_before, path_back, off_pos, path_end}
+use Rattle.shapes.proofs.theorems.RerootedSides.{path_step, step_up, renumbered-pos}
 use Rattle.rerooting.specs.theorems.RerootedParts.{same_tips, same_nodes, rerooted-length, new_parent_lem, new_label_lem}
 use Rattle.sums.specs.Swaps.{swapped}
 use Rattle.sums.specs.theorems.SwapLaws.{swapped_second, swapped_twice, swapped_other, swapped-lt}

@@ -3,9 +3,10 @@
 use Rattle.std.specs.Prelude.{◌≡◌, List, ℕ, ◌+◌, ◌-◌, ◌≤◌, ◌<◌, length}
 use Rattle.std.proofs.Common.{arith}
 use Rattle.table_words.specs.Sizes.{node_room}
-use Rattle.shapes.specs.theorems.AncestorLaws.{Rooted, parent-lt}
+use Rattle.shapes.specs.theorems.AncestorLaws.{Rooted}
+use Rattle.shapes.proofs.theorems.AncestorLaws.{parent-lt}
 use Rattle.shapes.specs.Centres.{centre_of}
-use Rattle.shapes.specs.theorems.OneCentre.{joined_ab, joined_ac, joined_bc, climb_first, climb_second, climb_third}
+use Rattle.shapes.proofs.theorems.OneCentre.{joined_ab, joined_ac, joined_bc, climb_first, climb_second, climb_third}
 use Rattle.tree_check.specs.Table.{word}
 
 -- three nodes of a rooted tree with the parents ps

@@ -11,8 +11,8 @@ use Rattle.sums.specs.Tests.{some}
 use Rattle.sums.specs.theorems.BitLaws.{T_true, T_false}
 use Rattle.sums.specs.theorems.TestLaws.{some-iff, first_is}
 use Rattle.shapes.specs.Quartets.{TwoAndTwo, with_b, with_c, with_d}
-use Rattle.shapes.specs.theorems.AncestorLaws.{anc_root}
-use Rattle.shapes.specs.theorems.Meeting.{parts_four-iff, meet_is_centre}
+use Rattle.shapes.proofs.theorems.AncestorLaws.{anc_root}
+use Rattle.shapes.proofs.theorems.Meeting.{parts_four-iff, meet_is_centre}
 use Rattle.tree_check.specs.Table.{Table, word, tips, nodes, parents, labels, parent, node_below, node_of}
 use Rattle.tree_check.specs.lemmas.TableParts.{parents-length}
 use Rattle.tree_check.specs.Refusals.{refusal, if_accepted}

@@ -7,7 +7,8 @@ use Rattle.table_words.specs.Sizes.{node_room}
 use Rattle.sums.specs.Bits.{bit, is}
 use Rattle.sums.specs.theorems.BitLaws.{bit_le, is_self, alike}
 use Rattle.shapes.specs.Ancestors.{anc}
-use Rattle.shapes.specs.theorems.Totals.{total, total_ext, total_none, total-add, total-mul_left, total_is}
+use Rattle.shapes.specs.theorems.Totals.{total}
+use Rattle.shapes.proofs.theorems.Totals.{total_ext, total_none, total-add, total-mul_left, total_is}
 use Rattle.tree_check.specs.Table.{word, node_below}
 use Rattle.walks.specs.AddUp.{added_up}
 use Rattle.walks.specs.theorems.AddUpLaws.{Addable, added_up_totals}

@@ -8,7 +8,7 @@ use Rattle.sums.specs.Bits.{bit}
 use Rattle.sums.specs.theorems.TestLaws.{eq_iff}
 use Rattle.shapes.specs.Ancestors.{anc}
 use Rattle.shapes.specs.Quartets.{parts}
-use Rattle.shapes.specs.theorems.PartedFours.{parts-iff}
+use Rattle.shapes.proofs.theorems.PartedFours.{parts-iff}
 use Rattle.tree_check.specs.Table.{Table, word, node_below, beyond}
 use Rattle.trees.specs.declared.quartet.Topology.{Topology}
 use Rattle.trees.specs.declared.quartet.Topology.TheVariants.{Butterfly, Star}

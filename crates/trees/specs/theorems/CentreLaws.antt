@@ -4,7 +4,7 @@ use Rattle.std.specs.Prelude.{◌≡◌, ℕ, suc, ◌-◌, ◌≤◌, ◌<◌, 
 use Rattle.std.proofs.Common.{subst, arith}
 use Rattle.sums.specs.theorems.CountLaws.{Once}
 use Rattle.shapes.specs.Centres.{on_all}
-use Rattle.shapes.specs.theorems.OneCentre.{centre_once, centre_on}
+use Rattle.shapes.proofs.theorems.OneCentre.{centre_once, centre_on}
 use Rattle.tree_check.specs.Table.{Table, tips, nodes, parent, node_of}
 use Rattle.tree_check.specs.IsTree.{IsTree}
 use Rattle.tree_check.specs.theorems.RootedTables.{rooted}

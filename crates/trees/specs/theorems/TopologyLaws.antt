@@ -5,8 +5,9 @@ use Rattle.std.proofs.Common.{sym, ◌∙◌, arith}
 use Rattle.std.proofs.Math.Logic.{Ne-symm}
 use mathlib.Core.Logic.Iff.{rfl}
 use Rattle.shapes.specs.theorems.FourLabels.{Four}
-use Rattle.shapes.specs.theorems.PartedFours.{parted-iff, parted-swap_left, parted-swap_right, parted_turn}
-use Rattle.shapes.specs.theorems.PartedFours.{AtMostOne, none, first, second, third, one-pairing}
+use Rattle.shapes.proofs.theorems.PartedFours.{parted-iff, parted-swap_left, parted-swap_right, parted_turn}
+use Rattle.shapes.specs.theorems.PartedFours.{AtMostOne, none, first, second, third}
+use Rattle.shapes.proofs.theorems.PartedFours.{one-pairing}
 use Rattle.trees.specs.declared.quartet.Topology.TheVariants.{Butterfly, Star}
 use Rattle.tree_check.specs.Table.{Table, tips, nodes, parent, node_of}
 use Rattle.tree_check.specs.IsTree.{IsTree}

@@ -10,9 +10,9 @@ use Rattle.sums.specs.Tests.{some, first}
 use Rattle.sums.specs.theorems.BitLaws.{T_true, T_false}
 use Rattle.sums.specs.theorems.TestLaws.{T_dec, some-iff, first_passes}
 use Rattle.shapes.specs.Quartets.{Apart, with_b, with_c, with_d}
-use Rattle.shapes.specs.theorems.Meeting.{parts_four-iff, four_first_two, four_middle, four_last_two}
-use Rattle.shapes.specs.theorems.Meeting.{meet-first_two, meet_middle, meet_last_two}
-use Rattle.shapes.specs.theorems.Meeting as meeting
+use Rattle.shapes.proofs.theorems.Meeting.{parts_four-iff, four_first_two, four_middle, four_last_two}
+use Rattle.shapes.proofs.theorems.Meeting.{meet-first_two, meet_middle, meet_last_two}
+use Rattle.shapes.proofs.theorems.Meeting as meeting
 use Rattle.tree_check.specs.Table.{Table, tips, nodes, parent, node_of}
 use Rattle.tree_check.specs.IsTree.{IsTree}
 use Rattle.tree_check.specs.theorems.RootedTables.{rooted}

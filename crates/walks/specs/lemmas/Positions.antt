@@ -8,7 +8,8 @@ use Rattle.table_words.specs.Sizes.{node_room, tips_most}
 use Rattle.sums.specs.Bits.{bit}
 use Rattle.sums.specs.theorems.BitLaws.{bit-T}
 use Rattle.sums.specs.theorems.TestLaws.{lt_iff}
-use Rattle.shapes.specs.theorems.Totals.{total, total_ext}
+use Rattle.shapes.specs.theorems.Totals.{total}
+use Rattle.shapes.proofs.theorems.Totals.{total_ext}
 use Rattle.tree_check.specs.Table.{Table, word, tips, nodes, parent, label}
 use Rattle.tree_check.specs.lemmas.TableParts.{table_of, tips_of_lem, nodes_of_lem}
 use Rattle.walks.specs.declared.edges.PartBeyond.{PartBeyond}

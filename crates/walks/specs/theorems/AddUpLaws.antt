@@ -4,7 +4,8 @@ use Rattle.std.specs.Prelude.{◌≡◌, ℕ, zero, suc, ◌+◌, ◌%◌, ◌^�
 use Rattle.std.proofs.Common.{sym, ◌∙◌, ap, subst, mod-eq_of_lt, add-one, arith, lt-ltb, le-ltb, length-set, get_or-set_same, get_or-set_other}
 use Rattle.table_words.specs.Sizes.{inner_label, node_room}
 use Rattle.shapes.specs.theorems.AncestorLaws.{Rooted}
-use Rattle.shapes.specs.theorems.Totals.{total, Added, added_none, added-all, added-le, added_next}
+use Rattle.shapes.specs.theorems.Totals.{total, Added}
+use Rattle.shapes.proofs.theorems.Totals.{added_none, added-all, added-le, added_next}
 use Rattle.tree_check.specs.Table.{word}
 use Rattle.walks.specs.AddUp.{passed_up, added_below, added_up}
 

@@ -11,7 +11,7 @@ use Rattle.sums.specs.Bits.{bit}
 use Rattle.sums.specs.theorems.BitLaws.{bit-T, bit_no, bit_le}
 use Rattle.sums.specs.theorems.CountLaws.{count-pos, count_none, count_once}
 use Rattle.sums.specs.theorems.TestLaws.{T_dec, and-iff, eq_iff, le_iff, lt_iff}
-use Rattle.shapes.specs.theorems.AncestorLaws.{up_ind}
+use Rattle.shapes.proofs.theorems.AncestorLaws.{up_ind}
 use Rattle.tree_check.specs.Table.{Table, word, tips, nodes, parent, label, node_of, beyond}
 use Rattle.tree_check.specs.IsTree.{IsTree}
 use Rattle.tree_check.specs.TreeOrder.{standing}

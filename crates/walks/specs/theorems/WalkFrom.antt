@@ -12,8 +12,9 @@ use Rattle.sums.specs.Bits.{bit, is}
 use Rattle.sums.specs.theorems.BitLaws.{bit-T, bit_not, T-bit, alike}
 use Rattle.sums.specs.theorems.TestLaws.{lt_iff}
 use Rattle.shapes.specs.Ancestors.{anc}
-use Rattle.shapes.specs.theorems.AncestorLaws.{parent-lt}
-use Rattle.shapes.specs.theorems.Totals.{total, total_ext, total_none, total_is, total-children}
+use Rattle.shapes.proofs.theorems.AncestorLaws.{parent-lt}
+use Rattle.shapes.specs.theorems.Totals.{total}
+use Rattle.shapes.proofs.theorems.Totals.{total_ext, total_none, total_is, total-children}
 use Rattle.tree_check.specs.Table.{Table, word, tips, nodes, parent, label, node_of, beyond}
 use Rattle.tree_check.specs.IsTree.{IsTree}
 use Rattle.tree_check.specs.theorems.RootedTables.{rooted}

@@ -11,7 +11,7 @@ use Rattle.std.proofs.Math.Seq.{take_at, length-take-le}
 use Rattle.sums.specs.Sum.{sum}
 use Rattle.sums.specs.theorems.SumLaws.{sum_cong, sum_const}
 use Rattle.sums.specs.Bits.{bit}
-use Rattle.shapes.specs.theorems.AncestorLaws.{up_ind, anc_root}
+use Rattle.shapes.proofs.theorems.AncestorLaws.{up_ind, anc_root}
 use Rattle.tree_check.specs.Table.{Table, word, tips, nodes, parent, node_of, beyond}
 use Rattle.tree_check.specs.IsTree.{IsTree}
 use Rattle.tree_check.specs.theorems.RootedTables.{rooted}

@@ -5,7 +5,7 @@ use Prim.Native.Nat.{◌+◌, ◌-◌, ◌≤◌, ◌<◌}
 use native.Mathlib.Omega.{arith}
 use Rattle.table_words.specs.Sizes.{node_room}
 use Rattle.tree_check.specs.Table.{word}
-use Rattle.canonical_copy.specs.lemmas.Staying.{sizes_none, sizes_fit, sizes_next}
+use Rattle.canonical_copy.proofs.lemmas.Staying.{sizes_none, sizes_fit, sizes_next}
 use Rattle.canonical_copy.proofs.branches.add_sizes.Goals.{After-as_index-p}
 use Rattle.canonical_copy.proofs.branches.add_sizes.Goals as goal
 

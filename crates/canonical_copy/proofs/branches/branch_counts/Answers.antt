@@ -6,7 +6,7 @@ use native.Mathlib.Omega.{arith}
 use lib.ListN.{length}
 use Rattle.table_words.specs.Sizes.{node_room}
 use Rattle.tree_check.specs.Table.{word}
-use Rattle.canonical_copy.specs.lemmas.Staying.{counts_none, counts_fit, counts_take, counts_skip}
+use Rattle.canonical_copy.proofs.lemmas.Staying.{counts_none, counts_fit, counts_take, counts_skip}
 use Rattle.canonical_copy.proofs.branches.branch_counts.Goals.{else-lows-c, then-lows-c, After-as_index-p}
 use Rattle.canonical_copy.proofs.branches.branch_counts.Goals as goal
 

@@ -3,8 +3,8 @@
 use Prim.Native.Nat.{◌-◌, ◌<◌}
 use native.Mathlib.Omega.{arith}
 use Rattle.table_words.specs.Sizes.{node_room}
-use Rattle.canonical_copy.specs.lemmas.Parents.{parent_room}
-use Rattle.canonical_copy.specs.lemmas.LeastBelow.{gathered_none, gathered_all, lows_take, lows_skip}
+use Rattle.canonical_copy.proofs.lemmas.Parents.{parent_room}
+use Rattle.canonical_copy.proofs.lemmas.LeastBelow.{gathered_none, gathered_all, lows_take, lows_skip}
 use Rattle.canonical_copy.proofs.branches.lower.Goals.{After-as_index-p}
 use Rattle.canonical_copy.proofs.branches.lower.Goals as goal
 

@@ -2,7 +2,7 @@
 -- Assumes nothing.
 use Prim.Native.Nat.{◌≤◌}
 use lib.ListN.{length}
-use Rattle.canonical_copy.specs.lemmas.LeastBelow.{Gathered}
+use Rattle.canonical_copy.proofs.lemmas.LeastBelow.{Gathered}
 use Rattle.canonical_copy.proofs.branches.lower.Given as goal
 
 abbrev pub invariant-loop-c : goal.invariant-loop-c

@@ -2,7 +2,7 @@
 -- Assumes nothing.
 use mathlib.Core.Path.{◌≡◌}
 use native.Mathlib.Omega.{arith}
-use Rattle.canonical_copy.specs.lemmas.Staying.{bits_none, bits_next}
+use Rattle.canonical_copy.proofs.lemmas.Staying.{bits_none, bits_next}
 use Rattle.canonical_copy.proofs.branches.stay_bits.Goals as goal
 
 pub loop-v-init : goal.loop-v-init

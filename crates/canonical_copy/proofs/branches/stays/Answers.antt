@@ -1,7 +1,7 @@
 -- A test that is passed is 1.
 -- Assumes nothing.
 use native.Mathlib.Omega.{arith}
-use Rattle.canonical_copy.specs.lemmas.Staying.{bit_rank, bit_branches, bit_none}
+use Rattle.canonical_copy.proofs.lemmas.Staying.{bit_rank, bit_branches, bit_none}
 use Rattle.canonical_copy.proofs.branches.stays.Goals as goal
 
 pub returns-then-rank-k : goal.returns-then-rank-k

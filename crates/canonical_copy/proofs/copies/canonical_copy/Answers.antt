@@ -2,8 +2,8 @@
 -- Assumes nothing.
 use mathlib.Core.Path.{◌≡◌, refl, sym, ◌∙◌}
 use native.Mathlib.Omega.{arith}
-use Rattle.marks.specs.lemmas.MarkOutcomes.{marks_say}
-use Rattle.canonical_copy.specs.lemmas.Outcomes.{tree_away, marks_away, few_away, short_away, accepted}
+use Rattle.marks.proofs.lemmas.MarkOutcomes.{marks_say}
+use Rattle.canonical_copy.proofs.lemmas.Outcomes.{tree_away, marks_away, few_away, short_away, accepted}
 use Rattle.canonical_copy.specs.lemmas.KeptCopy.{KeptTable}
 use Rattle.tree_check.specs.Table.{tips, nodes}
 use Rattle.tree_check.specs.Refusals.{refusal}

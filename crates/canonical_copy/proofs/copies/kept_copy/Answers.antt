@@ -4,7 +4,7 @@ use mathlib.Core.Path.{◌≡◌, ◌∙◌, ap}
 use Prim.Native.Nat.{ℕ}
 use native.Mathlib.Omega.{arith}
 use lib.ListN.{replicate}
-use Rattle.canonical_copy.specs.lemmas.KeptCopy.{rankable, label_small, front, rooted_table, kept_copied}
+use Rattle.canonical_copy.proofs.lemmas.KeptCopy.{rankable, label_small, front, rooted_table, kept_copied}
 use Rattle.rerooting.specs.lemmas.Front.{front_length, words_fit}
 use Rattle.rerooting.specs.Rerooted.{after_reroot}
 use Rattle.canonical_copy.proofs.copies.kept_copy.Goals.{After-words-2-1}

@@ -5,7 +5,7 @@ use Prim.Native.Nat.{ℕ, ◌≤◌}
 use native.Mathlib.Omega.{arith}
 use lib.ListN.{length, replicate, length-replicate, get_or-replicate}
 use Rattle.table_words.specs.Sizes.{node_room}
-use Rattle.canonical_copy.specs.lemmas.RootedCopy.{parents_are, some-nodes, bits_small, count_few, too_short, chainable, ranks_ready, writable, copied_into}
+use Rattle.canonical_copy.proofs.lemmas.RootedCopy.{parents_are, some-nodes, bits_small, count_few, too_short, chainable, ranks_ready, writable, copied_into}
 use Rattle.canonical_copy.proofs.copies.rooted_copy.Goals.{After-as_index-count}
 use Rattle.canonical_copy.proofs.copies.rooted_copy.Goals as goal
 

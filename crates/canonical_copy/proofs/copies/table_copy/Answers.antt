@@ -1,7 +1,7 @@
 -- The parts of the table are those that are lent on.
 -- Assumes nothing.
 use native.Mathlib.Omega.{arith}
-use Rattle.canonical_copy.specs.lemmas.KeptCopy.{parts_fit, lent_arrays, lent_copied}
+use Rattle.canonical_copy.proofs.lemmas.KeptCopy.{parts_fit, lent_arrays, lent_copied}
 use Rattle.canonical_copy.proofs.copies.table_copy.Goals as goal
 
 pub slice_bounds-rooted_copy-end : goal.slice_bounds-rooted_copy-end

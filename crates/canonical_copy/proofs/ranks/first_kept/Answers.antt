@@ -5,7 +5,7 @@ use native.Mathlib.Omega.{arith}
 use lib.ListN.{length}
 use mathlib.Core.Path.{sym, ◌∙◌}
 use Rattle.sums.specs.theorems.TestLaws.{first_found, first_none}
-use Rattle.canonical_copy.specs.lemmas.Ranks.{none_next}
+use Rattle.canonical_copy.proofs.lemmas.Ranks.{none_next}
 use Rattle.canonical_copy.proofs.ranks.first_kept.Goals as goal
 
 pub loop-x-init : goal.loop-x-init

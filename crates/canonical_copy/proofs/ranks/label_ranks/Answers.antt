@@ -1,7 +1,7 @@
 -- What is known where the search needs a hint.
 -- Assumes nothing.
 use native.Mathlib.Omega.{arith}
-use Rattle.canonical_copy.specs.lemmas.Ranks.{ranked_none, rank_few, ranked_take, ranked_skip, ranked_all}
+use Rattle.canonical_copy.proofs.lemmas.Ranks.{ranked_none, rank_few, ranked_take, ranked_skip, ranked_all}
 use mathlib.Core.Path.{sym, ◌∙◌}
 use Rattle.canonical_copy.proofs.ranks.label_ranks.Goals.{else-is_kept, then-is_kept}
 use Rattle.canonical_copy.proofs.ranks.label_ranks.Goals as goal

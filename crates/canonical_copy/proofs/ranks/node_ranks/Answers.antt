@@ -3,7 +3,7 @@
 use mathlib.Core.Path.{◌≡◌}
 use native.Mathlib.Omega.{arith}
 use lib.ListN.{length}
-use Rattle.canonical_copy.specs.lemmas.Ranks.{nodes_none, nodes-take, nodes_skip}
+use Rattle.canonical_copy.proofs.lemmas.Ranks.{nodes_none, nodes-take, nodes_skip}
 use Rattle.canonical_copy.proofs.ranks.node_ranks.Goals.{else-y-lt-TIPS, then-y-lt-TIPS}
 use Rattle.canonical_copy.proofs.ranks.node_ranks.Goals as goal
 

@@ -1,7 +1,7 @@
 -- A rank below k is the label, or there is none.
 -- Assumes nothing.
 use native.Mathlib.Omega.{arith}
-use Rattle.canonical_copy.specs.lemmas.Writing.{label_rank, label_inner}
+use Rattle.canonical_copy.proofs.lemmas.Writing.{label_rank, label_inner}
 use Rattle.canonical_copy.proofs.words.label_for.Goals as goal
 
 pub returns-then-rank-k : goal.returns-then-rank-k

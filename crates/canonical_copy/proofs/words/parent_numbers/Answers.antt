@@ -5,8 +5,8 @@ use Prim.Native.Nat.{◌<◌}
 use native.Mathlib.Omega.{arith}
 use lib.ListN.{length}
 use Rattle.table_words.specs.Sizes.{node_room}
-use Rattle.canonical_copy.specs.lemmas.Parents.{up_room}
-use Rattle.canonical_copy.specs.lemmas.ParentNumbers.{above_none, above_take, above_skip}
+use Rattle.canonical_copy.proofs.lemmas.Parents.{up_room}
+use Rattle.canonical_copy.proofs.lemmas.ParentNumbers.{above_none, above_take, above_skip}
 use Rattle.canonical_copy.proofs.words.parent_numbers.Goals.{else-bits-p-eq1, then-bits-p-eq1, After-as_index-p}
 use Rattle.canonical_copy.proofs.words.parent_numbers.Goals as goal
 

@@ -6,7 +6,8 @@ use native.Mathlib.Omega.{arith}
 use lib.ListN.{length}
 use Rattle.table_words.specs.Sizes.{node_room}
 use Rattle.tree_check.specs.Table.{word}
-use Rattle.canonical_copy.specs.lemmas.Writing.{CopyWritten, written_none, written_skip, written_room, written-take}
+use Rattle.canonical_copy.specs.lemmas.Writing.{CopyWritten}
+use Rattle.canonical_copy.proofs.lemmas.Writing.{written_none, written_skip, written_room, written-take}
 use lib.ListN.{length-set}
 use Rattle.canonical_copy.proofs.words.write_words.Goals.{else-bits-v-eq1, then-bits-v-eq1, After-as_index-i, In-loop-v}
 use Rattle.canonical_copy.proofs.words.write_words.Goals as goal

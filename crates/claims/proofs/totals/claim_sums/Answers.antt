@@ -9,7 +9,7 @@ use Rattle.tree_check.specs.Table.{tips, nodes}
 use Rattle.marks.specs.Marks.{kept_of}
 use Rattle.pair_check.specs.PairOrder.{MarkedPair}
 use Rattle.pair_check.specs.lemmas.PairOutcomes.{work_says, work_passed, edges_some}
-use Rattle.tree_pairs.specs.lemmas.LentTables.{nodes_are, lent_words}
+use Rattle.tree_pairs.proofs.lemmas.LentTables.{nodes_are, lent_words}
 use Rattle.claims.specs.lemmas.LentSums.{lent_summable, lent_claims}
 use Rattle.claims.specs.lemmas.SumsOf.{claims_refused}
 use Rattle.claims.proofs.totals.claim_sums.Goals.{In-Pair}

@@ -1,6 +1,6 @@
 -- Each arm is a clause of `case_of`.
 -- Assumes nothing.
-use Rattle.evidence.specs.lemmas.EvidenceFound.{two_butterflies_lem, first_alone, second_alone, two_stars}
+use Rattle.evidence.proofs.lemmas.EvidenceFound.{two_butterflies_lem, first_alone, second_alone, two_stars}
 use Rattle.evidence.proofs.shown.case_of.Goals as goal
 
 pub returns-in-Butterfly-second : goal.returns-in-Butterfly-second

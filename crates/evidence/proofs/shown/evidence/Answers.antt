@@ -3,7 +3,7 @@
 use mathlib.Core.Path.{sym, ◌∙◌}
 use Rattle.pair_check.specs.PairOrder.{IsPair}
 use Rattle.pair_check.specs.lemmas.PairOutcomes.{check_says, pair_passed}
-use Rattle.evidence.specs.lemmas.EvidenceFound.{tables_turned_away, labels_turned_away, shown, evidence_told}
+use Rattle.evidence.proofs.lemmas.EvidenceFound.{tables_turned_away, labels_turned_away, shown, evidence_told}
 use Rattle.evidence.proofs.shown.evidence.Goals.{In-Pair}
 use Rattle.evidence.proofs.shown.evidence.Goals as goal
 

@@ -7,7 +7,7 @@ use Rattle.sums.specs.theorems.Products.{product_le}
 use Rattle.tree_check.specs.Table.{nodes}
 use Rattle.tree_check.specs.IsTree.{IsTree}
 use Rattle.tree_check.specs.theorems.CheckLaws.{checked_accepted, refusal_passed}
-use Rattle.exchange_tallies.specs.lemmas.Outcomes.{tree_away, short_away, accepted}
+use Rattle.exchange_tallies.proofs.lemmas.Outcomes.{tree_away, short_away, accepted}
 use Rattle.exchange_tallies.proofs.tallies.exchange_tallies.Goals.{After-as_index-edges}
 use Rattle.exchange_tallies.proofs.tallies.exchange_tallies.Goals as goal
 

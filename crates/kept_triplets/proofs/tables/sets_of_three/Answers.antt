@@ -1,7 +1,7 @@
 -- The products are low, and the division is that of the definition.
 -- Assumes nothing.
 use native.Mathlib.Omega.{arith}
-use Rattle.triplets.specs.lemmas.FormedTriplets.{few_tips, products_low, many_tips}
+use Rattle.triplets.proofs.lemmas.FormedTriplets.{few_tips, products_low, many_tips}
 use Rattle.kept_triplets.proofs.tables.sets_of_three.Goals as goal
 
 pub returns-then-n-lt4 : goal.returns-then-n-lt4

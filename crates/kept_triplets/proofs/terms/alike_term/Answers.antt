@@ -3,7 +3,7 @@
 use mathlib.Core.Path.{ap}
 use Prim.Native.Nat.{ℕ, ◌*◌}
 use native.Mathlib.Omega.{arith}
-use Rattle.triplets.specs.lemmas.EdgeSums.{square_low, square_less}
+use Rattle.triplets.proofs.lemmas.EdgeSums.{square_low, square_less}
 use Rattle.kept_triplets.specs.lemmas.Terms.{alike_most}
 use Rattle.kept_triplets.proofs.terms.alike_term.Goals as goal
 

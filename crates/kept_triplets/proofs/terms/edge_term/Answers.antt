@@ -4,7 +4,7 @@ use mathlib.Core.Path.{ap}
 use Prim.Native.Nat.{ℕ, ◌*◌, ◌-◌}
 use native.Mathlib.Omega.{arith}
 use Rattle.shapes.specs.theorems.TripletCounts.{edge_term}
-use Rattle.triplets.specs.lemmas.EdgeSums.{square_low, square_less, edge_term_most}
+use Rattle.triplets.proofs.lemmas.EdgeSums.{square_low, square_less, edge_term_most}
 use Rattle.kept_triplets.proofs.terms.edge_term.Goals as goal
 
 pub overflow_mul-result : goal.overflow_mul-result

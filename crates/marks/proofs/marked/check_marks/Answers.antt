@@ -1,7 +1,7 @@
 -- Each return is an outcome of the marks' order.
 -- Assumes nothing.
 use mathlib.Core.Path.{sym, ◌∙◌}
-use Rattle.marks.specs.lemmas.MarkOutcomes.{marks_short, marks_wrong, marks_right}
+use Rattle.marks.proofs.lemmas.MarkOutcomes.{marks_short, marks_wrong, marks_right}
 use Rattle.marks.proofs.marked.check_marks.Goals as goal
 
 pub returns-then-marks-as_index : goal.returns-then-marks-as_index

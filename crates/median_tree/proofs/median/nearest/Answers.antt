@@ -3,7 +3,7 @@
 use Prim.Native.Nat.{◌≤◌}
 use native.Mathlib.Omega.{arith}
 use Rattle.sums.specs.theorems.Products.{product_le}
-use Rattle.median_tree.specs.lemmas.Outcomes.{refused_list_lem, trees_told, trees_few, edges_few, short_work, ready, nearest_found}
+use Rattle.median_tree.proofs.lemmas.Outcomes.{refused_list_lem, trees_told, trees_few, edges_few, short_work, ready, nearest_found}
 use Rattle.median_tree.proofs.median.nearest.Goals.{After-clear-arg-1}
 use Rattle.median_tree.proofs.median.nearest.Goals as goal
 

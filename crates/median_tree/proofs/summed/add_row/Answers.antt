@@ -4,9 +4,9 @@ use Prim.Native.Nat.{◌<◌}
 use native.Mathlib.Omega.{arith}
 use borrow.Author.Rules.{Fits-under}
 use lib.ListN.{length}
-use Rattle.median_tree.specs.lemmas.SameCells.{same_now, same_then}
-use Rattle.median_tree.specs.lemmas.RowSums.{own_fits, other_fits, added, row_done}
-use Rattle.median_tree.specs.lemmas.Distances.{ready_still}
+use Rattle.median_tree.proofs.lemmas.SameCells.{same_now, same_then}
+use Rattle.median_tree.proofs.lemmas.RowSums.{own_fits, other_fits, added, row_done}
+use Rattle.median_tree.proofs.lemmas.Distances.{ready_still}
 use Rattle.median_tree.proofs.summed.add_row.Goals.{After-slice_known-in-loop-j-1}
 use Rattle.median_tree.proofs.summed.add_row.Goals as goal
 

@@ -2,9 +2,9 @@
 -- Assumes nothing.
 use mathlib.Core.Path.{◌≡◌}
 use native.Mathlib.Omega.{arith}
-use Rattle.median_tree.specs.lemmas.SameCells.{same_now, same_then}
-use Rattle.median_tree.specs.lemmas.RowSums.{sums_none}
-use Rattle.median_tree.specs.lemmas.Distances.{ready_still}
+use Rattle.median_tree.proofs.lemmas.SameCells.{same_now, same_then}
+use Rattle.median_tree.proofs.lemmas.RowSums.{sums_none}
+use Rattle.median_tree.proofs.lemmas.Distances.{ready_still}
 use Rattle.median_tree.proofs.summed.all_sums.Goals as goal
 
 pub loop-i-init : goal.loop-i-init

@@ -1,7 +1,7 @@
 -- The distance of the quartet table with every label kept.
 -- Assumes nothing.
-use Rattle.marks.specs.theorems.Ones.{ones}
-use Rattle.median_tree.specs.lemmas.Distances.{marks_fit, marks_lent, told_distance}
+use Rattle.marks.proofs.theorems.Ones.{ones}
+use Rattle.median_tree.proofs.lemmas.Distances.{marks_fit, marks_lent, told_distance}
 use Rattle.median_tree.proofs.summed.between.Goals as goal
 
 pub slice_bounds-marks-end : goal.slice_bounds-marks-end

@@ -2,7 +2,7 @@
 -- Assumes nothing.
 use mathlib.Core.Path.{◌≡◌}
 use native.Mathlib.Omega.{arith}
-use Rattle.median_tree.specs.lemmas.RowSums.{least_none, least_takes, least_keeps}
+use Rattle.median_tree.proofs.lemmas.RowSums.{least_none, least_takes, least_keeps}
 use Rattle.median_tree.proofs.summed.first_least.Goals.{else-sums-i, then-sums-i}
 use Rattle.median_tree.proofs.summed.first_least.Goals as goal
 

@@ -7,8 +7,8 @@ use native.Mathlib.Omega.{arith}
 use lib.ListN.{length, take, drop}
 use Rattle.tree_check.specs.Table.{word}
 use Rattle.tree_lists.specs.TreeLists.{trees_of, tree_at}
-use Rattle.tree_lists.specs.lemmas.Starts.{from_to, to_end, lent_tree}
-use Rattle.median_tree.specs.lemmas.Distances.{pair_ready, told_apart}
+use Rattle.tree_lists.proofs.lemmas.Starts.{from_to, to_end, lent_tree}
+use Rattle.median_tree.proofs.lemmas.Distances.{pair_ready, told_apart}
 use Rattle.median_tree.proofs.summed.pair_distance.Goals.{After-slice_known-1}
 use Rattle.median_tree.proofs.summed.pair_distance.Goals as goal
 

@@ -3,7 +3,7 @@
 use mathlib.Core.Path.{refl}
 use Rattle.counting.specs.declared.Case.TheVariants.{A, B, C, D, E}
 use Rattle.one_label.specs.Changes.{total_of}
-use Rattle.one_label.specs.lemmas.Changed.{above}
+use Rattle.one_label.proofs.lemmas.Changed.{above}
 use Rattle.one_label.proofs.changes.adds_up.Goals as goal
 
 pub returns-then-all-counts : goal.returns-then-all-counts

@@ -10,8 +10,8 @@ use Rattle.marks.specs.Marks.{is_kept, kept_of}
 use Rattle.one_label.specs.FiveAnswers.{counts_of}
 use Rattle.one_label.specs.Changes.{restores, total_of, overdrawn}
 use Rattle.one_label.specs.lemmas.LabelCheck.{LabelFound}
-use Rattle.one_label.specs.lemmas.Changed.{label_refused, mark_refused, total_refused, draw_refused, change_accepted, all_fit, fours_few}
-use Rattle.one_label.specs.lemmas.Changed.{told_same, told_total, told_draw, kept_fits, total_fits, marks_changed}
+use Rattle.one_label.proofs.lemmas.Changed.{label_refused, mark_refused, total_refused, draw_refused, change_accepted, all_fit, fours_few}
+use Rattle.one_label.proofs.lemmas.Changed.{told_same, told_total, told_draw, kept_fits, total_fits, marks_changed}
 use Rattle.one_label.proofs.changes.change_mark.Goals.{After-adds_up, After-overdraws, After-restores-restore, After-same}
 use Rattle.one_label.proofs.changes.change_mark.Goals as goal
 

@@ -1,7 +1,7 @@
 -- Count by count.
 -- Assumes nothing.
 use Rattle.counting.specs.declared.Case.TheVariants.{A, B, C, D, E}
-use Rattle.one_label.specs.lemmas.Changed.{five_same}
+use Rattle.one_label.proofs.lemmas.Changed.{five_same}
 use Rattle.one_label.proofs.changes.changed.Goals as goal
 
 pub new_count-requires : goal.new_count-requires

@@ -1,7 +1,7 @@
 -- Case by case.
 -- Assumes nothing.
 use Rattle.counting.specs.declared.Case.TheVariants.{A, B, C, D}
-use Rattle.one_label.specs.lemmas.Changed.{draws_nothing, draws_at, draws_last}
+use Rattle.one_label.proofs.lemmas.Changed.{draws_nothing, draws_at, draws_last}
 use Rattle.one_label.proofs.changes.overdraws.Goals as goal
 
 pub returns-then-restore : goal.returns-then-restore

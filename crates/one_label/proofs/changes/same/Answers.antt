@@ -1,6 +1,6 @@
 -- Two cases.
 -- Assumes nothing.
-use Rattle.one_label.specs.lemmas.Changed.{same_if, same_unless}
+use Rattle.one_label.proofs.lemmas.Changed.{same_if, same_unless}
 use Rattle.one_label.proofs.changes.same.Goals as goal
 
 pub returns-then-x : goal.returns-then-x

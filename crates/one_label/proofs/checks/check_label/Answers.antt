@@ -7,7 +7,8 @@ use Rattle.tree_check.specs.Refusals.{refusal}
 use Rattle.marks.specs.Marks.{kept_of, marks_order}
 use Rattle.pair_check.specs.lemmas.PairOutcomes.{check_says, pair_passed}
 use Rattle.kept_triplets.specs.lemmas.Formed.{marks-number}
-use Rattle.one_label.specs.lemmas.LabelCheck.{LabelTold, tables_turned, marks_turned, label_turned, label_found, kept_told}
+use Rattle.one_label.specs.lemmas.LabelCheck.{LabelTold}
+use Rattle.one_label.proofs.lemmas.LabelCheck.{tables_turned, marks_turned, label_turned, label_found, kept_told}
 use Rattle.one_label.proofs.checks.check_label.Goals as goal
 
 pub returns-in_default : goal.returns-in_default

@@ -3,7 +3,7 @@
 use mathlib.Core.Path.{◌≡◌}
 use native.Mathlib.Omega.{arith}
 use lib.ListN.{length}
-use Rattle.one_label.specs.lemmas.HeldCounts.{copied_none, copied_next, marks-exchanged}
+use Rattle.one_label.proofs.lemmas.HeldCounts.{copied_none, copied_next, marks-exchanged}
 use Rattle.one_label.proofs.held.exchanged_marks.Goals as goal
 
 pub loop-y-init : goal.loop-y-init

@@ -8,7 +8,8 @@ use lib.Seq.{length-take-le}
 use Rattle.tree_check.specs.Table.{Table}
 use Rattle.kept_triplets.specs.KeptAnswer.{kept_answer}
 use Rattle.rerooting.specs.lemmas.Front.{front_is, front_length, words_fit}
-use Rattle.one_label.specs.lemmas.HeldCounts.{MarksExchanged, held_are}
+use Rattle.one_label.specs.lemmas.HeldCounts.{MarksExchanged}
+use Rattle.one_label.proofs.lemmas.HeldCounts.{held_are}
 use Rattle.one_label.proofs.held.held_counts.Goals as goal
 
 pub slice_bounds-kept_triplets-end : goal.slice_bounds-kept_triplets-end

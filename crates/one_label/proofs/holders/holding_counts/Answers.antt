@@ -1,7 +1,7 @@
 -- Two outcomes.
 -- Assumes nothing.
 use mathlib.Core.Path.{◌∙◌}
-use Rattle.one_label.specs.lemmas.LabelCheck.{held_refused, held_answered}
+use Rattle.one_label.proofs.lemmas.LabelCheck.{held_refused, held_answered}
 use Rattle.one_label.proofs.holders.holding_counts.Goals as goal
 
 pub returns-then-number-ne0 : goal.returns-then-number-ne0

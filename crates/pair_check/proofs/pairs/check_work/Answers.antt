@@ -6,7 +6,7 @@ use Rattle.tree_check.specs.Table.{tips, nodes}
 use Rattle.tree_check.specs.Refusals.{refusal}
 use Rattle.marks.specs.Marks.{kept_of, marks_order, AreMarks}
 use Rattle.pair_check.specs.PairOrder.{IsPair}
-use Rattle.marks.specs.lemmas.MarkOutcomes.{marks_say}
+use Rattle.marks.proofs.lemmas.MarkOutcomes.{marks_say}
 use Rattle.pair_check.specs.lemmas.PairOutcomes.{pair_passed, check_says, tables_refused_first, marks_refused}
 use Rattle.pair_check.specs.lemmas.PairOutcomes.{work_turned_away, work_measured, product_fits}
 use Rattle.pair_check.proofs.pairs.check_work.Goals.{After-check_marks-told, In-Pair}

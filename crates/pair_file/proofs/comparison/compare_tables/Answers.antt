@@ -5,7 +5,7 @@ use Prim.Native.Nat.{◌≤◌}
 use native.Mathlib.Omega.{arith}
 use Rattle.table_words.specs.Sizes.{tips_most}
 use Rattle.tree_check.specs.Table.{tips}
-use Rattle.marks.specs.theorems.Ones.{ones}
+use Rattle.marks.proofs.theorems.Ones.{ones}
 use Rattle.pair_check.specs.PairOrder.{PairWithCells}
 use Rattle.pair_check.specs.lemmas.PairOutcomes.{cells_says, cells_passed}
 use Rattle.pair_file.specs.PairFile.{cells_lent}

@@ -3,7 +3,7 @@
 use mathlib.Core.Path.{◌∙◌, ap}
 use native.Mathlib.Omega.{arith}
 use Rattle.sums.specs.Fours.{fours}
-use Rattle.quartets.specs.lemmas.FormedTable.{rest_fits, table_formed}
+use Rattle.quartets.proofs.lemmas.FormedTable.{rest_fits, table_formed}
 use Rattle.quartets.proofs.tables.form_table.Goals as goal
 
 pub overflow_sub-c : goal.overflow_sub-c

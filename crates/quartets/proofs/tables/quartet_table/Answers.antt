@@ -6,8 +6,8 @@ use Rattle.tree_check.specs.Table.{tips}
 use Rattle.marks.specs.Marks.{kept_of}
 use Rattle.pair_check.specs.PairOrder.{MarkedPair}
 use Rattle.pair_check.specs.lemmas.PairOutcomes.{work_says, work_passed}
-use Rattle.tree_pairs.specs.lemmas.LentTables.{crossings_refused}
-use Rattle.quartets.specs.lemmas.FormedTable.{sums_fit, table_counts_lem, table_refused, answer_has}
+use Rattle.tree_pairs.proofs.lemmas.LentTables.{crossings_refused}
+use Rattle.quartets.proofs.lemmas.FormedTable.{sums_fit, table_counts_lem, table_refused, answer_has}
 use Rattle.quartets.proofs.tables.quartet_table.Goals.{After-claim_sums-arg-1}
 use Rattle.quartets.proofs.tables.quartet_table.Goals as goal
 

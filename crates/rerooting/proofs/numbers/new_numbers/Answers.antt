@@ -3,7 +3,7 @@
 use mathlib.Core.Path.{◌≡◌}
 use Prim.Native.Nat.{suc, ◌+◌}
 use native.Mathlib.Omega.{arith}
-use Rattle.shapes.specs.theorems.AncestorLaws.{parent-lt}
+use Rattle.shapes.proofs.theorems.AncestorLaws.{parent-lt}
 use Rattle.rerooting.specs.lemmas.Renumbering.{path_first, path_low, path_in, path_next, path_ends, off_low, off_take, off_skip, off_all}
 use Rattle.rerooting.proofs.numbers.new_numbers.Goals.{else-news-w-eq-NODES, then-news-w-eq-NODES}
 use Rattle.rerooting.proofs.numbers.new_numbers.Goals as goal

@@ -8,7 +8,7 @@ use lib.ListN.{length}
 use Rattle.sums.specs.theorems.TestLaws.{some-true, some-false}
 use Rattle.table_words.specs.lemmas.Rooms.{work_room}
 use Rattle.splits.specs.lemmas.SplitCells.{half_row}
-use Rattle.splits.specs.lemmas.SplitLoops.{size_room}
+use Rattle.splits.proofs.lemmas.SplitLoops.{size_room}
 use Rattle.splits.proofs.cells.has_half.Goals.{After-are_halves, In-loop-k}
 use Rattle.splits.proofs.cells.has_half.Goals as goal
 

@@ -4,7 +4,7 @@ use mathlib.Core.Path.{refl, sym, ◌∙◌}
 use native.Mathlib.Omega.{arith}
 use borrow.Author.Tests.{not-true}
 use Rattle.splits.specs.lemmas.SplitCells.{common_row}
-use Rattle.splits.specs.lemmas.SplitLoops.{row_room}
+use Rattle.splits.proofs.lemmas.SplitLoops.{row_room}
 use Rattle.std.proofs.Common.{ap}
 use Rattle.std.specs.Prelude.{not}
 use Rattle.splits.proofs.cells.is_common.Goals as goal

@@ -5,9 +5,10 @@ use mathlib.Core.Bool.{not}
 use Prim.Native.Nat.{ℕ, ◌-◌}
 use native.Mathlib.Omega.{arith}
 use lib.ListN.{length}
-use Rattle.tree_pairs.specs.lemmas.EdgeRows.{parent-word, EdgeCells, edge-cells}
+use Rattle.tree_pairs.specs.lemmas.EdgeRows.{EdgeCells}
+use Rattle.tree_pairs.proofs.lemmas.EdgeRows.{parent-word, edge-cells}
 use Rattle.splits.specs.lemmas.SplitCells.{new_edge}
-use Rattle.splits.specs.lemmas.SplitLoops.{not_new, new_without_half, new_by_half}
+use Rattle.splits.proofs.lemmas.SplitLoops.{not_new, new_without_half, new_by_half}
 use Rattle.splits.proofs.cells.is_first.Goals.{After-as_index-up, After-has_half}
 use Rattle.splits.proofs.cells.is_first.Goals as goal
 

@@ -1,6 +1,6 @@
 -- The three counts, and the distance from them.
 -- Assumes nothing.
-use Rattle.splits.specs.lemmas.SplitsCounted.{counted_is}
+use Rattle.splits.proofs.lemmas.SplitsCounted.{counted_is}
 use Rattle.splits.proofs.counts.count_splits.Goals as goal
 
 pub returns : goal.returns

@@ -9,8 +9,8 @@ use Rattle.tree_check.specs.Table.{tips, nodes}
 use Rattle.marks.specs.Marks.{kept_of}
 use Rattle.pair_check.specs.PairOrder.{MarkedPair}
 use Rattle.pair_check.specs.lemmas.PairOutcomes.{work_says, work_passed, edges_some}
-use Rattle.tree_pairs.specs.lemmas.LentTables.{nodes_are, lent_words}
-use Rattle.splits.specs.lemmas.SplitsCounted.{split_refused, lent_countable, lent_splits}
+use Rattle.tree_pairs.proofs.lemmas.LentTables.{nodes_are, lent_words}
+use Rattle.splits.proofs.lemmas.SplitsCounted.{split_refused, lent_countable, lent_splits}
 use Rattle.splits.proofs.counts.split_counts.Goals.{In-Pair}
 use Rattle.splits.proofs.counts.split_counts.Goals as goal
 

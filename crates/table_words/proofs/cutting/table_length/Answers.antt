@@ -1,7 +1,7 @@
 -- The three ways to cut, each the outcome of a law.
 -- Assumes nothing.
 use native.Mathlib.Omega.{arith}
-use Rattle.table_words.specs.lemmas.CutWords.{length_few, length_short, length_whole}
+use Rattle.table_words.proofs.lemmas.CutWords.{length_few, length_short, length_whole}
 use Rattle.table_words.proofs.cutting.table_length.Goals as goal
 
 pub returns-then-words-lt2 : goal.returns-then-words-lt2

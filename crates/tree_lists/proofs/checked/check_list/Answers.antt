@@ -6,8 +6,8 @@ use Prim.Native.Nat.{◌≤◌}
 use native.Mathlib.Omega.{arith}
 use lib.ListN.{length}
 use Rattle.tree_lists.specs.TreeLists.{trees_most}
-use Rattle.tree_lists.specs.lemmas.Starts.{from_to, to_end}
-use Rattle.tree_lists.specs.lemmas.Outcomes.{number_right, wrong_number, wrong_trees, left_over, measured}
+use Rattle.tree_lists.proofs.lemmas.Starts.{from_to, to_end}
+use Rattle.tree_lists.proofs.lemmas.Outcomes.{number_right, wrong_number, wrong_trees, left_over, measured}
 use Rattle.tree_lists.proofs.checked.check_list.Goals.{After-is_few}
 use Rattle.tree_lists.proofs.checked.check_list.Goals as goal
 

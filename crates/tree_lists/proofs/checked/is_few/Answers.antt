@@ -1,7 +1,7 @@
 -- Two comparisons.
 -- Assumes nothing.
 use native.Mathlib.Omega.{arith}
-use Rattle.tree_lists.specs.lemmas.Starts.{too_few, few_enough}
+use Rattle.tree_lists.proofs.lemmas.Starts.{too_few, few_enough}
 use Rattle.tree_lists.proofs.checked.is_few.Goals as goal
 
 pub returns-then-k-lt2 : goal.returns-then-k-lt2

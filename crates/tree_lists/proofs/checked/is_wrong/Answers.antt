@@ -2,7 +2,7 @@
 -- Assumes nothing.
 use mathlib.Core.Path.{sym, ◌∙◌}
 use Rattle.tree_check.specs.theorems.CheckLaws.{checked_accepted, checked-refusal}
-use Rattle.tree_lists.specs.lemmas.Starts.{refused_wrong, tips_wrong}
+use Rattle.tree_lists.proofs.lemmas.Starts.{refused_wrong, tips_wrong}
 use Rattle.tree_lists.proofs.checked.is_wrong.Goals as goal
 
 pub returns-in_default : goal.returns-in_default

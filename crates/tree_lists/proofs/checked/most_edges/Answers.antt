@@ -4,7 +4,7 @@ use mathlib.Core.Path.{◌≡◌}
 use Prim.Native.Nat.{◌+◌, ◌-◌, ◌≤◌}
 use native.Mathlib.Omega.{arith}
 use Rattle.tree_lists.specs.TreeLists.{tree_at}
-use Rattle.tree_lists.specs.lemmas.Starts.{from_to, to_end, lent_tree, told_edges, largest_none, largest_more, largest_same}
+use Rattle.tree_lists.proofs.lemmas.Starts.{from_to, to_end, lent_tree, told_edges, largest_none, largest_more, largest_same}
 use lib.ListN.{length, take, drop}
 use Rattle.tree_check.specs.Table.{word}
 use Rattle.tree_lists.proofs.checked.most_edges.Goals.{else-most-edges, then-most-edges, In-loop-i}

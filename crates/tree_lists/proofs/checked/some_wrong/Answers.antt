@@ -6,7 +6,7 @@ use native.Mathlib.Omega.{arith}
 use borrow.Author.Count.{below_more}
 use Rattle.sums.specs.theorems.TestLaws.{some-true, some-false}
 use Rattle.tree_lists.specs.TreeLists.{tree_at}
-use Rattle.tree_lists.specs.lemmas.Starts.{from_to, to_end, lent_tree, told_wrong}
+use Rattle.tree_lists.proofs.lemmas.Starts.{from_to, to_end, lent_tree, told_wrong}
 use lib.ListN.{length, take, drop}
 use Rattle.tree_check.specs.Table.{word}
 use Rattle.tree_lists.proofs.checked.some_wrong.Goals.{In-loop-i}

@@ -4,8 +4,8 @@ use mathlib.Core.Path.{◌≡◌}
 use Prim.Native.Nat.{◌≤◌}
 use native.Mathlib.Omega.{arith}
 use lib.ListN.{length}
-use Rattle.tree_lists.specs.theorems.ListLaws.{start_inside}
-use Rattle.tree_lists.specs.lemmas.Starts.{starts_first, starts_next, start_after, first-start}
+use Rattle.tree_lists.proofs.theorems.ListLaws.{start_inside}
+use Rattle.tree_lists.proofs.lemmas.Starts.{starts_first, starts_next, start_after, first-start}
 use Rattle.tree_lists.proofs.cut.starts_of.Goals.{At-loop-i}
 use Rattle.tree_lists.proofs.cut.starts_of.Goals as goal
 

@@ -5,7 +5,7 @@ use lib.ListN.{length}
 use Rattle.tree_check.specs.Refusals.{refusal}
 use Rattle.pair_check.specs.PairOrder.{cells_order, PairWithCells}
 use Rattle.pair_check.specs.theorems.PairCheck.{cells_check}
-use Rattle.tree_pairs.specs.lemmas.LentTables.{all_accepted, all_refused}
+use Rattle.tree_pairs.proofs.lemmas.LentTables.{all_accepted, all_refused}
 use Rattle.tree_pairs.proofs.crosses.cross_all.Goals.{After-pair_refusal}
 use Rattle.tree_pairs.proofs.crosses.cross_all.Goals as goal
 

@@ -5,7 +5,7 @@ use lib.ListN.{length}
 use Rattle.tree_check.specs.Refusals.{refusal}
 use Rattle.pair_check.specs.PairOrder.{pair_order, MarkedPair}
 use Rattle.pair_check.specs.theorems.PairCheck.{pair_check}
-use Rattle.tree_pairs.specs.lemmas.LentTables.{crossings_accepted, crossings_refused}
+use Rattle.tree_pairs.proofs.lemmas.LentTables.{crossings_accepted, crossings_refused}
 use Rattle.tree_pairs.proofs.crosses.cross_pair.Goals.{After-pair_refusal}
 use Rattle.tree_pairs.proofs.crosses.cross_pair.Goals as goal
 

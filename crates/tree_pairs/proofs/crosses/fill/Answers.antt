@@ -4,7 +4,7 @@ use mathlib.Core.Path.{◌≡◌}
 use Prim.Native.Nat.{◌+◌, ◌*◌}
 use native.Mathlib.Omega.{arith}
 use lib.ListN.{length}
-use Rattle.tree_pairs.specs.lemmas.LentTables.{lent_length, lent_arrays, lent_crossed}
+use Rattle.tree_pairs.proofs.lemmas.LentTables.{lent_length, lent_arrays, lent_crossed}
 use Rattle.tree_pairs.proofs.crosses.fill.Goals.{After-as_index-m}
 use Rattle.tree_pairs.proofs.crosses.fill.Goals as goal
 

@@ -1,8 +1,8 @@
 -- Marks of 1 keep every label.
 -- Assumes nothing.
 use mathlib.Core.Path.{◌∙◌}
-use Rattle.marks.specs.theorems.Ones.{ones}
-use Rattle.tree_pairs.specs.lemmas.AllLabels.{crossed-ones}
+use Rattle.marks.proofs.theorems.Ones.{ones}
+use Rattle.tree_pairs.proofs.lemmas.AllLabels.{crossed-ones}
 use Rattle.tree_pairs.proofs.crosses.fill_all.Goals as goal
 
 pub returns : goal.returns

@@ -9,7 +9,7 @@ use Rattle.tree_check.specs.Table.{word, nodes}
 use Rattle.walks.specs.theorems.SpanLaws.{SpansOf}
 use Rattle.tree_pairs.specs.lemmas.TipRows.{TipRoom, TipRows}
 use Rattle.tree_pairs.specs.lemmas.RowsUp.{Room, RowsAdded}
-use Rattle.tree_pairs.specs.lemmas.Filling.{to_width, of_width, sizes, listed, tip_room, rows_room, filled}
+use Rattle.tree_pairs.proofs.lemmas.Filling.{to_width, of_width, sizes, listed, tip_room, rows_room, filled}
 use Rattle.tree_pairs.proofs.crosses.fill_arrays.Goals.{After-add_rows-arg-1, After-as_index-width, After-tip_rows-arg-1}
 use Rattle.tree_pairs.proofs.crosses.fill_arrays.Goals as goal
 

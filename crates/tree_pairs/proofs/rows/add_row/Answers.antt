@@ -5,7 +5,7 @@ use native.Mathlib.Omega.{arith}
 use lib.ListN.{length}
 use Rattle.table_words.specs.Sizes.{node_room}
 use Rattle.table_words.specs.lemmas.Rooms.{work_room}
-use Rattle.tree_pairs.specs.lemmas.Rows.{row_none, row_all, row_room, row_fits, row_next}
+use Rattle.tree_pairs.proofs.lemmas.Rows.{row_none, row_all, row_room, row_fits, row_next}
 use Rattle.tree_pairs.proofs.rows.add_row.Goals.{In-loop-j}
 use Rattle.tree_pairs.proofs.rows.add_row.Goals as goal
 

@@ -4,7 +4,7 @@ use Prim.Native.Nat.{ℕ, ◌-◌, ◌≤◌, ◌<◌}
 use native.Mathlib.Omega.{arith}
 use lib.ListN.{length, length-replicate}
 use Rattle.table_words.specs.Sizes.{node_room}
-use Rattle.tree_pairs.specs.lemmas.RowsUp.{rows_none, rows_all, rows_parent, rows_fit, rows_next}
+use Rattle.tree_pairs.proofs.lemmas.RowsUp.{rows_none, rows_all, rows_parent, rows_fit, rows_next}
 use Rattle.tree_pairs.proofs.rows.add_rows.Goals.{After-as_index-p}
 use Rattle.tree_pairs.proofs.rows.add_rows.Goals as goal
 

@@ -3,8 +3,8 @@
 use Prim.Native.Nat.{◌-◌}
 use mathlib.Core.Path.{refl}
 use native.Mathlib.Omega.{arith}
-use Rattle.tree_pairs.specs.lemmas.Listed.{listed_none, listed_next, listed_fewer}
-use Rattle.tree_pairs.specs.lemmas.RowsUp.{row_near}
+use Rattle.tree_pairs.proofs.lemmas.Listed.{listed_none, listed_next, listed_fewer}
+use Rattle.tree_pairs.proofs.lemmas.RowsUp.{row_near}
 use Rattle.tree_pairs.proofs.rows.row_starts.Goals as goal
 
 pub loop-v-init : goal.loop-v-init

@@ -4,7 +4,7 @@ use mathlib.Core.Path.{refl}
 use Prim.Native.Nat.{◌<◌, ◌+◌}
 use native.Mathlib.Omega.{arith}
 use lib.ListN.{length}
-use Rattle.tree_pairs.specs.lemmas.TipRows.{filled_none, filled_next, filled-all}
+use Rattle.tree_pairs.proofs.lemmas.TipRows.{filled_none, filled_next, filled-all}
 use Rattle.tree_pairs.proofs.rows_of_tips.empty_row.Goals.{In-loop-j}
 use Rattle.tree_pairs.proofs.rows_of_tips.empty_row.Goals as goal
 

@@ -5,7 +5,7 @@ use native.Mathlib.Omega.{arith}
 use lib.ListN.{length}
 use Rattle.table_words.specs.Sizes.{node_room}
 use Rattle.table_words.specs.lemmas.Rooms.{work_room}
-use Rattle.tree_pairs.specs.lemmas.TipRows.{filled_none, filled_next, filled-all}
+use Rattle.tree_pairs.proofs.lemmas.TipRows.{filled_none, filled_next, filled-all}
 use Rattle.tree_pairs.proofs.rows_of_tips.tip_row.Goals.{In-loop-j}
 use Rattle.tree_pairs.proofs.rows_of_tips.tip_row.Goals as goal
 

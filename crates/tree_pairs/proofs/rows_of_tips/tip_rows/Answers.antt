@@ -5,8 +5,9 @@ use mathlib.Core.Path.{◌≡◌, sym, ◌∙◌, ap}
 use mathlib.Core.Bool.{true}
 use native.Mathlib.Omega.{arith}
 use Rattle.table_words.specs.Sizes.{node_room}
-use Rattle.tree_pairs.specs.lemmas.TipRows.{counted_label, counted_inside, rows_none, base_low, row_room}
-use Rattle.tree_pairs.specs.lemmas.TipRows.{rows_tip, rows_empty, rows_all}
+use Rattle.tree_pairs.specs.lemmas.TipRows.{counted_label}
+use Rattle.tree_pairs.proofs.lemmas.TipRows.{counted_inside, rows_none, base_low, row_room}
+use Rattle.tree_pairs.proofs.lemmas.TipRows.{rows_tip, rows_empty, rows_all}
 use Rattle.tree_pairs.proofs.rows_of_tips.tip_rows.Goals.{else-is_counted, then-is_counted, After-is_counted, After-way_told-then-is_counted-1}
 use Rattle.tree_pairs.proofs.rows_of_tips.tip_rows.Goals as goal
 

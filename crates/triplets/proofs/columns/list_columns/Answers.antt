@@ -5,8 +5,8 @@ use Prim.Native.Nat.{ℕ, ◌+◌, ◌-◌, ◌<◌}
 use native.Mathlib.Omega.{arith}
 use lib.ListN.{length, length-set}
 use Rattle.table_words.specs.Sizes.{node_room}
-use Rattle.tree_pairs.specs.lemmas.EdgeRows.{parent-word}
-use Rattle.triplets.specs.lemmas.ListedColumns.{listed_none, listed_skip, listed_more}
+use Rattle.tree_pairs.proofs.lemmas.EdgeRows.{parent-word}
+use Rattle.triplets.proofs.lemmas.ListedColumns.{listed_none, listed_skip, listed_more}
 use Rattle.triplets.proofs.columns.list_columns.Goals.{else-cell_count-ge2, then-cell_count-ge2, In-loop-i}
 use Rattle.triplets.proofs.columns.list_columns.Goals as goal
 

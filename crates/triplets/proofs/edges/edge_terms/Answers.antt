@@ -6,9 +6,12 @@ use native.Mathlib.Omega.{arith}
 use lib.ListN.{length}
 use Rattle.sums.specs.theorems.SumLaws.{sum_step}
 use Rattle.shapes.specs.theorems.TripletCounts.{edge_term}
-use Rattle.tree_pairs.specs.lemmas.EdgeRows.{above_in, row_size, parent-word}
-use Rattle.triplets.specs.lemmas.EdgeSums.{edge_sum, sum-start, edge_term_most}
-use Rattle.triplets.specs.lemmas.EdgeSums.{EdgeSizes, edge_sizes, edges_low}
+use Rattle.tree_pairs.specs.lemmas.EdgeRows.{above_in, row_size}
+use Rattle.tree_pairs.proofs.lemmas.EdgeRows.{parent-word}
+use Rattle.triplets.specs.lemmas.EdgeSums.{edge_sum}
+use Rattle.triplets.proofs.lemmas.EdgeSums.{sum-start, edge_term_most}
+use Rattle.triplets.specs.lemmas.EdgeSums.{EdgeSizes}
+use Rattle.triplets.proofs.lemmas.EdgeSums.{edge_sizes, edges_low}
 use Rattle.triplets.proofs.edges.edge_terms.Goals.{After-as_index-above, After-edge_term-total}
 use Rattle.triplets.proofs.edges.edge_terms.Goals as goal
 

@@ -4,8 +4,8 @@ use mathlib.Core.Path.{ap}
 use Prim.Native.Nat.{ℕ, ◌+◌, ◌*◌, ◌-◌, ◌≤◌}
 use native.Mathlib.Omega.{arith}
 use Rattle.shapes.specs.theorems.TripletCounts.{alike_term}
-use Rattle.triplets.specs.lemmas.EdgeSums.{square_low, square_less}
-use Rattle.triplets.specs.lemmas.PairCells.{alike_most}
+use Rattle.triplets.proofs.lemmas.EdgeSums.{square_low, square_less}
+use Rattle.triplets.proofs.lemmas.PairCells.{alike_most}
 use Rattle.triplets.proofs.pairs.alike_term.Goals.{Start}
 use Rattle.triplets.proofs.pairs.alike_term.Goals as goal
 

@@ -4,7 +4,7 @@ use mathlib.Core.Path.{◌≡◌, ◌∙◌}
 use Prim.Native.Nat.{◌+◌}
 use Rattle.tree_check.specs.Table.{word}
 use Rattle.triplets.specs.lemmas.PairCells.{Nested}
-use Rattle.triplets.specs.lemmas.ListedRows.{nested_read, nested_parts, alike_read, apart_read}
+use Rattle.triplets.proofs.lemmas.ListedRows.{nested_read, nested_parts, alike_read, apart_read}
 use Rattle.triplets.proofs.pairs.cell_terms.Goals.{After-cell_count-w}
 use Rattle.triplets.proofs.pairs.cell_terms.Goals as goal
 

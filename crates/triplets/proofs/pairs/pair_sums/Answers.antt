@@ -1,6 +1,6 @@
 -- A second tree of few nodes has short lists, any other the long ones.
 -- Assumes nothing.
-use Rattle.triplets.specs.lemmas.ListedRows.{column_room}
+use Rattle.triplets.proofs.lemmas.ListedRows.{column_room}
 use Rattle.triplets.proofs.pairs.pair_sums.Goals as goal
 
 pub listed_sums-requires : goal.listed_sums-requires

@@ -6,9 +6,9 @@ use native.Mathlib.Omega.{arith}
 use lib.ListN.{length}
 use Rattle.sums.specs.Sum.{sum}
 use Rattle.sums.specs.theorems.SumLaws.{sum_step}
-use Rattle.triplets.specs.lemmas.EdgeSums.{sum-start}
+use Rattle.triplets.proofs.lemmas.EdgeSums.{sum-start}
 use Rattle.triplets.specs.lemmas.PairCells.{alike_row, triplets_apart_row, alike_sum, apart_sum}
-use Rattle.triplets.specs.lemmas.ListedRows.{row_low, rows_low}
+use Rattle.triplets.proofs.lemmas.ListedRows.{row_low, rows_low}
 use Rattle.triplets.proofs.pairs.pair_terms.Goals.{In-loop-i}
 use Rattle.triplets.proofs.pairs.pair_terms.Goals as goal
 

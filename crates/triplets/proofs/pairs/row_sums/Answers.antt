@@ -7,8 +7,8 @@ use lib.ListN.{length}
 use Rattle.table_words.specs.lemmas.Rooms.{work_room}
 use Rattle.tree_check.specs.Table.{word}
 use Rattle.tree_pairs.specs.lemmas.EdgeRows.{above_in}
-use Rattle.triplets.specs.lemmas.PairCells.{alike_row_none, apart_row-zero}
-use Rattle.triplets.specs.lemmas.ListedRows.{row_starts, row_cells_at, row_is}
+use Rattle.triplets.proofs.lemmas.PairCells.{alike_row_none, apart_row-zero}
+use Rattle.triplets.proofs.lemmas.ListedRows.{row_starts, row_cells_at, row_is}
 use Rattle.triplets.proofs.pairs.row_sums.Goals.{After-as_index, After-shared_slice_known-5-1}
 use Rattle.triplets.proofs.pairs.row_sums.Goals as goal
 

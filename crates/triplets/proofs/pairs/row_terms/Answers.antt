@@ -3,9 +3,10 @@
 use mathlib.Core.Path.{◌≡◌}
 use native.Mathlib.Omega.{arith}
 use Rattle.sums.specs.theorems.SumLaws.{sum_step}
-use Rattle.triplets.specs.lemmas.EdgeSums.{sum-start}
-use Rattle.triplets.specs.lemmas.PairCells.{alike_most, apart_most}
-use Rattle.triplets.specs.lemmas.ListedRows.{alike_listed, apart_listed, listed_low}
+use Rattle.triplets.proofs.lemmas.EdgeSums.{sum-start}
+use Rattle.triplets.proofs.lemmas.PairCells.{alike_most, apart_most}
+use Rattle.triplets.specs.lemmas.ListedRows.{alike_listed, apart_listed}
+use Rattle.triplets.proofs.lemmas.ListedRows.{listed_low}
 use Rattle.triplets.proofs.pairs.row_terms.Goals as goal
 
 -- ---- the needs

@@ -2,7 +2,7 @@
 -- Assumes nothing.
 use mathlib.Core.Path.{◌∙◌}
 use native.Mathlib.Omega.{arith}
-use Rattle.triplets.specs.lemmas.TripletsCounted.{sums_fit, counted_is}
+use Rattle.triplets.proofs.lemmas.TripletsCounted.{sums_fit, counted_is}
 use Rattle.triplets.proofs.tables.count_triplets.Goals as goal
 
 pub overflow_sub-second_parents : goal.overflow_sub-second_parents

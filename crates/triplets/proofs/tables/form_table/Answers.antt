@@ -1,6 +1,6 @@
 -- No subtraction goes below 0.
 -- Assumes nothing.
-use Rattle.triplets.specs.lemmas.FormedTriplets.{rest_fits, table_formed}
+use Rattle.triplets.proofs.lemmas.FormedTriplets.{rest_fits, table_formed}
 use Rattle.triplets.proofs.tables.form_table.Goals as goal
 
 pub overflow_sub-e-4 : goal.overflow_sub-e-4

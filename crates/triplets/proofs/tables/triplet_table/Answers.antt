@@ -8,9 +8,9 @@ use Rattle.table_words.specs.Sizes.{nodes_most}
 use Rattle.tree_check.specs.Table.{tips, nodes}
 use Rattle.pair_check.specs.PairOrder.{PairWithCells}
 use Rattle.pair_check.specs.lemmas.PairOutcomes.{cells_says, cells_passed, edges_some}
-use Rattle.tree_pairs.specs.lemmas.LentTables.{nodes_are, lent_words}
-use Rattle.triplets.specs.lemmas.TripletsCounted.{triplets_refused}
-use Rattle.triplets.specs.lemmas.LentTriplets.{lent_countable, lent_triplets}
+use Rattle.tree_pairs.proofs.lemmas.LentTables.{nodes_are, lent_words}
+use Rattle.triplets.proofs.lemmas.TripletsCounted.{triplets_refused}
+use Rattle.triplets.proofs.lemmas.LentTriplets.{lent_countable, lent_triplets}
 use Rattle.triplets.proofs.tables.triplet_table.Goals.{In-Pair}
 use Rattle.triplets.proofs.tables.triplet_table.Goals as goal
 

@@ -12,8 +12,8 @@ use Rattle.pair_check.specs.lemmas.PairOutcomes.{pair_passed, check_says}
 use Rattle.levels.specs.Levels.{is_visible, levels_order}
 use Rattle.levels.specs.theorems.LevelsCheck.{AreLevels}
 use Rattle.levels.specs.lemmas.LevelOutcomes.{levels_say}
-use Rattle.views.specs.lemmas.Marking.{marks_fit, marks-part, marks_are}
-use Rattle.views.specs.lemmas.ViewOutcomes.{tables_away, levels_away, room_away, accepted}
+use Rattle.views.proofs.lemmas.Marking.{marks_fit, marks-part, marks_are}
+use Rattle.views.proofs.lemmas.ViewOutcomes.{tables_away, levels_away, room_away, accepted}
 use Rattle.views.proofs.pairs.view.Goals.{After-as_index-n, After-check_levels-told, After-marks_for-marks}
 use Rattle.views.proofs.pairs.view.Goals as goal
 

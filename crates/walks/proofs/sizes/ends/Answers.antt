@@ -6,7 +6,7 @@ use Rattle.sums.specs.Bits.{bit}
 use Rattle.tree_check.specs.Table.{word}
 use Rattle.walks.specs.lemmas.TreeArrays.{few_nodes, rooted_parents}
 use Rattle.walks.specs.lemmas.Positions.{reached_first, reached_fits, reached_next, reached_all}
-use Rattle.shapes.specs.theorems.AncestorLaws.{parent-lt}
+use Rattle.shapes.proofs.theorems.AncestorLaws.{parent-lt}
 use Rattle.walks.proofs.sizes.ends.Goals.{After-as_index-p, After-own_label, In-loop-c}
 use Rattle.walks.proofs.sizes.ends.Goals as goal
 

@@ -1,7 +1,7 @@
 -- 30 exactly if there is no numerator.
 -- Assumes nothing.
 use mathlib.Core.Path.{sym, ◌∙◌}
-use Rattle.weights.specs.lemmas.WeightedOutcomes.{no_fraction, a_fraction}
+use Rattle.weights.proofs.lemmas.WeightedOutcomes.{no_fraction, a_fraction}
 use Rattle.weights.proofs.distances.fraction_refusal.Goals as goal
 
 pub returns-then-numerator_of-eq257 : goal.returns-then-numerator_of-eq257

@@ -5,8 +5,8 @@ use Prim.Native.Nat.{◌+◌, ◌≤◌}
 use native.Mathlib.Omega.{arith}
 use lib.ListN.{length}
 use Rattle.quartets.specs.QuartetAnswer.{DemandThree}
-use Rattle.tree_pairs.specs.lemmas.LentTables.{crossings_are}
-use Rattle.weights.specs.lemmas.WeightedOutcomes.{weighed_counts, fours_few}
+use Rattle.tree_pairs.proofs.lemmas.LentTables.{crossings_are}
+use Rattle.weights.proofs.lemmas.WeightedOutcomes.{weighed_counts, fours_few}
 use Rattle.weights.proofs.distances.weigh_table.Goals.{After-struct_known-1}
 use Rattle.weights.proofs.distances.weigh_table.Goals as goal
 

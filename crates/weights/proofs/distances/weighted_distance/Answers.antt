@@ -5,7 +5,7 @@ use lib.ListN.{length}
 use lib.Ieee.{of_bits}
 use Rattle.pair_check.specs.PairOrder.{MarkedPair}
 use Rattle.pair_check.specs.lemmas.PairOutcomes.{work_says, work_passed}
-use Rattle.weights.specs.lemmas.WeightedOutcomes.{pair_refused, fraction_refused, fraction_fits, weighed, weight_says}
+use Rattle.weights.proofs.lemmas.WeightedOutcomes.{pair_refused, fraction_refused, fraction_fits, weighed, weight_says}
 use Rattle.weights.proofs.distances.weighted_distance.Goals.{In-Pair}
 use Rattle.weights.proofs.distances.weighted_distance.Goals as goal
 

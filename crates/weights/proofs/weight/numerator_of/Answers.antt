@@ -7,7 +7,7 @@ use borrow.Author.Count.{below_more}
 use lib.Ieee.{Float, eq, of_bits}
 use Rattle.weights.specs.Weights.{over256, numerator_of}
 use Rattle.sums.specs.theorems.TestLaws.{first_found, first_none}
-use Rattle.weights.specs.lemmas.ExactProducts.{quotient}
+use Rattle.weights.proofs.lemmas.ExactProducts.{quotient}
 use Rattle.weights.proofs.weight.numerator_of.Goals as goal
 
 pub loop-k-init : goal.loop-k-init

@@ -1,8 +1,8 @@
 -- The sum and the product are exact.
 -- Assumes nothing.
 use mathlib.Core.Path.{refl}
-use Rattle.weights.specs.theorems.Fractions.{numerator_iff}
-use Rattle.weights.specs.lemmas.ExactProducts.{is_float, weigh_fraction}
+use Rattle.weights.proofs.theorems.Fractions.{numerator_iff}
+use Rattle.weights.proofs.lemmas.ExactProducts.{is_float, weigh_fraction}
 use Rattle.weights.proofs.weight.weigh.Goals as goal
 
 pub int_to_float-result : goal.int_to_float-result

@@ -1,0 +1,13 @@
+pub mod Branches
+pub mod Numbers
+pub mod Positions
+pub mod Over
+pub mod CopyTree
+pub mod CopyCanonical
+pub mod Clusters
+pub mod Partners
+pub mod OneCanonical
+pub mod Copies
+pub mod Figures
+pub mod TakenOutExists
+pub mod CopyExamples

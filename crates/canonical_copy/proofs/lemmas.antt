@@ -1,0 +1,9 @@
+pub mod Parents
+pub mod Ranks
+pub mod LeastBelow
+pub mod Staying
+pub mod ParentNumbers
+pub mod Writing
+pub mod RootedCopy
+pub mod KeptCopy
+pub mod Outcomes

@@ -1,0 +1,4 @@
+pub mod SameCells
+pub mod Distances
+pub mod RowSums
+pub mod Outcomes

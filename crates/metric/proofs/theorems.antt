@@ -1,0 +1,4 @@
+pub mod TreesExchanged
+pub mod Triangle
+pub mod IsMetric
+pub mod BelowHalf

@@ -1,0 +1,3 @@
+pub mod ChangeExamples
+pub mod ChangeLaws
+pub mod HoldingIsTriplets

@@ -1,0 +1,2 @@
+pub mod theorems
+pub mod lemmas

@@ -1,0 +1,2 @@
+pub mod AllMarksOne
+pub mod DemandThree

@@ -1,0 +1,6 @@
+pub mod AcceptedAnswers
+pub mod ThreeAnswers
+pub mod ExchangedAnswers
+pub mod ReplacedAnswers
+pub mod AnswersMetric
+pub mod BelowHalf

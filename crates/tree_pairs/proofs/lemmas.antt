@@ -1,0 +1,10 @@
+pub mod AllLabels
+pub mod CellSizes
+pub mod CrossingTotals
+pub mod EdgeRows
+pub mod Filling
+pub mod LentTables
+pub mod Listed
+pub mod Rows
+pub mod RowsUp
+pub mod TipRows

@@ -1,0 +1,7 @@
+pub mod EdgeSums
+pub mod FormedTriplets
+pub mod LentTriplets
+pub mod ListedColumns
+pub mod ListedRows
+pub mod PairCells
+pub mod TripletsCounted

@@ -1,0 +1,4 @@
+pub mod AllMarksOne
+pub mod BytesAsWords
+pub mod Fractions
+pub mod WeightedDistance
