@@ -9,5 +9,4 @@ pub mod Steps
 pub mod Walk
 pub mod Bounds
 pub mod ExchangedTables
-pub mod ExchangeExamples
 pub mod ExchangedTrees

@@ -1,2 +1,1 @@
-pub mod SequenceTheorem
 pub mod Sequences

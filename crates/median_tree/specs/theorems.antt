@@ -1,3 +1,2 @@
 pub mod LeastLaws
 pub mod NearestLaws
-pub mod NearestExamples

@@ -1,2 +1,1 @@
-pub mod ChangeExamples
 pub mod ChangeLaws

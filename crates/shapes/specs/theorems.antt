@@ -3,14 +3,12 @@ pub mod ClaimsOfAnEdge
 pub mod Counting
 pub mod DirectionLaws
 pub mod FourLabels
-pub mod LabelSums
 pub mod LowestAncestors
 pub mod Meeting
 pub mod OneCentre
 pub mod OrderedClaims
 pub mod PartedFours
 pub mod PathLaws
-pub mod RobinsonFoulds
 pub mod Shape
 pub mod Siblings
 pub mod SplitLaws

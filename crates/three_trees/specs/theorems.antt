@@ -2,4 +2,3 @@ pub mod ThreeAnswers
 pub mod ExchangedAnswers
 pub mod ReplacedAnswers
 pub mod AnswersMetric
-pub mod BelowHalf

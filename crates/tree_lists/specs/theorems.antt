@@ -1,2 +1,1 @@
 pub mod ListCheck
-pub mod ListExamples

@@ -11,16 +11,25 @@ use Rattle.tree_check.specs.IsTree.{IsTree}
 use Rattle.counting.specs.Labels.{Labels}
 use Rattle.counting.specs.theorems.LabelLaws.{Rising}
 use Rattle.counting.proofs.theorems.LabelLaws.{rising_of, number-le}
+use Rattle.counting.specs.ClaimSums.{S, S2, S3}
 use Rattle.counting.specs.declared.Case.{Case}
 use Rattle.counting.specs.declared.Case.TheVariants.{A, B, C, D, E}
 use Rattle.counting.specs.Cases.{quartets, distance}
+use Rattle.counting.specs.theorems.FiveFormulas.{FormulasCount}
 use Rattle.counting.proofs.theorems.FiveFormulas.{formulas-count}
 use Rattle.counting.specs.SplitCounts.{beyond_at, HaveSameSplits}
 use Rattle.counting.proofs.theorems.TreeShape.{shape_of}
 use Rattle.counting.proofs.theorems.CasesInShapes.{quartets_in_shapes}
 use Rattle.counting.specs.theorems.CountingTheorem.{ClaimCounts}
 use Rattle.counting.proofs.theorems.CountingTheorem.{claim_counts}
-use Rattle.counting.specs.theorems.QuartetTheorem.{FormulasOf, QuartetTheorem, formula_distance, table_distance}
+use Rattle.counting.specs.theorems.QuartetTheorem.{QuartetTheorem, formula_distance, table_distance}
+
+-- ---- the formulas give the counts
+
+-- of the sums of two tables
+abbrev FormulasOf : Labels → Table → Table → Type 0
+FormulasOf l t u = FormulasCount l.number (S l t) (S l u) (S2 l t u) (S3 l t u)
+    (quartets l t u A) (quartets l t u B) (quartets l t u C) (quartets l t u D) (quartets l t u E)
 
 -- ---- the zero rule over tables
 

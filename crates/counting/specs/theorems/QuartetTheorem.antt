@@ -9,7 +9,6 @@ use Rattle.counting.specs.declared.Case.{Case}
 use Rattle.counting.specs.declared.Case.TheVariants.{A, B, C, D, E}
 use Rattle.counting.specs.Cases.{quartets, distance}
 use Rattle.counting.specs.QuartetTable.{formula_a, formula_b, formula_c, formula_d, formula_e}
-use Rattle.counting.specs.theorems.FiveFormulas.{FormulasCount}
 use Rattle.counting.specs.SplitCounts.{HaveSameSplits}
 
 -- the distance B + C + D
@@ -63,8 +62,3 @@ pub record QuartetTheorem (l : Labels) (t u : Table) : Type 0 where
   -- the distance is 0 exactly if the two trees have the same splits
   pub distance_counts : table_distance l t u ≡ distance l t u
   pub distance_zero : (table_distance l t u ≡ 0) ↔ HaveSameSplits l t u
-
--- of the sums of two tables
-abbrev pub FormulasOf : Labels → Table → Table → Type 0
-FormulasOf l t u = FormulasCount l.number (S l t) (S l u) (S2 l t u) (S3 l t u)
-    (quartets l t u A) (quartets l t u B) (quartets l t u C) (quartets l t u D) (quartets l t u E)

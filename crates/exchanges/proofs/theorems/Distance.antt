@@ -19,7 +19,7 @@ use Rattle.exchanges.proofs.theorems.Products.{others2-sum, others3-sum, others2
 use Rattle.exchanges.proofs.theorems.Products.{others2-add, others3-add, product2, product3, pair_first, pair_last, pair_ends}
 use Rattle.exchanges.specs.theorems.Exchanged.{differ}
 use Rattle.exchanges.proofs.theorems.Exchanged.{exchanged, differ_symmetric, differ_sets}
-use Rattle.exchanges.specs.theorems.SetsChanged.{place_of, hangs}
+use Rattle.exchanges.specs.theorems.SetsChanged.{leaving_place, hangs}
 use Rattle.exchanges.proofs.theorems.SetsChanged.{hangs_none, neither_changes, both_change}
 use Rattle.exchanges.proofs.theorems.SetsChanged.{one_changes, y_as_x}
 
@@ -31,15 +31,15 @@ distance_in t x y two =
 module _ {n : ℕ} (t : Shape n) (x y : ℕ) where
   -- how many labels other than x and y leave the path from x to y at the node v
   unfoldable pub leaving_path : ℕ → ℕ
-  leaving_path v = sum_of_others n x y (λ a. is (place_of t x y a) v)
+  leaving_path v = sum_of_others n x y (λ a. is (leaving_place t x y a) v)
 
   -- how many leave it elsewhere
   unfoldable pub elsewhere : ℕ → ℕ
-  elsewhere v = sum_of_others n x y (λ a. ne (place_of t x y a) v)
+  elsewhere v = sum_of_others n x y (λ a. ne (leaving_place t x y a) v)
 
   -- how many ordered pairs of them, a label and itself included, hang in one subtree at v
   unfoldable pub in_one_subtree : ℕ → ℕ
-  in_one_subtree v = others2 n x y (λ a b. is (place_of t x y a) v * hangs t x y a b)
+  in_one_subtree v = others2 n x y (λ a b. is (leaving_place t x y a) v * hangs t x y a b)
 
   -- how many labels there are beside x and y
   abbrev pub other_labels : ℕ
@@ -48,15 +48,15 @@ module _ {n : ℕ} (t : Shape n) (x y : ℕ) where
   pub leaving_elsewhere : (v : ℕ) → leaving_path v + elsewhere v ≡ other_labels
   unfolding leaving_path elsewhere
   leaving_elsewhere v =
-      sym (others-add n x y (λ a. is (place_of t x y a) v) (λ a. ne (place_of t x y a) v))
-      ∙ others_cong n x y (λ a. is_ne (place_of t x y a) v)
+      sym (others-add n x y (λ a. is (leaving_place t x y a) v) (λ a. ne (leaving_place t x y a) v))
+      ∙ others_cong n x y (λ a. is_ne (leaving_place t x y a) v)
 
   module _ (two : Two n x y) where
     abbrev K : ℕ
     K = suc t.edges
 
     abbrev at : ℕ → ℕ
-    at a = place_of t x y a
+    at a = leaving_place t x y a
 
     abbrev changed : ℕ → ℕ → ℕ → ℕ → ℕ
     changed a b c d = differ t (exchanged t x y two) a b c d

@@ -21,7 +21,7 @@ use Rattle.shapes.proofs.theorems.Shape.{behind_in}
 use Rattle.shapes.proofs.theorems.Counting.{size_in}
 use Rattle.exchanges.specs.theorems.Others.{Two, Other, others2}
 use Rattle.exchanges.proofs.theorems.Others.{others_ext, others_none}
-use Rattle.exchanges.specs.theorems.SetsChanged.{place_of, hangs}
+use Rattle.exchanges.specs.theorems.SetsChanged.{leaving_place, hangs}
 use Rattle.exchanges.proofs.theorems.Distance.{leaving_path, elsewhere, in_one_subtree, other_labels, taken, distance_in, six_distances}
 use Rattle.exchanges.specs.theorems.Turns.{squares_into, Turn}
 use Rattle.exchanges.proofs.theorems.Turns.{leaving_sizes, elsewhere_sizes, together_sizes}
@@ -129,7 +129,7 @@ module _ {n : ℕ} (t : Shape n) where
 
 module _ {n : ℕ} (t : Shape n) (x y : ℕ) (two : Two n x y) where
   abbrev at : ℕ → ℕ
-  at a = place_of t x y a
+  at a = leaving_place t x y a
 
   nx : t.node x ≤ t.edges
   nx = t.node_le x two.lx

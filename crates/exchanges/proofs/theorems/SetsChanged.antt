@@ -32,7 +32,7 @@ use Rattle.exchanges.proofs.theorems.Exchanged.{exchanged, exchanged_butterfly_l
 use Rattle.exchanges.proofs.theorems.PathOrder.{ahead_clash, ahead_off, off_ahead}
 use Rattle.exchanges.specs.theorems.ThreeNodes.{AllAlike}
 use Rattle.exchanges.proofs.theorems.ThreeNodes.{hang_off, third_unlike, joined_alike, apart_unlike}
-use Rattle.exchanges.specs.theorems.SetsChanged.{hangs, place_of}
+use Rattle.exchanges.specs.theorems.SetsChanged.{hangs, leaving_place}
 
 -- ---- two shapes
 
@@ -64,7 +64,7 @@ module _ {n : ℕ} (t : Shape n) (x y : ℕ) (two : Two n x y) where
   changed a b c d = differ t (exchanged t x y two) a b c d
 
   abbrev at : ℕ → ℕ
-  at a = place_of t x y a
+  at a = leaving_place t x y a
 
   abbrev up : ℕ → ℕ
   up v = t.up v

@@ -29,13 +29,13 @@ use Rattle.exchanges.specs.theorems.Others.{Two, Other, sum_of_others, others2}
 use Rattle.exchanges.proofs.theorems.Others.{others_ext, others_cong, others-add, others-count, sum_parts_lem}
 use Rattle.exchanges.proofs.theorems.Others.{others-mul_left}
 use Rattle.exchanges.proofs.theorems.Products.{others2-sum, others2_ext}
-use Rattle.exchanges.specs.theorems.SetsChanged.{place_of, hangs}
+use Rattle.exchanges.specs.theorems.SetsChanged.{leaving_place, hangs}
 use Rattle.exchanges.proofs.theorems.Distance.{leaving_path, elsewhere, in_one_subtree, leaving_elsewhere}
 use Rattle.exchanges.specs.theorems.Turns.{Turn, squares_into}
 
 module _ {n : ℕ} (t : Shape n) (x y : ℕ) (two : Two n x y) where
   abbrev at : ℕ → ℕ
-  at a = place_of t x y a
+  at a = leaving_place t x y a
 
   abbrev bits : ℕ → ℕ → ℕ
   bits g a = bit (behind_in t g a)

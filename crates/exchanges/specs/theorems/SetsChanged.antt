@@ -7,8 +7,8 @@ use Rattle.shapes.proofs.theorems.Shape.{butterfly_in}
 use Rattle.exchanges.specs.theorems.PathOrder.{off}
 
 -- the node where the way to the label a leaves the path from x to y
-abbrev pub place_of : {n : ℕ} → Shape n → ℕ → ℕ → ℕ → ℕ
-place_of t x y a = off t.up t.edges (t.node x) (t.node y) (t.node a)
+abbrev pub leaving_place : {n : ℕ} → Shape n → ℕ → ℕ → ℕ → ℕ
+leaving_place t x y a = off t.up t.edges (t.node x) (t.node y) (t.node a)
 
 -- 1 if the labels a and b hang in one subtree off the path from x to y
 abbrev pub hangs : {n : ℕ} → Shape n → ℕ → ℕ → ℕ → ℕ → ℕ

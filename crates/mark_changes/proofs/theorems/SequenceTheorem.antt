@@ -22,13 +22,15 @@ use Rattle.one_label.specs.Changes.{restores, change_order, marks_after}
 use Rattle.one_label.specs.theorems.ChangeLaws.{Fresh, answer_counts}
 use Rattle.one_label.proofs.theorems.ChangeLaws.{answer_number, answer_counts_lem, change_check, fresh_changed, fresh_number as change-number}
 use Rattle.mark_changes.specs.theorems.Sequences.{table_counts, LabelWish, CallerState, answer_to, marks_left, after_wish, after_wishes, CountedAfresh}
-use Rattle.mark_changes.specs.theorems.SequenceTheorem.{Right}
 
 -- five counts that are those of each case
 five_of_lem : (c : FiveCounts) (r : Counts) → ((k : Case) → counts_of c k ≡ r k) → c ≡ record { a = r A; b = r B; c = r C; d = r D; e = r E }
 five_of_lem c r h = rw (sym (h A), sym (h B), sym (h C), sym (h D), sym (h E)) refl
 
 -- ---- one call
+
+abbrev Right : Table → Table → CallerState → Type 0
+Right t u s = Fresh t u s.marks (counts_of s.counts)
 
 module _ (t u : Table) (p : IsPair t u) (s : CallerState) (f : Right t u s) (w : LabelWish) where
   abbrev number : ℕ

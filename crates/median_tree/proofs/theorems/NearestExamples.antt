@@ -1,6 +1,6 @@
 -- Lists of the reference trees, computed from the definitions: the tree told, and 9.
 -- Assumes nothing.
-use Rattle.std.specs.Prelude.{◌≡◌, refl, [], ◌∷◌, ◌++◌}
+use Rattle.std.specs.Prelude.{◌≡◌, refl, List, [], ◌∷◌, ◌++◌, ℕ}
 use Rattle.sums.specs.Sum.{sum}
 use Rattle.sums.specs.Bits.{bit}
 use Rattle.sums.specs.Tests.{some, every}
@@ -17,7 +17,9 @@ use Rattle.walks.specs.theorems.WalkExamples.{P, Q, R, W, ThreeTips}
 use Rattle.counting.specs.Cases.{case_of, is_case, topology_at, quartets}
 use Rattle.median_tree.specs.Least.{first_least}
 use Rattle.median_tree.specs.Nearest.{distance_of, sum_to, list_cells, nearest_order, nearest_answer}
-use Rattle.median_tree.specs.theorems.NearestExamples.{told}
+
+abbrev told : List ℕ → ℕ → List ℕ
+told list cells = let r = nearest_answer list cells in r.refusal ∷ r.position ∷ r.sum ∷ []
 
 -- P is 2 from Q and from R, which are 4 apart; of equals the earliest; with fewer than four tips all are at 0; 49 cells are enough
 -- for P against itself, 48 are not, wherever P stands

@@ -17,13 +17,13 @@ use Rattle.counting.specs.Labels.{Labels}
 use Rattle.counting.specs.declared.Case.{Case}
 use Rattle.counting.specs.declared.Case.TheVariants.{A, B, C, D}
 use Rattle.counting.specs.Cases.{case_of, is_case, topology_at, quartets, distance, weighted}
-use Rattle.metric.specs.theorems.Triangle.{apart, TopologyTriangle, DistanceTriangle}
+use Rattle.metric.specs.theorems.Triangle.{topologies_apart, TopologyTriangle, DistanceTriangle}
 
 -- ---- three topologies of one set of four
 
 module _ (k : ℕ) where
-  butterflies : (p q : ℕ) → apart k (Butterfly p) (Butterfly q) ≡ 256 * ne p q
-  unfolding apart case_of is_case bit
+  butterflies : (p q : ℕ) → topologies_apart k (Butterfly p) (Butterfly q) ≡ 256 * ne p q
+  unfolding topologies_apart case_of is_case bit
   butterflies p q = either (eqb p q)
     where
       either : (b : Bool)
@@ -34,16 +34,16 @@ module _ (k : ℕ) where
       either true = omega arith
       either false = omega arith
 
-  first_only : (p : ℕ) → apart k (Butterfly p) Star ≡ k
-  unfolding apart case_of is_case bit
+  first_only : (p : ℕ) → topologies_apart k (Butterfly p) Star ≡ k
+  unfolding topologies_apart case_of is_case bit
   first_only p = omega arith
 
-  second_only : (q : ℕ) → apart k Star (Butterfly q) ≡ k
-  unfolding apart case_of is_case bit
+  second_only : (q : ℕ) → topologies_apart k Star (Butterfly q) ≡ k
+  unfolding topologies_apart case_of is_case bit
   second_only q = omega arith
 
-  stars : apart k Star Star ≡ 0
-  unfolding apart case_of is_case bit
+  stars : topologies_apart k Star Star ≡ 0
+  unfolding topologies_apart case_of is_case bit
   stars = omega arith
 
   -- two different partners differ from any third by one of them at least
@@ -75,8 +75,8 @@ module _ (k : ℕ) where
 -- ---- summed over the sets of four
 
 module _ (k : ℕ) (l : Labels) where
-  apart_sum_lem : (t u : Table) → sets4 l.number (λ w x y z. apart k (topology_at l t w x y z) (topology_at l u w x y z)) ≡ weighted k l t u
-  unfolding apart quartets
+  apart_sum_lem : (t u : Table) → sets4 l.number (λ w x y z. topologies_apart k (topology_at l t w x y z) (topology_at l u w x y z)) ≡ weighted k l t u
+  unfolding topologies_apart quartets
   apart_sum_lem t u = simp (sets4-add, sets4-mul) refl
 
   -- of any three tables, tree tables or not
@@ -85,13 +85,13 @@ module _ (k : ℕ) (l : Labels) where
       let p : ℕ → ℕ → ℕ → ℕ → Topology = topology_at l t in
       let q : ℕ → ℕ → ℕ → ℕ → Topology = topology_at l u in
       let r : ℕ → ℕ → ℕ → ℕ → Topology = topology_at l v in
-      let s = sets4_mono l.number (λ w x y z. apart k (p w x y z) (r w x y z))
-      (λ w x y z. apart k (p w x y z) (q w x y z) + apart k (q w x y z) (r w x y z))
+      let s = sets4_mono l.number (λ w x y z. topologies_apart k (p w x y z) (r w x y z))
+      (λ w x y z. topologies_apart k (p w x y z) (q w x y z) + topologies_apart k (q w x y z) (r w x y z))
       (λ w x y z. three_topologies k (omega (arith, low)) (p w x y z) (q w x y z) (r w x y z)) in
       omega (
         arith,
         s,
-        sets4-add l.number (λ w x y z. apart k (p w x y z) (q w x y z)) (λ w x y z. apart k (q w x y z) (r w x y z)),
+        sets4-add l.number (λ w x y z. topologies_apart k (p w x y z) (q w x y z)) (λ w x y z. topologies_apart k (q w x y z) (r w x y z)),
         apart_sum_lem t v,
         apart_sum_lem t u,
         apart_sum_lem u v,

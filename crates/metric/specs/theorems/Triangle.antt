@@ -10,13 +10,13 @@ use Rattle.counting.specs.Labels.{Labels}
 use Rattle.counting.specs.Cases.{case_of, is_case, distance}
 
 -- 256 for two different butterflies, k for a butterfly against a star
-unfoldable pub apart : ℕ → Topology → Topology → ℕ
-apart k p q =
+unfoldable pub topologies_apart : ℕ → Topology → Topology → ℕ
+topologies_apart k p q =
     256 * bit (is_case (case_of p q) B) + k * (bit (is_case (case_of p q) C) + bit (is_case (case_of p q) D))
 
 -- what `three_topologies` says: from a butterfly to another through a star, 256 is at most k + k
 abbrev pub TopologyTriangle : ℕ → Type 0
-TopologyTriangle k = 128 ≤ k → (p q r : Topology) → apart k p r ≤ apart k p q + apart k q r
+TopologyTriangle k = 128 ≤ k → (p q r : Topology) → topologies_apart k p r ≤ topologies_apart k p q + topologies_apart k q r
 
 -- what `three_distances` says
 abbrev pub DistanceTriangle : Type 0

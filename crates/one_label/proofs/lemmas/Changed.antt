@@ -29,7 +29,7 @@ use Rattle.one_label.specs.Changes.{restores, total_of, overdrawn, wish_order, c
 use Rattle.one_label.specs.FiveAnswers.{Counts, counts_of, five_of, refused_five, holding_order}
 use Rattle.one_label.specs.lemmas.HeldCounts.{HeldAre}
 use Rattle.one_label.specs.lemmas.LabelCheck.{LabelFound, LabelTold}
-use Rattle.one_label.specs.lemmas.Changed.{AllFit, Outcome, later}
+use Rattle.one_label.specs.lemmas.Changed.{AllFit, Outcome}
 
 -- ---- sets of four
 
@@ -98,6 +98,14 @@ holding_numbered : (t u : Table) (marks : List ℕ) (x : ℕ) → Numbered (hold
 unfolding holding_order
 holding_numbered t u marks x = numbered_append (tables_order t u) _ (tables_numbered t u)
     (numbered_append (marks_order marks (tips t)) _ (marks_numbered marks (tips t)) (omega arith, tt))
+
+-- 33, 34 and 34
+abbrev later : Table → Table → List ℕ → FiveCounts → ℕ → Wish → List Rule
+later t u marks counts x wish =
+    (33, beq (is_kept marks x) (restores wish))
+    ∷ (34, not (eqb (total_of (counts_of counts)) (fours (kept_of marks (tips t)))))
+    ∷ (34, not (restores wish) && overdrawn (counts_of counts) (holding_kept t u marks x))
+    ∷ []
 
 -- a call's order is that of the label, and then the later rules
 split : (t u : Table) (marks : List ℕ) (counts : FiveCounts) (x : ℕ) (wish : Wish) → change_order t u marks counts x wish ≡ holding_order t u marks x ++ later t u marks counts x wish

@@ -1,6 +1,6 @@
 -- Sums over the ordered claims of shapes, as sums over four labels.
 -- Assumes nothing.
-use Rattle.std.specs.Prelude.{◌≡◌, not, ◌≢◌, ℕ, ◌*◌, ◌<◌, eqb}
+use Rattle.std.specs.Prelude.{◌≡◌, not, ◌⊎◌, ◌≢◌, ℕ, ◌*◌, ◌<◌, eqb}
 use Rattle.std.proofs.Common.{sym, ◌∙◌, ap, ap₂, inl, inr, mul_comm, mul_assoc, eq-zero-or-pos, arith}
 use Rattle.sums.specs.Sum.{sum}
 use Rattle.sums.specs.Bits.{bit}
@@ -19,7 +19,6 @@ use Rattle.shapes.specs.theorems.OrderedClaims.{sum_ordered}
 use Rattle.shapes.proofs.theorems.OrderedClaims.{ordered_cong, ordered_mul, ordered_tuples4}
 use Rattle.shapes.proofs.theorems.OrderedClaims.{triples_ordered, pairs_choose2}
 use Rattle.sums.specs.theorems.Pairings.{Pairing}
-use Rattle.shapes.specs.theorems.LabelSums.{Joined}
 
 module _ {n : ℕ} (t : Shape n) where
   -- the sum of F over the ordered claims
@@ -60,6 +59,10 @@ module _ {n : ℕ} (t : Shape n) where
   }
 
 -- ---- the ordered claims with four labels behind them
+
+-- two labels of different codes are equal
+abbrev Joined : ℕ → ℕ → ℕ → ℕ → Type 0
+Joined a b c d = (a ≡ c) ⊎ ((a ≡ d) ⊎ ((b ≡ c) ⊎ ((b ≡ d) ⊎ (c ≡ d))))
 
 module _ {n : ℕ} (t : Shape n) (a b c d : ℕ) (la : a < n) (lb : b < n) (lc : c < n) (ld : d < n) where
   as_triples : sum_in t (four_in t a b c d)

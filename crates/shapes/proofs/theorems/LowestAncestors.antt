@@ -14,9 +14,14 @@ use Rattle.shapes.specs.Triplets.{last_below, lowest, resolved}
 use Rattle.shapes.specs.theorems.AncestorLaws.{Rooted}
 use Rattle.shapes.proofs.theorems.AncestorLaws.{up_ind, anc_at_zero, anc-le, anc_up, anc_self, anc_root}
 use Rattle.shapes.proofs.theorems.AncestorLaws.{anc_down, anc_trans, anc-line}
-use Rattle.shapes.specs.theorems.LowestAncestors.{Last, leaves}
+use Rattle.shapes.specs.theorems.LowestAncestors.{leaves}
 
 -- ---- the last index that passes a test
+
+record Last (q : ℕ → Bool) (k i : ℕ) : Type 0 where
+  below : i < k
+  passes : bit (q i) ≡ 1
+  highest : (j : ℕ) → j < k → bit (q j) ≡ 1 → j ≤ i
 
 last_hit : (k : ℕ) (q : ℕ → Bool) → q k ≡ true → last_below (suc k) q ≡ k
 unfolding last_below

@@ -1,6 +1,6 @@
 -- Three nodes have one centre, and a climb leaves it where it is.
 -- Assumes nothing.
-use Rattle.std.specs.Prelude.{◌≡◌, ◌≢◌, ◌↔◌, ℕ, zero, suc, ◌≤◌, ◌<◌, T}
+use Rattle.std.specs.Prelude.{◌≡◌, ◌≢◌, ◌↔◌, ℕ, zero, suc, ◌+◌, ◌≤◌, ◌<◌, T}
 use Rattle.std.proofs.Common.{sym, ◌∙◌, ap, inl, inr, arith, T_not}
 use Rattle.std.proofs.Math.Decide.{dec_le, dec_lt, ℕ_discrete}
 use Rattle.sums.specs.Bits.{bit}
@@ -13,7 +13,7 @@ use Rattle.shapes.specs.Ancestors.{anc}
 use Rattle.shapes.specs.theorems.PathLaws.{OnPath}
 use Rattle.shapes.proofs.theorems.PathLaws.{on_path-iff, path_side, children-apart}
 use Rattle.shapes.specs.Centres.{on_all, centre_below, centre_of}
-use Rattle.shapes.specs.theorems.OneCentre.{Deepest, OnAll, below}
+use Rattle.shapes.specs.theorems.OneCentre.{OnAll}
 
 pub on_all-iff : (up : ℕ → ℕ) (k v a b c : ℕ) → T (on_all up k v a b c) ↔ OnAll up k v a b c
 unfolding on_all
@@ -35,6 +35,16 @@ found up k (suc m) a b c v l t = elim (T_dec (on_all up k m a b c)) [
       let s = found up k m a b c v (omega arith) t in
       rw (T_false (on_all up k m a b c) n, centre_below) (omega (arith, s.0), s.1))
 ]
+
+-- how many of a, b and c are v or below v
+abbrev below : (ℕ → ℕ) → ℕ → ℕ → ℕ → ℕ → ℕ
+below up v a b c = bit (anc up v a) + bit (anc up v b) + bit (anc up v c)
+
+-- v is the last node above two of them: it will be the centre
+record Deepest (up : ℕ → ℕ) (k v a b c : ℕ) : Type 0 where
+  bound : v ≤ k
+  two : 2 ≤ below up v a b c
+  last : (w : ℕ) → v < w → below up w a b c ≤ 1
 
 module _ (up : ℕ → ℕ) (r : Rooted up) where
   -- ---- at most one node is on all three paths

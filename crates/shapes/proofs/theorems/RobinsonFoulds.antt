@@ -19,7 +19,6 @@ use Rattle.shapes.specs.theorems.SplitLaws.{NewSplit}
 use Rattle.shapes.specs.theorems.SplitLaws.{Distinct}
 use Rattle.shapes.proofs.theorems.SplitLaws.{sides_sym}
 use Rattle.shapes.proofs.theorems.SplitLaws.{sides_trans, split_moves, split_iff, same_sides-iff, occurs-iff}
-use Rattle.shapes.specs.theorems.RobinsonFoulds.{Shared}
 
 -- ---- the first edge with its two tip sets
 
@@ -80,6 +79,11 @@ new_where_distinct n k b d i l = same_test _ _
 -- edge i + 1 of the one and edge j + 1 of the other are the first with the same two tip sets
 shared : ℕ → Sides → Sides → ℕ → ℕ → Bool
 shared n b c i j = is_new_split n b i && (is_new_split n c j && same_sides n b c (suc i) (suc j))
+
+record Shared (n k : ℕ) (b : Sides) (l : ℕ) (c : Sides) (i j : ℕ) : Type 0 where
+  one : NewSplit n k b i
+  other : NewSplit n l c j
+  sides : SameSides n b c (suc i) (suc j)
 
 module _ (n k : ℕ) (b : Sides) (l : ℕ) (c : Sides) where
   shared_iff : (i j : ℕ) → i < k → j < l → T (shared n b c i j) ↔ Shared n k b l c i j

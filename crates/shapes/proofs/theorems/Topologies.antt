@@ -11,7 +11,7 @@ use Rattle.shapes.specs.theorems.PartedFours.{AtMostOne, none, first, second, th
 use Rattle.shapes.proofs.theorems.PartedFours.{one-pairing}
 use Rattle.shapes.specs.theorems.Shape.{Shape}
 use Rattle.shapes.proofs.theorems.Shape.{butterfly_in}
-use Rattle.shapes.specs.theorems.Topologies.{Told, first_passed}
+use Rattle.shapes.specs.theorems.Topologies.{first_passed}
 
 -- of the three pairings of w, x, y, z in a shape: 0 for a star, 1 for wx|yz, 2 for wy|xz, 3 for wz|xy
 unfoldable pub topology_in : {n : ℕ} → Shape n → ℕ → ℕ → ℕ → ℕ → ℕ
@@ -61,6 +61,12 @@ pub record SameTests {n : ℕ} (t u : Shape n) (w x y z : ℕ) : Type 0 where
   pub one : butterfly_in t w x y z ≡ butterfly_in u w x y z
   pub two : butterfly_in t w y x z ≡ butterfly_in u w y x z
   pub three : butterfly_in t w z x y ≡ butterfly_in u w z x y
+
+-- where at most one test is passed, the number tells which are
+record Told (a b c : Bool) (k : ℕ) : Type 0 where
+  one : bit a ≡ is k 1
+  two : bit b ≡ is k 2
+  three : bit c ≡ is k 3
 
 told : {a b c : Bool} → AtMostOne a b c → Told a b c (first_passed a b c)
 unfolding first_passed bit

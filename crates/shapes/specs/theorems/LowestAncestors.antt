@@ -1,13 +1,8 @@
 -- The lowest common ancestor of two nodes, and the one edge above it at which a third node leaves.
 -- Assumes nothing.
-use Rattle.std.specs.Prelude.{◌≡◌, Bool, not, ◌&&◌, ℕ, ◌≤◌, ◌<◌}
+use Rattle.std.specs.Prelude.{not, ◌&&◌, ℕ}
 use Rattle.sums.specs.Bits.{bit, is}
 use Rattle.shapes.specs.Ancestors.{anc}
-
-pub record Last (q : ℕ → Bool) (k i : ℕ) : Type 0 where
-  pub below : i < k
-  pub passes : bit (q i) ≡ 1
-  pub highest : (j : ℕ) → j < k → bit (q j) ≡ 1 → j ≤ i
 
 -- 1 if v is at or below the parent of node i, and not at or below i
 unfoldable pub leaves : (ℕ → ℕ) → ℕ → ℕ → ℕ

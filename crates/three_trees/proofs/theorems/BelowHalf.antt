@@ -1,6 +1,6 @@
 -- With the weight 127/256 the triangle fails: three trees with four tips, as `weighted_distance` answers them.
 -- Assumes nothing.
-use Rattle.std.specs.Prelude.{◌≡◌, refl, Bool, false, not, ℕ, T}
+use Rattle.std.specs.Prelude.{◌≡◌, refl, Bool, false, not, List, [], ◌∷◌, ℕ, T}
 use Rattle.std.proofs.Common.{ap, subst, arith, lit<}
 use Rattle.std.specs.Float.{binary64}
 use Rattle.std.specs.Float.Ieee.{round, add, lt}
@@ -20,12 +20,19 @@ use Rattle.counting.specs.Cases.{case_of, is_case, topology_at, quartets, weight
 use Rattle.metric.specs.theorems.BelowHalf.{With1, With2, Star4}
 use Rattle.pair_check.specs.PairOrder.{plus, tips_order, tables_order, work_order, pair_order}
 use Rattle.pair_check.specs.theorems.PairCheck.{pair_check}
+use Rattle.weights.specs.declared.weight.Weight.{Weight}
+use Rattle.weights.specs.declared.weight.Weight.TheVariants.{Part}
 use Rattle.weights.specs.Weights.{over256, p_of, numerator_of, IsFraction}
 use Rattle.weights.specs.WeightedAnswer.{weighted_over, weighted_answer}
 use Rattle.weights.proofs.theorems.Fractions.{over_256_exact, numerator_iff}
 use Rattle.three_trees.proofs.theorems.AcceptedAnswers.{weighed}
 use Rattle.three_trees.proofs.theorems.ThreeAnswers.{sum_exact}
-use Rattle.three_trees.specs.theorems.BelowHalf.{all4, w127}
+
+abbrev w127 : Weight
+w127 = Part (over256 127)
+
+abbrev all4 : List ℕ
+all4 = 1 ∷ 1 ∷ 1 ∷ 1 ∷ []
 
 fraction_127 : IsFraction (p_of w127) 127
 fraction_127 = record {

