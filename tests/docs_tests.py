@@ -84,8 +84,8 @@ class Definition(typing.NamedTuple):
 def imported(lines: str) -> dict[str, tuple[str, str, str]]:
     """What each `use` of the crates' own specs brings in: its name here, and the crate, the file and the name there."""
     found = {}
-    for crate, file, names in re.findall(r"(?m)^(?:ghost )?use Rattle·(\w+)(?:·specs\.specs|\.specs)\.([\w.]+)\.\{([^}]*)\};?$", lines):
-        for name in names.split(", "):
+    for crate, file, names in re.findall(r"(?m)^(?:ghost )?use Rattle\.(\w+)\.specs\.([\w.]+)\.\{([^}]*)\};?$", lines):
+        for name in re.split(r",\s*", names.strip(", \n")):
             there, _, here = name.partition(" as ")
             found[here or there] = (crate, file, there)
     return found
@@ -124,9 +124,9 @@ class Believed(unittest.TestCase):
     def test_imports(self) -> None:
         known = {(path.parts[-3], path.stem) for path in self.files}
         for path in self.files:
-            for line in re.findall(r"(?m)^use Rattle·.*$", path.read_text(encoding="utf-8")):
+            for line in re.findall(r"(?m)^use Rattle\..*$", path.read_text(encoding="utf-8")):
                 with self.subTest(file=path.relative_to(ROOT), line=line):
-                    crate, file = re.match(r"use Rattle·(\w+)(?:·specs\.specs|\.specs)\.(\w+)", line).groups()
+                    crate, file = re.match(r"use Rattle\.(\w+)\.specs\.(\w+)", line).groups()
                     self.assertTrue(file == "declared" or (crate, file) in known or not (ROOT / "crates" / crate).exists())
 
     def test_rested_on(self) -> None:
@@ -228,7 +228,8 @@ class Names(unittest.TestCase):
         tried = {path.stem for path in ROOT.glob("crates/*/must-fail/*.edit")}
         told = set(re.findall(r"^\| (?:\w+ )?`(\w+)` \| [^|]+\|(?: [^|]+\|)?$", self.promises, re.M))
         self.assertEqual(tried - told, set())
-        self.assertEqual({name for name in told if "_" in name} - tried, set())
+        known = {word for path in CODE for word in WORD.findall(path.read_text(encoding="utf-8"))}
+        self.assertEqual({name for name in told if "_" in name} - tried - known, set())
 
     def test_edits_cited(self) -> None:
         """A label of an edit has three words or more; a name like that is an edit's, or stands in the code."""
