@@ -432,8 +432,8 @@ class CompareProgress(CompareDoor, Progress):
 
 
     def test_lines_in_pieces_and_without_an_end(self) -> None:
-        (self.house / "tools" / "build").write_text("#!/bin/sh\n[ $1 != order ] || exec echo sums\nprintf 'rt: sums pro'\nsleep 1.2\n"
-                                                    "echo 've\\d (1 s)'\nprintf 'the end '\nexit 3\n")
+        (self.house / "tools" / "build").write_text("#!/bin/sh\n[ $1 != order ] || { echo sums; exit; }\nprintf 'rt: sums pro'\n"
+                                                    "sleep 1.2\necho 've\\d (1 s)'\nprintf 'the end '\nexit 3\n")
         self.assert_trouble(self.run_door(), "\nthe end \ncompare: tools/build check compare failed")
         self.assertEqual((self.target / "compare.log").read_text(), "rt: sums prove\\d (1 s)\nthe end \n")
 

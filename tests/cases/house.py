@@ -25,18 +25,19 @@ trap 'rmdir "$CALLS.running"' EXIT
 trap 'exit 1' PIPE
 mkdir "$CALLS.running" || echo "another runs" >>"$CALLS"
 crate=${PWD##*/}
-sleep "$PAUSE"
-echo "what the prover says of $crate"
-case $crate in
-compare | capi)
-    [ ! -e "$CALLS.fail" ] || exit 1
-    [ ! -e "$CALLS.nothing" ] || exit 0
-    ;;
-esac
 mkdir -p out
 case $crate in
-compare) cp "$PROGRAM" out/compare ;;
-capi) cp "$LIBRARY" out/libcapi.a ;;
+compare | capi)
+    echo "what the prover says of $crate"
+    [ ! -e "$CALLS.fail" ] || exit 1
+    [ ! -e "$CALLS.nothing" ] || exit 0
+    [ "$crate" = capi ] || cp "$PROGRAM" out/compare
+    [ "$crate" = compare ] || cp "$LIBRARY" out/libcapi.a
+    ;;
+*)
+    sleep "$PAUSE"
+    echo "what the prover says of $crate"
+    ;;
 esac
 echo "logic=proved functions=1"
 """
@@ -63,7 +64,8 @@ class House(unittest.TestCase):
         shutil.copy(ROOT / "tools" / "build", self.house / "tools" / "build")
         for crate in (*CRATES, "capi"):
             self.with_crate(crate)
-        self.source = self.with_crate("compare", "main.rt")
+        self.with_crate("compare", "main.rt")
+        self.source = self.with_crate("compare", "input.rt")
         (self.house / "crates.txt").write_text(CRATES_TXT)
         self.target = self.house / "target"
         self.where = {"PATH": str(self.path), "CALLS": str(self.calls), "PROGRAM": str(PROGRAM), "LIBRARY": str(LIBRARY),
@@ -74,9 +76,9 @@ class House(unittest.TestCase):
                 (self.path / command).symlink_to(found)
         self.command("rt", STAND_IN_RT)
 
-    def with_crate(self, crate: str, root: str = "lib.rt") -> pathlib.Path:
-        """Makes a crate's folder, and gives its root file."""
-        file = self.house / "crates" / crate / "src" / root
+    def with_crate(self, crate: str, name: str = "lib.rt") -> pathlib.Path:
+        """Makes a crate's folder with this source, and gives the source."""
+        file = self.house / "crates" / crate / "src" / name
         file.parent.mkdir(parents=True, exist_ok=True)
         file.write_text("")
         return file
