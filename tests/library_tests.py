@@ -12,7 +12,7 @@ import re
 import unittest
 
 ROOT = pathlib.Path(__file__).resolve().parent.parent
-PROGRAMS = ["crates/library_example/src/main.rt", "crates/library_example/proofs/distance/Proof.antt",
+PROGRAMS = ["crates/library_example/src/main.rt", "crates/library_example/proofs/distance/Answers.antt",
             "examples/compare.c", "examples/canonical_copy.c", "examples/exchange_tallies.c", "bindings/examples/distance.rs"]
 LIBRARIES = ["trees", "quartets", "weights", "pair_file", "rerooting", "kept_triplets", "one_label", "canonical_copy",
              "exchange_tallies", "levels", "views", "tree_lists", "median_tree"]
