@@ -198,8 +198,8 @@ run_build() { # WORDS..
     wait "$builder"
 }
 
-# Has CRATE proved and built, and FINISH make FILE of what was built; then marks it. rt's folders are there before the mark, since a new
-# one makes its crate's folder newer.
+# Has CRATE proved and built, and FINISH make FILE of what was built; then marks it. rt's folders are there before the mark, since a
+# new one makes its crate's folder newer.
 build() { # FILE WHAT VERB CRATE FINISH
     command -v rt >/dev/null ||
         trouble "the $2 is still to be proved and built, and there is no rt on the path (the Rattle toolchain has it)"

@@ -4,8 +4,8 @@
     python3 tests/first_use_tests.py
 
 Needs target/bin/compare, target/staticlib/libcapi.a and a C compiler. Nothing is proved here: the doors and tools/build stand in
-cases/house, with a script in the place of rt, and bin/leskwyn runs a package of a few lines that asks the library for its version; what is told
-before anything is built is told by the package of the repository.
+cases/house, with a script in the place of rt, and bin/leskwyn runs a package of a few lines that asks the library for its
+version; what is told before anything is built is told by the package of the repository.
 """
 import contextlib
 import os
@@ -617,6 +617,41 @@ class BothDoors(LeskwynDoor):
         self.assertEqual(self.marks(), ["compare.mark", "leskwyn.mark"])
 
 
+class Build(House):
+    """tools/build, which both doors call."""
+
+    def run_build(self, *words: str) -> Done:
+        return self.run_door(*words, command=str(self.house / "tools" / "build"))
+
+    def test_what_it_leaves(self) -> None:
+        for words, left in ((["check", "capi"], []), (["check", "compare"], ["bin/compare"]),
+                            (["staticlib", "capi"], ["bin/compare", "staticlib/libcapi.a"])):
+            done = self.run_build(*words)
+            self.assertEqual((done.returncode, done.stderr), (0, b""))
+            self.assertRegex(done.stdout.decode(), rf"\nrt: {words[1]} proved \(\d s\)\n$")
+            kept = [str(path.relative_to(self.target)) for path in self.target.rglob("*") if path.is_file()]
+            self.assertEqual(sorted(kept), left)
+        self.assertEqual((self.target / "bin" / "compare").read_bytes(), PROGRAM.read_bytes())
+        self.assertTrue(os.access(self.target / "bin" / "compare", os.X_OK))
+        self.assertEqual((self.target / "staticlib" / "libcapi.a").read_bytes(), LIBRARY.read_bytes())
+
+    def test_nothing_above_a_crate_that_is_not_proved(self) -> None:
+        self.command("rt", "#!/bin/sh\necho ${PWD##*/} >>\"$CALLS\"\n[ ${PWD##*/} != shapes ] || exit 5\n")
+        done = self.run_build("check", "compare")
+        self.assertEqual((done.returncode, self.calls.read_text(), self.target.exists()), (1, "sums\nshapes\n", False))
+        self.assertRegex(done.stdout.decode(), r"^rt: sums proved \(unchanged\)\nrt: shapes NOT PROVED \(exit 5, \d s\)\n$")
+
+    def test_the_order(self) -> None:
+        self.assert_done(self.run_build("order", "compare"), 0, b"sums\nshapes\ncompare\n")
+        self.assert_done(self.run_build("order", "capi"), 0, b"sums\nshapes\ncapi\n")
+
+    def test_wrong_words(self) -> None:
+        for words, told in (([], "two words are needed"), (["check"], "two words are needed"),
+                            (["prove", "sums"], "no command prove"), (["check", "none"], "crates.txt has no crate none"), (["order", ""], "crates.txt has no crate")):
+            self.assert_trouble(self.run_build(*words), f"tools/build: {told}")
+        self.assertFalse(self.calls.exists())
+
+
 class Text(CompareDoor):
     """Text in the place of a comparison file."""
 
@@ -677,7 +712,7 @@ class Text(CompareDoor):
 def load_tests(loader: unittest.TestLoader, _: unittest.TestSuite, __: str | None) -> unittest.TestSuite:
     """The tests of a door; what holds of both is there to be inherited."""
     doors = [CompareBuilding, CompareAtOnce, CompareWithoutFlock, CompareProgress, LeskwynBuilding, LeskwynAtOnce, LeskwynProgress,
-             BothDoors, Text]
+             BothDoors, Build, Text]
     return unittest.TestSuite(loader.loadTestsFromTestCase(door) for door in doors)
 
 

@@ -86,7 +86,8 @@ class Calls(unittest.TestCase):
         self.assertEqual(listed, {crate: public_functions(crate) for crate in LIBRARIES})
 
     def test_functions_for_c(self) -> None:
-        exported = set(re.findall(r'^#\[unsafe\(no_mangle\)\]\npub extern "C" fn (\w+)', exports() + text("crates/capi/src/version.rt"), re.M))
+        exported = set(re.findall(r'^#\[unsafe\(no_mangle\)\]\npub extern "C" fn (\w+)',
+                                  exports() + text("crates/capi/src/version.rt"), re.M))
         self.assertEqual(set(re.findall(r"^\w+ (leskwyn_\w+)\(", text("include/leskwyn.h"), re.M)), exported)
         self.assertEqual(set(re.findall(r"^    pub fn (\w+)\(", text("bindings/src/raw.rs"), re.M)), exported)
         self.assertEqual(set(re.findall(r"^\| `(leskwyn_\w+)` \|", PAGE, re.M)), exported)

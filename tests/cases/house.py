@@ -1,8 +1,8 @@
 """The doors bin/leskwyn and bin/compare in a house of their own: a temporary folder with what they need of the repository,
 tools/build among it, and a path that has the commands which they call, and in the place of rt a script that proves nothing.
 
-The script notes each call, says that the crate in whose folder it is called is proved, and leaves in its out/ what was built before:
-the program target/bin/compare and the library target/staticlib/libcapi.a of the repository.
+The script notes each call, says that the crate in whose folder it is called is proved, and leaves in its out/ what was built
+before: the program target/bin/compare and the library target/staticlib/libcapi.a of the repository.
 """
 import os
 import pathlib
