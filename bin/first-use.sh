@@ -198,14 +198,14 @@ run_build() { # WORDS..
     wait "$builder"
 }
 
-# Has CRATE proved and built, and FINISH make FILE of what was built; then marks it. rt's folders are there before the mark, since a
-# new one makes its crate's folder newer.
+# Has CRATE proved and built, and FINISH make FILE of what was built; then marks it. What rt keeps goes to crates/*/out/, and these are
+# there before the mark, since a new one makes its crate's folder newer.
 build() { # FILE WHAT VERB CRATE FINISH
     command -v rt >/dev/null ||
         trouble "the $2 is still to be proved and built, and there is no rt on the path (the Rattle toolchain has it)"
     { rm -f "$mark" && : >"$log"; } 2>/dev/null || trouble "cannot write in $root/target"
     begin_progress "$4"
-    (cd "$root/crates" && mkdir -p "${crates[@]/%//out}") 2>/dev/null || trouble "cannot write in $root/crates"
+    (cd "$root/crates" && all=(*/) && mkdir -p "${all[@]/%/out}") 2>/dev/null || trouble "cannot write in $root/crates"
     : >"$mark.new" || trouble "cannot write in $root/target"
     say "proving and building the $2 on first use, $(time_left); log: $log"
     if ! run_build "$3" "$4"; then
