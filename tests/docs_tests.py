@@ -14,7 +14,8 @@ import typing
 import unittest
 
 ROOT = pathlib.Path(__file__).resolve().parent.parent
-CODE = sorted(ROOT.glob("crates/*/*/**/*.antt")) + sorted(ROOT.glob("crates/*/src/**/*.rt"))
+SPECS, PROOFS = sorted(ROOT.glob("crates/*/specs/**/*.antt")), sorted(ROOT.glob("crates/*/proofs/**/*.antt"))
+CODE = SPECS + PROOFS + sorted(ROOT.glob("crates/*/src/**/*.rt"))
 WORD = re.compile(r"[A-Za-z_'′][\w'′-]*", re.UNICODE)
 PAGES = [ROOT / name for name in ("README.md", "CONTRIBUTING.md", "CHANGELOG.md")] + sorted(ROOT.glob("docs/*.md"))
 FOLDERS = "bench|bin|bindings|crates|docs|examples|include|python|tests|tools|[.]ci"
@@ -60,7 +61,7 @@ class Lines(unittest.TestCase):
 
 
 class Definitions(unittest.TestCase):
-    """CRATE FILE `name` .. in docs/SPECIFICATION.md: that file below the crate's specs/ declares each name."""
+    """CRATE FILE `name` .. in docs/SPECIFICATION.md: that file below the crate's specs/ or proofs/ declares each name."""
 
     def test_citations(self) -> None:
         page = re.sub(r"\s+", " ", text("SPECIFICATION.md"))
@@ -68,7 +69,7 @@ class Definitions(unittest.TestCase):
         self.assertGreater(len(cited), 90)
         for crate, name, names in cited:
             with self.subTest(crate=crate, file=name):
-                files = (ROOT / "crates" / crate / "specs").rglob(f"{name}.antt")
+                files = [file for part in ("specs", "proofs") for file in (ROOT / "crates" / crate / part).rglob(f"{name}.antt")]
                 content = "\n".join(file.read_text(encoding="utf-8") for file in files)
                 for one in re.findall(r"`([^`]+)`", names):
                     self.assertRegex(content, rf"(?m)^ *(?:\w+ )*{re.escape(one)}(?= [:(])")
@@ -203,7 +204,7 @@ class OneName(unittest.TestCase):
 
     def test_definitions(self) -> None:
         where = {}
-        for path in sorted((ROOT / "crates").glob("*/specs/**/*.antt")):
+        for path in SPECS + [path for path in PROOFS if path.relative_to(ROOT).parts[3] in ("theorems", "lemmas")]:
             for name in re.findall(r"^ *(?:unfoldable pub|abbrev pub|pub record|pub data) ([^\s:(]+)", path.read_text(encoding="utf-8"), re.M):
                 where.setdefault(name, []).append(str(path.relative_to(ROOT)))
         self.assertGreater(len(where), 500)
