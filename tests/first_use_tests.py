@@ -105,6 +105,7 @@ class Door(House):
         done = self.run_door(*self.words)
         self.assert_done(done, 0, self.printed())
         self.assertEqual(self.built(), builds, done.stderr)
+        self.assertEqual(self.builds()[-1], self.whole(self.door))
         return done
 
     def marks(self) -> list[str]:
@@ -647,7 +648,8 @@ class Build(House):
 
     def test_wrong_words(self) -> None:
         for words, told in (([], "two words are needed"), (["check"], "two words are needed"),
-                            (["prove", "sums"], "no command prove"), (["check", "none"], "crates.txt has no crate none"), (["order", ""], "crates.txt has no crate")):
+                            (["prove", "sums"], "no command prove"), (["check", "none"], "crates.txt has no crate none"),
+                            (["order", ""], "crates.txt has no crate")):
             self.assert_trouble(self.run_build(*words), f"tools/build: {told}")
         self.assertFalse(self.calls.exists())
 
