@@ -5,7 +5,7 @@ version=0.15.0
 root=$(dirname "$(dirname "$(readlink -f "${BASH_SOURCE[0]}")")")
 mark=$root/target/$me.mark # as old as the start of the last proof that succeeded
 log=$root/target/$me.log
-lock=$root/target/first-use.lock # one for both, since they share what rt keeps in target/
+lock=$root/target/first-use.lock # one for both, since they share what rt keeps in crates/*/out/
 trap '' PIPE # a reader that has gone away is a failed write like any other
 
 # Says a line on standard error.
@@ -24,10 +24,15 @@ print() { # TEXT
     printf '%s\n' "$1" 2>/dev/null || trouble "cannot write to standard output"
 }
 
+# Prints a source that is newer than the mark, if there is one. What rt keeps in crates/*/out/ is none.
+newer() {
+    cd "$root" &&
+        find crates crates.txt -path 'crates/*/out' ! -path 'crates/*/*/out' -prune -o -newer "$mark" -print -quit
+}
+
 # True if the file is there and no source has changed since it was proved.
 current() { # FILE
-    [ -f "$1" ] && [ -f "$mark" ] &&
-        [ -z "$(find "$root/crates" "$root/crates.txt" -newer "$mark" -print -quit)" ]
+    [ -f "$1" ] && [ -f "$mark" ] && [ -z "$(newer)" ]
 }
 
 # ---- the lock: of several first uses at once, one builds
@@ -78,7 +83,8 @@ take_folder() {
     hold "$$"
 }
 
-# Waits until no other first use is at work. rt inherits the lock: where its caller was killed, the next waits for its end.
+# Waits until no other first use is at work. tools/build and rt inherit the lock: where their caller was killed, the next waits for
+# their end.
 take_lock() {
     { mkdir -p "$root/target" && exec 9>"$lock"; } 2>/dev/null || trouble "cannot write in $root/target"
     lock_folder=
@@ -98,36 +104,18 @@ drop_lock() {
 
 # ---- progress, by the seconds that docs/PROMISES.md has for each crate
 
-# Prints the crates that CRATE stands on, and CRATE, in the order in which rt proves them, each with its seconds.
+# Prints the crates that CRATE stands on, and CRATE, in the order in which tools/build proves them, each with its seconds.
 plan() { # CRATE
     local page=$root/docs/PROMISES.md
     [ -r "$page" ] || page=/dev/null
-    awk -v wanted="$1" '
-        function visit(crate,    words, count, i, own) {
-            if (crate in level) return
-            level[crate] = own = 0
-            count = split(needs[crate], words, " ")
-            for (i = 1; i <= count; i++) if (words[i] in needs) {
-                visit(words[i])
-                if (level[words[i]] >= own) own = level[words[i]] + 1
-            }
-            level[crate] = own
-            if (own > deepest) deepest = own
-            found[++crates] = crate
-        }
+    "$root/tools/build" order "$1" | awk '
         BEGIN { seconds["claims"] = 130; seconds["trees"] = 40; other = 10 }
         from == "page" && /^## / { timed = /^## Check times/ }
         from == "page" && timed && /^\| `/ { gsub(/[|`]/, " "); seconds[$1] = $3 }
-        from == "crates" { sub(/#.*/, "") }
-        from == "crates" && /:/ { name = $1; sub(/:.*/, "", name); sub(/^[^:]*:/, ""); needs[name] = $0 }
-        END {
-            visit(wanted)
-            for (own = 0; own <= deepest; own++) for (i = 1; i <= crates; i++) if (level[found[i]] == own)
-                print found[i], found[i] in seconds ? int(seconds[found[i]]) : other
-        }' from=page "$page" from=crates "$root/crates.txt"
+        from == "order" { print $1, $1 in seconds ? int(seconds[$1]) : other }' from=page "$page" from=order -
 }
 
-# Begins to tell how far rt is. `crates` has all, in their order, and `seconds` what each takes that is still to be proved.
+# Begins to tell how far tools/build is. `crates` has all, in their order, and `seconds` what each takes that is still to be proved.
 begin_progress() { # CRATE
     local crate took
     every=30 # seconds between two lines where there is no terminal
@@ -156,7 +144,7 @@ time_left() {
     fi
 }
 
-# Takes in what rt says: of a crate that is proved, and of its time unless it was proved before.
+# Takes in what tools/build says: of a crate that is proved, and of its time unless it was proved before.
 hear() { # LINE
     local crate took
     printf '%s\n' "$1" 2>/dev/null >>"$log"
@@ -167,7 +155,7 @@ hear() { # LINE
     [ -n "${BASH_REMATCH[2]-}" ] || seconds_done=$((seconds_done + took)) spent=$((SECONDS - began))
 }
 
-# Tells how far rt is: on a terminal in one line that is rewritten, else in a line now and then.
+# Tells how far it is: on a terminal in one line that is rewritten, else in a line now and then.
 show_progress() {
     local all=${#crates[@]} left=${#seconds[@]} crate now
     now="$me: all $all crates are proved; building"
@@ -192,12 +180,12 @@ end_progress() {
 
 # ---- first use
 
-# Runs rt in the root, keeps what it says in the log, and tells how far it is.
-run_rt() { # WORDS..
-    local piece part='' status rt
-    exec 7< <(trap - PIPE && cd "$root" && exec rt "$@" 2>&1 </dev/null)
-    rt=$!
-    [ -z "$lock_folder" ] || hold "$$" "$rt"
+# Runs tools/build, keeps what it says in the log, and tells how far it is.
+run_build() { # WORDS..
+    local piece part='' status builder
+    exec 7< <(trap - PIPE && cd "$root" && exec tools/build "$@" 2>&1 </dev/null)
+    builder=$!
+    [ -z "$lock_folder" ] || hold "$$" "$builder"
     show_progress
     while IFS= read -r -t 1 -u 7 piece; status=$?; [ "$status" -ne 1 ]; do
         part+=$piece # a line may come in pieces, with a second between them
@@ -207,22 +195,25 @@ run_rt() { # WORDS..
     [ -z "$part$piece" ] || hear "$part$piece"
     exec 7<&-
     end_progress
-    wait "$rt"
+    wait "$builder"
 }
 
-# Has rt prove CRATE and build, and FINISH make FILE of what rt built; then marks it.
+# Has CRATE proved and built, and FINISH make FILE of what was built; then marks it. What rt keeps goes to crates/*/out/, and these are
+# there before the mark, since a new one makes its crate's folder newer.
 build() { # FILE WHAT VERB CRATE FINISH
     command -v rt >/dev/null ||
         trouble "the $2 is still to be proved and built, and there is no rt on the path (the Rattle toolchain has it)"
-    { rm -f "$mark" && : >"$mark.new" && : >"$log"; } 2>/dev/null || trouble "cannot write in $root/target"
+    { rm -f "$mark" && : >"$log"; } 2>/dev/null || trouble "cannot write in $root/target"
     begin_progress "$4"
+    (cd "$root/crates" && all=(*/) && mkdir -p "${all[@]/%/out}") 2>/dev/null || trouble "cannot write in $root/crates"
+    : >"$mark.new" || trouble "cannot write in $root/target"
     say "proving and building the $2 on first use, $(time_left); log: $log"
-    if ! run_rt "$3" "$4"; then
+    if ! run_build "$3" "$4"; then
         tail -n 20 "$log" >&2
-        trouble "rt $3 $4 failed; all that it said is in $log"
+        trouble "tools/build $3 $4 failed; all that it said is in $log"
     fi
     "$5" "$1"
-    [ -f "$1" ] || trouble "rt $3 $4 left no $1: remove the folder target and try again"
+    [ -f "$1" ] || trouble "tools/build $3 $4 left no $1: remove the folder target and try again"
     mv "$mark.new" "$mark" 2>/dev/null || trouble "cannot write in $root/target"
 }
 

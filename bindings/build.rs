@@ -1,4 +1,4 @@
-//! Finds the static library that `rt staticlib capi` builds: in `../target/staticlib`, or in the folder that
+//! Finds the static library that `tools/build staticlib capi` builds: in `../target/staticlib`, or in the folder that
 //! `LESKWYN_LIB_DIR` names.
 
 use std::env;
@@ -19,7 +19,8 @@ fn main() {
     println!("cargo:rerun-if-changed={}", library.display());
     if !library.is_file() {
         eprintln!("{} is missing.", library.display());
-        eprintln!("Run `rt staticlib capi` in the root of the repository, which builds target/staticlib/{LIBRARY},");
+        eprintln!("Run `tools/build staticlib capi` in the root of the repository, which builds");
+        eprintln!("target/staticlib/{LIBRARY},");
         eprintln!("or set {FOLDER} to the folder that holds {LIBRARY}.");
         exit(1);
     }

@@ -1,7 +1,7 @@
 /*
  * Leskwyn: two population trees counted against each other, quartet by quartet.
  *
- * The functions of the static library that `rt staticlib capi` builds (target/staticlib/libcapi.a). Each is proved to
+ * The functions of the static library that `tools/build staticlib capi` builds (target/staticlib/libcapi.a). Each is proved to
  * meet its contract for every input: any words in a slice of any length give either the whole answer or one refusal
  * number, and nothing beyond the lent cells is touched.
  *

@@ -5,7 +5,7 @@ set -euo pipefail
 cd "$(dirname "$0")/.."
 library=target/staticlib/libcapi.a
 if [ ! -f "$library" ]; then
-    echo "c_example: $library is missing; run 'rt staticlib capi'" >&2
+    echo "c_example: $library is missing; run 'tools/build staticlib capi'" >&2
     exit 1
 fi
 

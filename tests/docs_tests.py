@@ -14,7 +14,8 @@ import typing
 import unittest
 
 ROOT = pathlib.Path(__file__).resolve().parent.parent
-CODE = sorted(ROOT.glob("crates/*/*/**/*.antt")) + sorted(ROOT.glob("crates/*/src/**/*.rt"))
+SPECS, PROOFS = sorted(ROOT.glob("crates/*/specs/**/*.antt")), sorted(ROOT.glob("crates/*/proofs/**/*.antt"))
+CODE = SPECS + PROOFS + sorted(ROOT.glob("crates/*/src/**/*.rt"))
 WORD = re.compile(r"[A-Za-z_'′][\w'′-]*", re.UNICODE)
 PAGES = [ROOT / name for name in ("README.md", "CONTRIBUTING.md", "CHANGELOG.md")] + sorted(ROOT.glob("docs/*.md"))
 FOLDERS = "bench|bin|bindings|crates|docs|examples|include|python|tests|tools|[.]ci"
@@ -60,7 +61,7 @@ class Lines(unittest.TestCase):
 
 
 class Definitions(unittest.TestCase):
-    """CRATE FILE `name` .. in docs/SPECIFICATION.md: that file below the crate's specs/ declares each name."""
+    """CRATE FILE `name` .. in docs/SPECIFICATION.md: that file below the crate's specs/ or proofs/ declares each name."""
 
     def test_citations(self) -> None:
         page = re.sub(r"\s+", " ", text("SPECIFICATION.md"))
@@ -68,7 +69,7 @@ class Definitions(unittest.TestCase):
         self.assertGreater(len(cited), 90)
         for crate, name, names in cited:
             with self.subTest(crate=crate, file=name):
-                files = (ROOT / "crates" / crate / "specs").rglob(f"{name}.antt")
+                files = [file for part in ("specs", "proofs") for file in (ROOT / "crates" / crate / part).rglob(f"{name}.antt")]
                 content = "\n".join(file.read_text(encoding="utf-8") for file in files)
                 for one in re.findall(r"`([^`]+)`", names):
                     self.assertRegex(content, rf"(?m)^ *(?:\w+ )*{re.escape(one)}(?= [:(])")
@@ -84,8 +85,8 @@ class Definition(typing.NamedTuple):
 def imported(lines: str) -> dict[str, tuple[str, str, str]]:
     """What each `use` of the crates' own specs brings in: its name here, and the crate, the file and the name there."""
     found = {}
-    for crate, file, names in re.findall(r"(?m)^(?:ghost )?use Rattle·(\w+)(?:·specs\.specs|\.specs)\.([\w.]+)\.\{([^}]*)\};?$", lines):
-        for name in names.split(", "):
+    for crate, file, names in re.findall(r"(?m)^(?:ghost )?use Rattle\.(\w+)\.specs\.([\w.]+)\.\{([^}]*)\};?$", lines):
+        for name in re.split(r",\s*", names.strip(", \n")):
             there, _, here = name.partition(" as ")
             found[here or there] = (crate, file, there)
     return found
@@ -124,9 +125,9 @@ class Believed(unittest.TestCase):
     def test_imports(self) -> None:
         known = {(path.parts[-3], path.stem) for path in self.files}
         for path in self.files:
-            for line in re.findall(r"(?m)^use Rattle·.*$", path.read_text(encoding="utf-8")):
+            for line in re.findall(r"(?m)^use Rattle\..*$", path.read_text(encoding="utf-8")):
                 with self.subTest(file=path.relative_to(ROOT), line=line):
-                    crate, file = re.match(r"use Rattle·(\w+)(?:·specs\.specs|\.specs)\.(\w+)", line).groups()
+                    crate, file = re.match(r"use Rattle\.(\w+)\.specs\.(\w+)", line).groups()
                     self.assertTrue(file == "declared" or (crate, file) in known or not (ROOT / "crates" / crate).exists())
 
     def test_rested_on(self) -> None:
@@ -203,7 +204,7 @@ class OneName(unittest.TestCase):
 
     def test_definitions(self) -> None:
         where = {}
-        for path in sorted((ROOT / "crates").glob("*/specs/**/*.antt")):
+        for path in SPECS + [path for path in PROOFS if path.relative_to(ROOT).parts[3] in ("theorems", "lemmas")]:
             for name in re.findall(r"^ *(?:unfoldable pub|abbrev pub|pub record|pub data) ([^\s:(]+)", path.read_text(encoding="utf-8"), re.M):
                 where.setdefault(name, []).append(str(path.relative_to(ROOT)))
         self.assertGreater(len(where), 500)
@@ -228,7 +229,8 @@ class Names(unittest.TestCase):
         tried = {path.stem for path in ROOT.glob("crates/*/must-fail/*.edit")}
         told = set(re.findall(r"^\| (?:\w+ )?`(\w+)` \| [^|]+\|(?: [^|]+\|)?$", self.promises, re.M))
         self.assertEqual(tried - told, set())
-        self.assertEqual({name for name in told if "_" in name} - tried, set())
+        known = {word for path in CODE for word in WORD.findall(path.read_text(encoding="utf-8"))}
+        self.assertEqual({name for name in told if "_" in name} - tried - known, set())
 
     def test_edits_cited(self) -> None:
         """A label of an edit has three words or more; a name like that is an edit's, or stands in the code."""

@@ -3,9 +3,9 @@
 
     python3 tests/first_use_tests.py
 
-Needs target/bin/compare, target/staticlib/libcapi.a and a C compiler. Nothing is proved here: the doors stand in cases/house, with
-a script in the place of rt, and bin/leskwyn runs a package of a few lines that asks the library for its version; what is told
-before anything is built is told by the package of the repository.
+Needs target/bin/compare, target/staticlib/libcapi.a and a C compiler. Nothing is proved here: the doors and tools/build stand in
+cases/house, with a script in the place of rt, and bin/leskwyn runs a package of a few lines that asks the library for its
+version; what is told before anything is built is told by the package of the repository.
 """
 import contextlib
 import os
@@ -46,7 +46,7 @@ CHECK_TIMES = "## Other\n\n| `sums` | 1 | 900 |\n\n## Check times\n\n| crate | f
 def setUpModule() -> None:
     for built in (PROGRAM, LIBRARY):
         if not built.is_file():
-            sys.exit(f"first_use_tests: {built} is missing; run 'rt check compare' and 'rt staticlib capi'")
+            sys.exit(f"first_use_tests: {built} is missing; run 'tools/build check compare' and 'tools/build staticlib capi'")
 
 
 def header_version() -> int:
@@ -101,10 +101,11 @@ class Door(House):
         return subprocess.CompletedProcess(use.args, use.returncode, printed, said)
 
     def assert_used(self, builds: int) -> Done:
-        """A use that goes well; rt was called that often since the beginning."""
+        """A use that goes well; so many builds were begun since the beginning."""
         done = self.run_door(*self.words)
         self.assert_done(done, 0, self.printed())
         self.assertEqual(self.built(), builds, done.stderr)
+        self.assertEqual(self.builds()[-1], self.whole(self.door))
         return done
 
     def marks(self) -> list[str]:
@@ -145,7 +146,7 @@ class Building(Door):
         self.assertEqual(self.marks(), [f"{self.door}.mark"])
         log = (self.target / f"{self.door}.log").read_text()
         for crate in CRATES:
-            self.assertIn(f"what the prover says of {crate}\nrt: {crate} proved (1 s)\n", log)
+            self.assertRegex(log, rf"what the prover says of {crate}\nlogic=proved functions=1\nrt: {crate} proved \(\d s\)\n")
         (self.path / "rt").unlink()
         kept = self.kept()
         self.assertNotIn(b"proving", self.assert_used(1).stderr)
@@ -172,7 +173,8 @@ class Building(Door):
         fail.write_text("")
         for _ in range(2):
             done = self.run_door(*self.words)
-            self.assert_trouble(done, f"rt: {self.crate} NOT PROVED (exit 1, 1 s)\n", f"{self.crate} failed", f"{self.door}.log")
+            self.assert_trouble(done, f"{self.crate} failed", f"{self.door}.log")
+            self.assertRegex(done.stderr.decode(), rf"(?m)^rt: {self.crate} NOT PROVED \(exit 1, \d s\)$")
             self.assertEqual(self.marks(), [])
         fail.unlink()
         self.assert_used(3)
@@ -333,6 +335,7 @@ class Progress(Door):
         crates = [re.sub(r"; about \d+ (?:s|min) left$|; some seconds left$", "", line) for line in told]
         expected = [f"{self.door}: proving {crate}, crate {number} of 3" for number, crate in
                     enumerate([*CRATES, self.crate], start=1)]
+        expected.append(f"{self.door}: all 3 crates are proved; building")
         self.assertEqual(list(dict.fromkeys(crates)), expected, said)
         self.assertIn("about 4 min left", told[0])
         left = [line for line in screen(said) if line]
@@ -347,7 +350,7 @@ class Progress(Door):
 
     def test_unchanged_crates_say_nothing_of_the_pace(self) -> None:
         self.with_check_times(sums=60, shapes=120, **{self.crate: 60})
-        script = (self.path / "rt").read_text().replace("(1 s)", "(unchanged since it was last proved)")
+        script = (self.path / "rt").read_text().replace("logic=proved", "nothing has changed since the last proved build")
         self.command("rt", script)
         self.assertRegex(self.on_terminal(), r"proving shapes, crate 2 of 3; about 3 min left")
 
@@ -359,14 +362,15 @@ class Progress(Door):
     def test_the_crates_of_the_repository(self) -> None:
         """Those of the door's line in crates.txt and the crate itself, level by level."""
         needs = {name: words.split() for name, words in
-                 re.findall(r"^(\w+):(.*)$", (ROOT / "crates.txt").read_text(encoding="utf-8"), re.M)}
+                 re.findall(r"^(\w+)(?: staticlib)?:(.*)$", (ROOT / "crates.txt").read_text(encoding="utf-8"), re.M)}
 
         def level(crate: str) -> int:
             return 1 + max((level(below) for below in needs[crate] if below in needs), default=-1)
 
         needed = sorted([name for name in needs[self.crate] if name in needs] + [self.crate], key=level)
         (self.house / "crates.txt").write_text((ROOT / "crates.txt").read_text(encoding="utf-8"), encoding="utf-8")
-        self.where["CRATES"] = " ".join(needed)
+        for crate in needed:
+            self.with_crate(crate)
         said = self.on_terminal()
         told = {int(number): crate for crate, number in re.findall(rf"proving (\w+), crate (\d+) of {len(needed)};", said)}
         self.assertEqual(list(told), list(range(1, len(needed) + 1)), said)
@@ -429,8 +433,9 @@ class CompareProgress(CompareDoor, Progress):
 
 
     def test_lines_in_pieces_and_without_an_end(self) -> None:
-        self.command("rt", "#!/bin/sh\nprintf 'rt: sums pro'\nsleep 1.2\necho 've\\d (1 s)'\nprintf 'the end '\nexit 3\n")
-        self.assert_trouble(self.run_door(), "\nthe end \ncompare: rt check compare failed")
+        (self.house / "tools" / "build").write_text("#!/bin/sh\n[ $1 != order ] || { echo sums; exit; }\nprintf 'rt: sums pro'\n"
+                                                    "sleep 1.2\necho 've\\d (1 s)'\nprintf 'the end '\nexit 3\n")
+        self.assert_trouble(self.run_door(), "\nthe end \ncompare: tools/build check compare failed")
         self.assertEqual((self.target / "compare.log").read_text(), "rt: sums prove\\d (1 s)\nthe end \n")
 
 
@@ -609,9 +614,44 @@ class BothDoors(LeskwynDoor):
         use = self.start()
         self.assertEqual(other.communicate(timeout=SECONDS)[0], P_AND_Q)
         self.assert_done(self.ended(use), 0, self.printed())
-        self.assertEqual(sorted(self.calls.read_text().splitlines()),
-                         [f"{self.house}: check compare", f"{self.house}: staticlib capi"])
+        self.assertEqual(sorted(self.builds()), sorted([self.whole("compare"), self.whole("leskwyn")]))
         self.assertEqual(self.marks(), ["compare.mark", "leskwyn.mark"])
+
+
+class Build(House):
+    """tools/build, which both doors call."""
+
+    def run_build(self, *words: str) -> Done:
+        return self.run_door(*words, command=str(self.house / "tools" / "build"))
+
+    def test_what_it_leaves(self) -> None:
+        for words, left in ((["check", "capi"], []), (["check", "compare"], ["bin/compare"]),
+                            (["staticlib", "capi"], ["bin/compare", "staticlib/libcapi.a"])):
+            done = self.run_build(*words)
+            self.assertEqual((done.returncode, done.stderr), (0, b""))
+            self.assertRegex(done.stdout.decode(), rf"\nrt: {words[1]} proved \(\d s\)\n$")
+            kept = [str(path.relative_to(self.target)) for path in self.target.rglob("*") if path.is_file()]
+            self.assertEqual(sorted(kept), left)
+        self.assertEqual((self.target / "bin" / "compare").read_bytes(), PROGRAM.read_bytes())
+        self.assertTrue(os.access(self.target / "bin" / "compare", os.X_OK))
+        self.assertEqual((self.target / "staticlib" / "libcapi.a").read_bytes(), LIBRARY.read_bytes())
+
+    def test_nothing_above_a_crate_that_is_not_proved(self) -> None:
+        self.command("rt", "#!/bin/sh\necho ${PWD##*/} >>\"$CALLS\"\n[ ${PWD##*/} != shapes ] || exit 5\n")
+        done = self.run_build("check", "compare")
+        self.assertEqual((done.returncode, self.calls.read_text(), self.target.exists()), (1, "sums\nshapes\n", False))
+        self.assertRegex(done.stdout.decode(), r"^rt: sums proved \(unchanged\)\nrt: shapes NOT PROVED \(exit 5, \d s\)\n$")
+
+    def test_the_order(self) -> None:
+        self.assert_done(self.run_build("order", "compare"), 0, b"sums\nshapes\ncompare\n")
+        self.assert_done(self.run_build("order", "capi"), 0, b"sums\nshapes\ncapi\n")
+
+    def test_wrong_words(self) -> None:
+        for words, told in (([], "two words are needed"), (["check"], "two words are needed"),
+                            (["prove", "sums"], "no command prove"), (["check", "none"], "crates.txt has no crate none"),
+                            (["order", ""], "crates.txt has no crate")):
+            self.assert_trouble(self.run_build(*words), f"tools/build: {told}")
+        self.assertFalse(self.calls.exists())
 
 
 class Text(CompareDoor):
@@ -674,7 +714,7 @@ class Text(CompareDoor):
 def load_tests(loader: unittest.TestLoader, _: unittest.TestSuite, __: str | None) -> unittest.TestSuite:
     """The tests of a door; what holds of both is there to be inherited."""
     doors = [CompareBuilding, CompareAtOnce, CompareWithoutFlock, CompareProgress, LeskwynBuilding, LeskwynAtOnce, LeskwynProgress,
-             BothDoors, Text]
+             BothDoors, Build, Text]
     return unittest.TestSuite(loader.loadTestsFromTestCase(door) for door in doors)
 
 

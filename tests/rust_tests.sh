@@ -7,7 +7,7 @@ set -euo pipefail
 cd "$(dirname "$0")/.."
 for built in target/staticlib/libcapi.a target/bin/compare; do
     if [ ! -f "$built" ]; then
-        echo "rust_tests: $built is missing; run 'rt staticlib capi' and 'rt check compare'" >&2
+        echo "rust_tests: $built is missing; run 'tools/build staticlib capi' and 'tools/build check compare'" >&2
         exit 1
     fi
 done

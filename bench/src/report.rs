@@ -170,7 +170,7 @@ pub fn page(timed: &Timed) -> String {
     format!(
         "# Benchmarks
 
-Written by this command, together with `scaling.svg`, after `rt staticlib capi`:
+Written by this command, together with `scaling.svg`, after `tools/build staticlib capi`:
 
     cd bench && cargo run --release --offline
 

@@ -18,7 +18,7 @@ fn proved_program() -> PathBuf {
     let program = Path::new(env!("CARGO_MANIFEST_DIR")).join("../target/bin/compare");
     assert!(
         program.is_file(),
-        "{} is missing: build the proved comparing program first (`rt check compare`)",
+        "{} is missing: build the proved comparing program first (`tools/build check compare`)",
         program.display()
     );
     program

@@ -1,5 +1,5 @@
 //! Safe calls into Leskwyn, a library that counts two population trees against each other, quartet by quartet, and is
-//! proved to count right. Build it first: `rt staticlib capi` in the root of the repository.
+//! proved to count right. Build it first: `tools/build staticlib capi` in the root of the repository.
 //!
 //! A tree is a table of 16-bit words: n, the tips (2 to 256); m, the nodes (n to 4n); m parent words; m label words,
 //! [`INNER`] for an inner node. Node 0 is the tip labelled 0, and its only child is node 1; both have the parent word 0.
