@@ -25,7 +25,8 @@ pub fn inner_nodes(starts: &[usize], inner: &mut [usize]) -> usize
     let mut count = 0;
     let mut v = 1;
     while v < starts.len() {
-        if 3 <= codes_between(starts[v - 1], starts[v]) {
+        let is_inner = 3 <= codes_between(starts[v - 1], starts[v]);
+        if is_inner {
             inner[count] = v - 1;
             count += 1;
         }

@@ -31,7 +31,8 @@ fn wrong_marks(marks: &[u8]) -> u16
     let mut total = 0u16;
     let mut x = 0;
     while x < marks.len() {
-        if 1 < marks[x] {
+        let is_wrong = 1 < marks[x];
+        if is_wrong {
             total += 1;
         }
         x += 1;
@@ -47,7 +48,8 @@ fn kept_marks(marks: &[u8]) -> u16
     let mut total = 0u16;
     let mut x = 0;
     while x < marks.len() {
-        if marks[x] == 1 {
+        let is_kept = marks[x] == 1;
+        if is_kept {
             total += 1;
         }
         x += 1;

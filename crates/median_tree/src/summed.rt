@@ -100,7 +100,8 @@ pub(crate) fn first_least(sums: &[u64; TREES], k: usize) -> usize
     let mut p = 0;
     let mut i = 0;
     while i < k {
-        if sums[i] < sums[p] {
+        let is_less = sums[i] < sums[p];
+        if is_less {
             p = i;
         }
         i += 1;

@@ -40,7 +40,8 @@ fn refused(number: u16) -> TreeList
 fn is_few(k: usize) -> bool
     ensures { result ≡ (leb 2 k && leb k trees_most) }
 {
-    if k < 2 {
+    let is_too_few = k < 2;
+    if is_too_few {
         return false;
     }
     k <= 16

@@ -23,7 +23,8 @@ fn list_nodes(labels: &[u16], n: usize, labelled: &mut [u16])
     let mut v = 0;
     while v < labels.len() {
         let x = as_index(labels[v]);
-        if x < n {
+        let is_label = x < n;
+        if is_label {
             labelled[x] = as_word(v);
         }
         v += 1;

@@ -23,7 +23,8 @@ fn write_walk(parents: &[u16], labels: &[u16], n: usize, cells: &mut [u16])
     let mut v = 0;
     while v < labels.len() {
         let label = labels[v];
-        if as_index(label) < n {
+        let is_tip = as_index(label) < n;
+        if is_tip {
             cells[end[v] - size[v]] = label;
         }
         v += 1;

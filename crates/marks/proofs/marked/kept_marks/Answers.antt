@@ -6,7 +6,7 @@ use borrow.Author.Tests.{eq-eqb, ne_eqb}
 use lib.ListN.{length}
 use Rattle.sums.specs.theorems.CountSteps.{count-start, count_hit, count_miss, count_few}
 use Rattle.marks.specs.Marks.{is_kept}
-use Rattle.marks.proofs.marked.kept_marks.Goals.{else-marks-x-eq1, then-marks-x-eq1}
+use Rattle.marks.proofs.marked.kept_marks.Goals.{else-is_kept, then-is_kept}
 use Rattle.marks.proofs.marked.kept_marks.Goals as goal
 
 pub loop-x-init : goal.loop-x-init
@@ -21,7 +21,7 @@ unfolding is_kept
 loop-x-preserved c =
     let l = c.loop-x in (
       omega (arith, c.loop-x-test.true),
-      elim c.if-marks-x-eq1.branch [ then-marks-x-eq1 h ↦ rw h.total-is (count_hit _ _ _ _ l.invariant.1 refl (eq-eqb _ _ h.if-marks-x-eq1.true)) | else-marks-x-eq1 h ↦ rw h.total-is (count_miss _ _ _ _ l.invariant.1 refl (ne_eqb _ _ h.if-marks-x-eq1.false)) ],
+      elim c.if-is_kept.branch [ then-is_kept h ↦ rw h.total-is (count_hit _ _ _ _ l.invariant.1 refl (eq-eqb _ _ h.if-is_kept.true)) | else-is_kept h ↦ rw h.total-is (count_miss _ _ _ _ l.invariant.1 refl (ne_eqb _ _ h.if-is_kept.false)) ],
     )
 
 pub returns : goal.returns

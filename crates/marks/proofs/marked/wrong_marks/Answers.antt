@@ -5,7 +5,7 @@ use native.Mathlib.Omega.{arith}
 use borrow.Author.Tests.{lt-ltb, le-ltb}
 use lib.ListN.{length}
 use Rattle.sums.specs.theorems.CountSteps.{count-start, count_hit, count_miss, count_few}
-use Rattle.marks.proofs.marked.wrong_marks.Goals.{else-marks-x-gt1, then-marks-x-gt1}
+use Rattle.marks.proofs.marked.wrong_marks.Goals.{else-is_wrong, then-is_wrong}
 use Rattle.marks.proofs.marked.wrong_marks.Goals as goal
 
 pub loop-x-init : goal.loop-x-init
@@ -19,7 +19,7 @@ pub loop-x-preserved : goal.loop-x-preserved
 loop-x-preserved c =
     let l = c.loop-x in (
       omega (arith, c.loop-x-test.true),
-      elim c.if-marks-x-gt1.branch [ then-marks-x-gt1 h ↦ rw h.total-is (count_hit _ _ _ _ l.invariant.1 refl (lt-ltb _ _ h.if-marks-x-gt1.true)) | else-marks-x-gt1 h ↦ rw h.total-is (count_miss _ _ _ _ l.invariant.1 refl (le-ltb _ _ h.if-marks-x-gt1.false)) ],
+      elim c.if-is_wrong.branch [ then-is_wrong h ↦ rw h.total-is (count_hit _ _ _ _ l.invariant.1 refl (lt-ltb _ _ h.if-is_wrong.true)) | else-is_wrong h ↦ rw h.total-is (count_miss _ _ _ _ l.invariant.1 refl (le-ltb _ _ h.if-is_wrong.false)) ],
     )
 
 pub returns : goal.returns

@@ -3,7 +3,7 @@
 use mathlib.Core.Path.{◌≡◌}
 use native.Mathlib.Omega.{arith}
 use Rattle.median_tree.proofs.lemmas.RowSums.{least_none, least_takes, least_keeps}
-use Rattle.median_tree.proofs.summed.first_least.Goals.{else-sums-i, then-sums-i}
+use Rattle.median_tree.proofs.summed.first_least.Goals.{else-is_less, then-is_less}
 use Rattle.median_tree.proofs.summed.first_least.Goals as goal
 
 pub loop-i-init : goal.loop-i-init
@@ -25,8 +25,8 @@ pub loop-i-preserved : goal.loop-i-preserved
 loop-i-preserved c =
     let l = c.loop-i in (
       omega (arith, c.loop-i-test.true),
-      elim c.if-sums-i.branch [ then-sums-i h ↦ rw h.p-is (least_takes _ _ _ l.invariant.1 h.if-sums-i.true) | else-sums-i h ↦ rw h.p-is (least_keeps _ _ _ l.invariant.1 h.if-sums-i.false) ],
-      elim c.if-sums-i.branch [ then-sums-i h ↦ rw h.p-is c.loop-i-test.true | else-sums-i h ↦ rw h.p-is l.invariant.2 ],
+      elim c.if-is_less.branch [ then-is_less h ↦ rw h.p-is (least_takes _ _ _ l.invariant.1 h.if-is_less.true) | else-is_less h ↦ rw h.p-is (least_keeps _ _ _ l.invariant.1 h.if-is_less.false) ],
+      elim c.if-is_less.branch [ then-is_less h ↦ rw h.p-is c.loop-i-test.true | else-is_less h ↦ rw h.p-is l.invariant.2 ],
     )
 
 pub returns : goal.returns

@@ -2,7 +2,7 @@
 -- Assumes nothing.
 use Rattle.std.proofs.Common.{◌≡◌, length, arith}
 use Rattle.walks.specs.lemmas.SpanLists.{listed_none, listed_next, listed_skip}
-use Rattle.walks.proofs.span_lists.list_nodes.Goals.{else-x-n, then-x-n}
+use Rattle.walks.proofs.span_lists.list_nodes.Goals.{else-is_label, then-is_label}
 use Rattle.walks.proofs.span_lists.list_nodes.Goals as goal
 
 pub loop-v-init : goal.loop-v-init
@@ -13,10 +13,10 @@ loop-v-preserved c =
     let l = c.loop-v in
     let w = c.as_index-x in (
       omega arith,
-      elim c.if-x-n.branch [
-        | then-x-n h ↦ rw h.labelled-is (listed_next _ _ l.v _ _ l.invariant.1 w.result _ w.ensures.0 h.if-x-n.true c.requires.1
+      elim c.if-is_label.branch [
+        | then-is_label h ↦ rw h.labelled-is (listed_next _ _ l.v _ _ l.invariant.1 w.result _ w.ensures.0 h.if-is_label.true c.requires.1
             h.as_word.ensures (omega (arith, c.loop-v-test.true, c.requires.0)))
-        | else-x-n h ↦ rw h.labelled-is (listed_skip _ _ l.v _ _ l.invariant.1 (omega (arith, h.if-x-n.false, w.ensures.0)))
+        | else-is_label h ↦ rw h.labelled-is (listed_skip _ _ l.v _ _ l.invariant.1 (omega (arith, h.if-is_label.false, w.ensures.0)))
       ],
     )
 

@@ -7,7 +7,7 @@ use Rattle.tree_check.specs.Table.{word}
 use Rattle.walks.specs.lemmas.TreeArrays.{few_tips, few_nodes}
 use Rattle.walks.specs.lemmas.Writing.{written_none, size-le_end, write_inside, write_tip, write_inner}
 use Rattle.walks.specs.lemmas.Writing.{write_all}
-use Rattle.walks.proofs.walks.write_walk.Goals.{else-as_index-n, then-as_index-n, In-loop-v, Then-as_index-n}
+use Rattle.walks.proofs.walks.write_walk.Goals.{else-is_tip, then-is_tip, In-loop-v, Then-is_tip}
 use Rattle.walks.proofs.walks.write_walk.Goals as goal
 
 -- ---- what is known there
@@ -17,11 +17,11 @@ few c =
     omega (arith, c.loop-v-test.true, few_nodes _ _ _ c.requires.0, c.requires.0.same)
 
 -- a tip's place
-inside : (c : Then-as_index-n) → word c.ends.new.reach c.loop-v.v - word c.sizes.new.cells c.loop-v.v < c.args.n
+inside : (c : Then-is_tip) → word c.ends.new.reach c.loop-v.v - word c.sizes.new.cells c.loop-v.v < c.args.n
 inside c =
     write_inside _ _ _ c.requires.0 _ _ c.sizes.ensures c.ends.ensures _ _
     c.requires.1 c.loop-v.v c.loop-v-test.true c.loop-v.invariant.2
-    (omega (arith, c.if-as_index-n.true, c.as_index.ensures.0))
+    (omega (arith, c.if-is_tip.true, c.as_index.ensures.0))
 
 pub sizes-requires : goal.sizes-requires
 sizes-requires c = (c.requires.0, length-replicate {A = ℕ} node_room 0)
@@ -67,18 +67,18 @@ loop-v-preserved c =
     let e = c.ends.ensures in
     let w = c.as_index in
     let t = c.loop-v-test.true in
-    elim c.if-as_index-n.branch [
-      | then-as_index-n h ↦ rw h.cells-is (
+    elim c.if-is_tip.branch [
+      | then-is_tip h ↦ rw h.cells-is (
         omega arith,
         simp length-set c.loop-v.invariant.1,
         write_tip _ _ _ c.requires.0 _ _ z e _ _ c.requires.1 c.loop-v.v t c.loop-v.invariant.2
-            (omega (arith, h.if-as_index-n.true, w.ensures.0)),
+            (omega (arith, h.if-is_tip.true, w.ensures.0)),
       )
-      | else-as_index-n h ↦ rw h.cells-is (
+      | else-is_tip h ↦ rw h.cells-is (
         omega arith,
         c.loop-v.invariant.1,
         write_inner _ _ _ c.requires.0 _ _ z e _ _ c.requires.1 c.loop-v.v t c.loop-v.invariant.2
-            (omega (arith, h.if-as_index-n.false, w.ensures.0)),
+            (omega (arith, h.if-is_tip.false, w.ensures.0)),
       )
     ]
 
