@@ -42,7 +42,7 @@ def public_functions(crate: str) -> dict[str, list[str]]:
     sources = [path.read_text(encoding="utf-8") for path in sorted(ROOT.glob("crates/*/src/*.rt"))]
     declared = {name: re.findall(r"(\w+):", parameters)
                 for source in sources
-                for name, parameters in re.findall(r"^pub fn (\w+)(?:<[^>]*>)?\(([^)]*)\)", source, re.M)}
+                for name, parameters in re.findall(r"^pub fn (\w+)(?:<[^(]*>)?\(([^)]*)\)", source, re.M)}
     passed_on = re.findall(r"^pub use [\w:]+::(\w+|\{[^}]*\});", text(f"crates/{crate}/src/lib.rt"), re.M)
     reached = [name for names in passed_on for name in re.findall(r"\w+", names)]
     return {name: declared[name] for name in reached if name in declared}

@@ -1,2 +1,3 @@
 pub mod LabelOrder
 pub mod theorems
+pub mod lemmas

@@ -5,20 +5,13 @@ ghost use Rattle.tree_check.specs.Table.{word, node_below};
 ghost use Rattle.tree_check.specs.Refusals.{refusal};
 ghost use Rattle.asked_labels.specs.LabelOrder.{too_large, two_equal, asked_order};
 
-use table_words::as_index;
+use tree_check::Refusal;
 
 // Whether one of the labels is n or more.
 fn some_too_large(asked: &[u16], n: usize) -> bool
     ensures { result ≡ too_large n asked.now }
 {
-    let mut i = 0;
-    while i < asked.len() {
-        if n <= as_index(asked[i]) {
-            return true;
-        }
-        i += 1;
-    }
-    false
+    asked.iter().any(|x| n <= usize::from(*x))
 }
 
 // Whether one of the first `end` labels is x.
@@ -26,39 +19,31 @@ fn is_among(asked: &[u16], end: usize, x: u16) -> bool
     requires { end ≤ length asked.now }
     ensures { result ≡ some end (λ j. eqb (word asked.now j) x) }
 {
-    let mut j = 0;
-    while j < end {
-        if asked[j] == x {
-            return true;
-        }
-        j += 1;
-    }
-    false
+    asked[..end].contains(&x)
 }
 
 // Whether two of the labels are equal.
 fn two_equal(asked: &[u16]) -> bool
     ensures { result ≡ two_equal asked.now }
 {
-    let mut i = 0;
-    while i < asked.len() {
-        if is_among(asked, i, asked[i]) {
+    for (i, x) in asked.iter().enumerate() {
+        if is_among(asked, i, *x) {
             return true;
         }
-        i += 1;
     }
     false
 }
 
-// 10, 11 or 0: one of the labels is n or more, or two of them are equal.
+// The number of a refusal, or 0: one of the labels is n or more, or two of them are equal.
+// The answer is the number itself, as docs/LIBRARY.md promises.
 pub fn asked_refusal(asked: &[u16], n: usize) -> u16
     ensures { result ≡ refusal (asked_order n asked.now) }
 {
     if some_too_large(asked, n) {
-        return 10;
+        return u16::from(Refusal::TooLarge);
     }
     if two_equal(asked) {
-        return 11;
+        return u16::from(Refusal::Equal);
     }
     0
 }
@@ -68,12 +53,10 @@ pub fn node_of(labels: &[u16], x: u16) -> usize
     ensures { result ≡ node_below (word labels.now) (length labels.now) x }
 {
     let mut at = 0;
-    let mut v = 0;
-    while v < labels.len() {
-        if labels[v] == x {
+    for (v, label) in labels.iter().enumerate() {
+        if *label == x {
             at = v;
         }
-        v += 1;
     }
     at
 }

@@ -6,17 +6,15 @@ ghost use Rattle.canonical_copy.specs.lemmas.Parents.{ParentsBefore};
 ghost use Rattle.canonical_copy.specs.lemmas.LeastBelow.{LeastBelow};
 ghost use Rattle.canonical_copy.specs.lemmas.Staying.{BranchCounts, StayBits, OwnAtMostOne, SizesAre};
 
-use table_words::{NODES, as_index};
+use table_words::NODES;
 
 // The smallest of what stands at a node or below, from what stands at each: each node's goes to its parent, from the last on.
 pub(crate) fn lower(parents: &[u16], lows: &mut [u16; NODES])
     requires { ParentsBefore parents.now × (length lows.old ≡ node_room) }
     ensures { LeastBelow parents.now lows.old lows.new }
 {
-    let mut c = parents.len();
-    while 1 < c {
-        c -= 1;
-        let p = as_index(parents[c]);
+    for c in (1..parents.len()).rev() {
+        let p = usize::from(parents[c]);
         let low = lows[c];
         if low < lows[p] {
             lows[p] = low;
@@ -30,13 +28,11 @@ pub(crate) fn branch_counts(parents: &[u16], lows: &[u16; NODES], k: u16) -> [u1
     ensures { BranchCounts parents.now lows.now k (length parents.now) result }
 {
     let mut counts = [0u16; NODES];
-    let mut c = 1;
-    while c < parents.len() {
+    for c in 1..parents.len() {
         if lows[c] < k {
-            let p = as_index(parents[c]);
-            counts[p] = counts[p] + 1;
+            let p = usize::from(parents[c]);
+            counts[p] += 1;
         }
-        c += 1;
     }
     counts
 }
@@ -65,10 +61,8 @@ pub(crate) fn stay_bits(
     ensures { StayBits ranks.now branches.now k m result }
 {
     let mut bits = [0u16; NODES];
-    let mut v = 0;
-    while v < m {
+    for v in 0..m {
         bits[v] = stays(ranks[v], k, branches[v]);
-        v += 1;
     }
     bits
 }
@@ -78,10 +72,8 @@ pub(crate) fn add_sizes(parents: &[u16], sizes: &mut [u16; NODES])
     requires { ParentsBefore parents.now × OwnAtMostOne (length parents.now) sizes.old }
     ensures { SizesAre parents.now sizes.old 1 sizes.new }
 {
-    let mut c = parents.len();
-    while 1 < c {
-        c -= 1;
-        let p = as_index(parents[c]);
-        sizes[p] = sizes[p] + sizes[c];
+    for c in (1..parents.len()).rev() {
+        let p = usize::from(parents[c]);
+        sizes[p] += sizes[c];
     }
 }

@@ -11,10 +11,11 @@ use super::ranks::{first_kept, label_ranks, node_ranks};
 use super::words::{parent_numbers, write_words};
 use marks::check_marks;
 use rerooting::reroot;
-use table_words::{NODES, TABLE_WORDS, TIPS, as_index, as_word};
-use tree_check::{Checked, check, refusal_of};
+use table_words::{NODES, TABLE_WORDS, TIPS, as_word};
+use tree_check::{Refusal, check};
 
 // The number, and how many words the copy has.
+// No Result: a refused call gives its number, and zeros (docs/SPECIFICATION.md, 7.2).
 #[derive(Clone, Copy)]
 pub struct CopyAnswer {
     pub refusal: u16,
@@ -42,14 +43,14 @@ fn rooted_copy(
     let bits = stay_bits(&at, &branches, m, k);
     let mut sizes = bits;
     add_sizes(parents, &mut sizes);
-    let count = as_index(sizes[0]);
+    let count = usize::from(sizes[0]);
     if copy.len() < 2 + 2 * count {
         return 0;
     }
     let mut heads = [as_word(m); NODES];
     let mut nexts = [0u16; NODES];
     chain(&lows, m, &mut heads, &mut nexts);
-    let news = numbers(parents, &sizes, &bits, &heads, &nexts, as_index(k));
+    let news = numbers(parents, &sizes, &bits, &heads, &nexts, usize::from(k));
     let above = parent_numbers(parents, &bits, &news);
     write_words(&at, &bits, &news, &above, m, k, count, copy);
     2 + 2 * count
@@ -94,20 +95,20 @@ pub fn canonical_copy(table: &[u16], marks: &[u8], copy: &mut [u16]) -> CopyAnsw
         × (copy.new ≡ after_copy marks.now table.now copy.old)
         × Copied marks.now table.now copy.old result copy.new }
 {
-    let answer = check(table);
-    let Checked::Tree { tips, nodes } = answer else {
-        return refused(refusal_of(answer));
+    let tree = match check(table) {
+        Ok(tree) => tree,
+        Err(refusal) => return refused(u16::from(refusal)),
     };
-    let told = check_marks(marks, tips);
-    if told.refusal != 0 {
-        return refused(told.refusal);
+    let kept = match check_marks(marks, tree.tips) {
+        Ok(kept) => kept,
+        Err(refusal) => return refused(u16::from(refusal)),
+    };
+    if kept < 2 {
+        return refused(u16::from(Refusal::FewKept));
     }
-    if told.kept < 2 {
-        return refused(35);
-    }
-    let words = kept_copy(table, marks, as_index(nodes), told.kept, copy);
+    let words = kept_copy(table, marks, usize::from(tree.nodes), kept, copy);
     if words == 0 {
-        return refused(36);
+        return refused(u16::from(Refusal::ShortCopy));
     }
     CopyAnswer {
         refusal: 0,

@@ -3,7 +3,7 @@ ghost use Rattle.std.specs.Prelude.{◌+◌};
 ghost use Rattle.canonical_copy.specs.lemmas.Chains.{Chainable, ChainsAre};
 ghost use Rattle.canonical_copy.specs.lemmas.Numbering.{Round, Going, RanksReady, NumbersAre};
 
-use table_words::{NODES, as_index, as_word};
+use table_words::{NODES, as_word};
 
 // The nodes but 0 with each smallest rank, in order: the first of them, and after each node the next; m after the last.
 pub(crate) fn chain(
@@ -15,10 +15,8 @@ pub(crate) fn chain(
     requires { Chainable lows.now m heads.old nexts.old }
     ensures { ChainsAre lows.now m 1 heads.new nexts.new }
 {
-    let mut v = m;
-    while 1 < v {
-        v -= 1;
-        let x = as_index(lows[v]);
+    for v in (1..m).rev() {
+        let x = usize::from(lows[v]);
         nexts[v] = heads[x];
         heads[x] = as_word(v);
     }
@@ -39,14 +37,14 @@ pub(crate) fn number_round(
     ensures { Going parents.now sizes.now bits.now heads.now nexts.now
         (x + 1) numbers.new frees.new }
 {
-    let mut v = as_index(heads[x]);
+    let mut v = usize::from(heads[x]);
     while v < parents.len() {
-        let p = as_index(parents[v]);
+        let p = usize::from(parents[v]);
         let number = frees[p];
         numbers[v] = number;
         frees[v] = number + bits[v];
         frees[p] = number + sizes[v];
-        v = as_index(nexts[v]);
+        v = usize::from(nexts[v]);
     }
 }
 
@@ -65,8 +63,7 @@ pub(crate) fn numbers(
     let mut numbers = [0u16; NODES];
     let mut frees = [0u16; NODES];
     frees[0] = 1;
-    let mut x = 0;
-    while x < k {
+    for x in 0..k {
         number_round(
             parents,
             sizes,
@@ -77,7 +74,6 @@ pub(crate) fn numbers(
             &mut numbers,
             &mut frees,
         );
-        x += 1;
     }
     numbers
 }

@@ -6,20 +6,18 @@ ghost use Rattle.marks.specs.Marks.{is_kept};
 ghost use Rattle.canonical_copy.specs.lemmas.Ranks.{Rankable, RanksAre, NodeRanks};
 
 use marks::is_kept;
-use table_words::{NODES, TIPS, as_index};
+use table_words::{NODES, TIPS};
 
 // The smallest kept label, and the number of marks where none is kept.
 pub(crate) fn first_kept(marks: &[u8]) -> usize
     ensures { result ≡ first (length marks.now) (is_kept marks.now) }
 {
-    let mut x = 0;
-    while x < marks.len() {
+    for x in 0..marks.len() {
         if is_kept(marks, x) {
             return x;
         }
-        x += 1;
     }
-    x
+    marks.len()
 }
 
 // The rank of each label of the re-rooted table, and k for struck labels. Label 0 is x, the first of the k kept ones.
@@ -30,13 +28,11 @@ pub(crate) fn label_ranks(marks: &[u8], x: usize, k: u16) -> [u16; TIPS]
     let mut ranks = [k; TIPS];
     ranks[0] = 0;
     let mut rank = 1u16;
-    let mut y = x + 1;
-    while y < marks.len() {
+    for y in x + 1..marks.len() {
         if is_kept(marks, y) {
             ranks[y] = rank;
             rank += 1;
         }
-        y += 1;
     }
     ranks
 }
@@ -47,13 +43,11 @@ pub(crate) fn node_ranks(labels: &[u16], ranks: &[u16; TIPS], k: u16) -> [u16; N
     ensures { NodeRanks labels.now ranks.now k (length labels.now) result }
 {
     let mut at = [k; NODES];
-    let mut v = 0;
-    while v < labels.len() {
-        let y = as_index(labels[v]);
+    for (v, label) in labels.iter().enumerate() {
+        let y = usize::from(*label);
         if y < TIPS {
             at[v] = ranks[y];
         }
-        v += 1;
     }
     at
 }

@@ -4,7 +4,7 @@ ghost use Rattle.canonical_copy.specs.lemmas.Parents.{ParentsBefore};
 ghost use Rattle.canonical_copy.specs.lemmas.ParentNumbers.{ParentNumbers};
 ghost use Rattle.canonical_copy.specs.lemmas.Writing.{label_for, Writable, CopyWritten};
 
-use table_words::{NODES, as_index, as_word};
+use table_words::{NODES, as_word};
 
 // For each node the number of the next node above that stays; node 0 has its own.
 pub(crate) fn parent_numbers(
@@ -16,15 +16,13 @@ pub(crate) fn parent_numbers(
     ensures { ParentNumbers parents.now bits.now numbers.now (length parents.now) result }
 {
     let mut above = [0u16; NODES];
-    let mut v = 0;
-    while v < parents.len() {
-        let p = as_index(parents[v]);
+    for (v, parent) in parents.iter().enumerate() {
+        let p = usize::from(*parent);
         if bits[p] == 1 {
             above[v] = numbers[p];
         } else {
             above[v] = above[p];
         }
-        v += 1;
     }
     above
 }
@@ -56,13 +54,11 @@ pub(crate) fn write_words(
 {
     copy[0] = k;
     copy[1] = as_word(count);
-    let mut v = 0;
-    while v < m {
+    for v in 0..m {
         if bits[v] == 1 {
-            let i = as_index(numbers[v]);
+            let i = usize::from(numbers[v]);
             copy[2 + i] = above[v];
             copy[2 + (count + i)] = label_for(ranks[v], k);
         }
-        v += 1;
     }
 }

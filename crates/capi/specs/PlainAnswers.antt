@@ -26,20 +26,20 @@ use Rattle.capi.specs.declared.answers.TripletTableAnswer.{TripletTableAnswer}
 use Rattle.capi.specs.declared.answers.WeightedDistanceAnswer.{WeightedDistanceAnswer}
 use Rattle.capi.specs.declared.answers.EvidenceAnswer.{EvidenceAnswer}
 
-unfoldable pub plain_beyond : PartBeyond → BeyondAnswer
+abbrev pub plain_beyond : PartBeyond → BeyondAnswer
 plain_beyond a = record { refusal = a.refusal; start = a.start; labels = a.count }
 
-unfoldable pub plain_centre : trees-centre.CentreAnswer → CentreAnswer
+abbrev pub plain_centre : trees-centre.CentreAnswer → CentreAnswer
 plain_centre a = record { refusal = a.refusal; node = a.node }
 
-unfoldable pub plain_topology : trees-topology.TopologyAnswer → TopologyAnswer
+abbrev pub plain_topology : trees-topology.TopologyAnswer → TopologyAnswer
 plain_topology a = record {
   refusal = a.refusal;
   butterfly = butterfly_of a.topology;
   partner = partner_of a.topology;
 }
 
-unfoldable pub plain_claims : ClaimSums → ClaimSumsAnswer
+abbrev pub plain_claims : ClaimSums → ClaimSumsAnswer
 plain_claims a = record {
   refusal = a.refusal;
   first = a.first;
@@ -48,7 +48,7 @@ plain_claims a = record {
   different = a.different;
 }
 
-unfoldable pub plain_table : QuartetTable → QuartetTableAnswer
+abbrev pub plain_table : QuartetTable → QuartetTableAnswer
 plain_table a = record {
   refusal = a.refusal;
   a = a.a;
@@ -60,7 +60,7 @@ plain_table a = record {
 }
 
 -- .. and back, to read demand 3 of it
-unfoldable pub library_table : QuartetTableAnswer → QuartetTable
+abbrev pub library_table : QuartetTableAnswer → QuartetTable
 library_table a = record {
   refusal = a.refusal;
   a = a.a;
@@ -71,7 +71,7 @@ library_table a = record {
   distance = a.distance;
 }
 
-unfoldable pub plain_splits : SplitCounts → SplitCountsAnswer
+abbrev pub plain_splits : SplitCounts → SplitCountsAnswer
 plain_splits a = record {
   refusal = a.refusal;
   first = a.first;
@@ -80,7 +80,7 @@ plain_splits a = record {
   distance = a.distance;
 }
 
-unfoldable pub plain_triplets : TripletTable → TripletTableAnswer
+abbrev pub plain_triplets : TripletTable → TripletTableAnswer
 plain_triplets a = record {
   refusal = a.refusal;
   a = a.a;
@@ -99,10 +99,10 @@ weight_of (suc zero) x = Full
 weight_of (suc (suc zero)) x = Part x
 weight_of (suc (suc (suc kind))) x = Part (fin false 1 (pos 1))
 
-unfoldable pub plain_weighted : WeightedDistance → WeightedDistanceAnswer
+abbrev pub plain_weighted : WeightedDistance → WeightedDistanceAnswer
 plain_weighted a = record { refusal = a.refusal; distance = a.distance }
 
-unfoldable pub plain_evidence : shown.EvidenceAnswer → EvidenceAnswer
+abbrev pub plain_evidence : shown.EvidenceAnswer → EvidenceAnswer
 plain_evidence a = record {
   refusal = a.refusal;
   which = case_number a.which;

@@ -5,8 +5,8 @@ use Rattle.exchange_distances.specs.declared.tallies.ExchangeAnswer as library
 use Rattle.capi.specs.declared.answers.ExchangeAnswer.{ExchangeAnswer}
 use Rattle.capi.specs.declared.answers.ExchangeDistanceAnswer.{ExchangeDistanceAnswer}
 
-unfoldable pub plain_tallies : library.ExchangeAnswer → ExchangeAnswer
+abbrev pub plain_tallies : library.ExchangeAnswer → ExchangeAnswer
 plain_tallies r = record { refusal = r.refusal; tallies = r.tallies }
 
-unfoldable pub plain_distance : ExchangeDistance → ExchangeDistanceAnswer
+abbrev pub plain_distance : ExchangeDistance → ExchangeDistanceAnswer
 plain_distance r = record { refusal = r.refusal; distance = r.distance }

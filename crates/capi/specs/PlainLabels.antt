@@ -13,7 +13,7 @@ use Rattle.one_label.specs.FiveAnswers.{five_of, refused_five}
 use Rattle.one_label.specs.Changes.{wish_order, new_counts}
 use Rattle.capi.specs.declared.answers.FiveCountsAnswer.{FiveCountsAnswer}
 
-unfoldable pub plain_five : FiveAnswer → FiveCountsAnswer
+abbrev pub plain_five : FiveAnswer → FiveCountsAnswer
 plain_five r = record { refusal = r.refusal; a = r.a; b = r.b; c = r.c; d = r.d; e = r.e }
 
 abbrev pub five : ℕ → ℕ → ℕ → ℕ → ℕ → FiveCounts

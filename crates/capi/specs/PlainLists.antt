@@ -3,5 +3,5 @@
 use Rattle.median_tree.specs.declared.median.NearestAnswer as library
 use Rattle.capi.specs.declared.answers.NearestAnswer.{NearestAnswer}
 
-unfoldable pub plain_nearest : library.NearestAnswer → NearestAnswer
+abbrev pub plain_nearest : library.NearestAnswer → NearestAnswer
 plain_nearest r = record { refusal = r.refusal; position = r.position; sum = r.sum }

@@ -3,5 +3,5 @@
 use Rattle.canonical_copy.specs.declared.copies.CopyAnswer as library
 use Rattle.capi.specs.declared.answers.CopyAnswer.{CopyAnswer}
 
-unfoldable pub plain_copy : library.CopyAnswer → CopyAnswer
+abbrev pub plain_copy : library.CopyAnswer → CopyAnswer
 plain_copy r = record { refusal = r.refusal; words = r.words }

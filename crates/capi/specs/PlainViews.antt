@@ -3,7 +3,7 @@
 use Rattle.views.specs.declared.pairs.ViewAnswer as library
 use Rattle.capi.specs.declared.answers.ViewAnswer.{ViewAnswer}
 
-unfoldable pub plain_view : library.ViewAnswer → ViewAnswer
+abbrev pub plain_view : library.ViewAnswer → ViewAnswer
 plain_view r = record {
   refusal = r.refusal;
   visible = r.visible;

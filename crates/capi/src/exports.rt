@@ -6,9 +6,7 @@ ghost use Rattle.walks.specs.WalkOrders.{walk_order};
 ghost use Rattle.walks.specs.Walk.{after_walk, place_beyond};
 ghost use Rattle.trees.specs.Centre.{centre_answer};
 ghost use Rattle.trees.specs.Topology.{topology_answer};
-ghost use Rattle.trees.specs.Witness.{is_edge, witness_number};
 ghost use Rattle.pair_check.specs.PairOrder.{pair_order};
-ghost use Rattle.counting.specs.Cases.{case_number};
 ghost use Rattle.evidence.specs.EvidenceAnswer.{evidence_answer};
 ghost use Rattle.tree_pairs.specs.Crossings.{after_crossings, after_all};
 ghost use Rattle.splits.specs.SplitAnswer.{split_answer};
@@ -24,9 +22,9 @@ use super::answers::{
     BeyondAnswer, CentreAnswer, ClaimSumsAnswer, EvidenceAnswer, QuartetTableAnswer,
     SplitCountsAnswer, TopologyAnswer, TripletTableAnswer, WeightedDistanceAnswer,
 };
-use quartets::{Case, claim_sums, crossings, evidence, quartet_table, split_counts, triplet_table};
-use table_words::{Cell, as_count};
-use trees::{Topology, Witness, centre, check, part_beyond, refusal_of, topology_of, walk};
+use quartets::{claim_sums, crossings, evidence, quartet_table, split_counts, triplet_table};
+use table_words::Cell;
+use trees::{centre, check, part_beyond, refusal_of, topology_of, walk};
 use weights::{Weight, weighted_distance};
 
 // The tree check's number.
@@ -51,12 +49,7 @@ pub extern "C" fn leskwyn_walk(table: &[u16], cells: &mut [u16]) -> u16
 pub extern "C" fn leskwyn_beyond(table: &[u16], edge: u16, cells: usize) -> BeyondAnswer
     ensures { result ≡ plain_beyond (place_beyond table.now edge cells) }
 {
-    let part = part_beyond(table, edge, cells);
-    BeyondAnswer {
-        refusal: part.refusal,
-        start: part.start,
-        labels: part.count,
-    }
+    BeyondAnswer::from(part_beyond(table, edge, cells))
 }
 
 // The centre of three labels.
@@ -64,11 +57,7 @@ pub extern "C" fn leskwyn_beyond(table: &[u16], edge: u16, cells: usize) -> Beyo
 pub extern "C" fn leskwyn_centre(table: &[u16], a: u16, b: u16, c: u16) -> CentreAnswer
     ensures { result ≡ plain_centre (centre_answer table.now a b c) }
 {
-    let answer = centre(table, a, b, c);
-    CentreAnswer {
-        refusal: answer.refusal,
-        node: answer.node,
-    }
+    CentreAnswer::from(centre(table, a, b, c))
 }
 
 // The topology of four labels.
@@ -76,20 +65,7 @@ pub extern "C" fn leskwyn_centre(table: &[u16], a: u16, b: u16, c: u16) -> Centr
 pub extern "C" fn leskwyn_topology(table: &[u16], a: u16, b: u16, c: u16, d: u16) -> TopologyAnswer
     ensures { result ≡ plain_topology (topology_answer table.now a b c d) }
 {
-    let answer = topology_of(table, a, b, c, d);
-    let topology = answer.topology;
-    match topology {
-        Topology::Butterfly(partner) => TopologyAnswer {
-            refusal: answer.refusal,
-            butterfly: 1,
-            partner,
-        },
-        Topology::Star => TopologyAnswer {
-            refusal: answer.refusal,
-            butterfly: 0,
-            partner: 0,
-        },
-    }
+    TopologyAnswer::from(topology_of(table, a, b, c, d))
 }
 
 // The pair's number, and the crossings in the lent cells.
@@ -120,14 +96,7 @@ pub extern "C" fn leskwyn_claim_sums(
         × (work.new
         ≡ after_crossings first.now second.now marks.now work.old) }
 {
-    let sums = claim_sums(first, second, marks, work);
-    ClaimSumsAnswer {
-        refusal: sums.refusal,
-        first: sums.first,
-        second: sums.second,
-        same: sums.same,
-        different: sums.different,
-    }
+    ClaimSumsAnswer::from(claim_sums(first, second, marks, work))
 }
 
 // The quartet table, and the crossings in the lent cells.
@@ -143,16 +112,7 @@ pub extern "C" fn leskwyn_quartet_table(
         × (work.new
         ≡ after_crossings first.now second.now marks.now work.old) }
 {
-    let table = quartet_table(first, second, marks, work);
-    QuartetTableAnswer {
-        refusal: table.refusal,
-        a: table.a,
-        b: table.b,
-        c: table.c,
-        d: table.d,
-        e: table.e,
-        distance: table.distance,
-    }
+    QuartetTableAnswer::from(quartet_table(first, second, marks, work))
 }
 
 // The split counts, and the crossings in the lent cells.
@@ -167,14 +127,7 @@ pub extern "C" fn leskwyn_split_counts(
         × (work.new
         ≡ after_crossings first.now second.now marks.now work.old) }
 {
-    let counts = split_counts(first, second, marks, work);
-    SplitCountsAnswer {
-        refusal: counts.refusal,
-        first: as_count(counts.first),
-        second: as_count(counts.second),
-        common: as_count(counts.common),
-        distance: as_count(counts.distance),
-    }
+    SplitCountsAnswer::from(split_counts(first, second, marks, work))
 }
 
 // The triplet table of all labels, and their crossings in the lent cells.
@@ -187,19 +140,11 @@ pub extern "C" fn leskwyn_triplet_table(
     ensures { (result ≡ plain_triplets (triplet_answer first.now second.now (length work.old)))
         × (work.new ≡ after_all first.now second.now work.old) }
 {
-    let table = triplet_table(first, second, work);
-    TripletTableAnswer {
-        refusal: table.refusal,
-        a: table.a,
-        b: table.b,
-        c: table.c,
-        d: table.d,
-        e: table.e,
-        distance: table.distance,
-    }
+    TripletTableAnswer::from(triplet_table(first, second, work))
 }
 
 // The weight of a kind: 0 is nothing, 1 full, 2 a part with its fraction. Any other kind is a fraction that is refused.
+// By numbers, as the C interface has a weight.
 fn weight_of(kind: u16, fraction: f64) -> Weight
     ensures { result ≡ weight_of kind fraction }
 {
@@ -232,40 +177,8 @@ pub extern "C" fn leskwyn_weighted_distance(
         ≡ after_weighted first.now second.now marks.now (weight_of kind fraction)
         work.old) }
 {
-    let answer = weighted_distance(first, second, marks, work, weight_of(kind, fraction));
-    WeightedDistanceAnswer {
-        refusal: answer.refusal,
-        distance: answer.distance,
-    }
-}
-
-// The number of a case: 0 to 4 for A to E.
-fn which_of(which: Case) -> u16
-    ensures { result ≡ case_number which }
-{
-    match which {
-        Case::A => 0,
-        Case::B => 1,
-        Case::C => 2,
-        Case::D => 3,
-        Case::E => 4,
-    }
-}
-
-// 1 and the edge, or 0 and the meeting node.
-#[derive(Clone, Copy)]
-struct PlainWitness {
-    edge: u16,
-    number: u16,
-}
-
-fn plain_witness(witness: Witness) -> PlainWitness
-    ensures { (result.edge ≡ is_edge witness) × (result.number ≡ witness_number witness) }
-{
-    match witness {
-        Witness::Edge(i) => PlainWitness { edge: 1, number: i },
-        Witness::Meet(v) => PlainWitness { edge: 0, number: v },
-    }
+    let weight = weight_of(kind, fraction);
+    WeightedDistanceAnswer::from(weighted_distance(first, second, marks, work, weight))
 }
 
 // The case of four labels, and what shows it in each tree.
@@ -280,18 +193,5 @@ pub extern "C" fn leskwyn_evidence(
 ) -> EvidenceAnswer
     ensures { result ≡ plain_evidence (evidence_answer first.now second.now a b c d) }
 {
-    let answer = evidence(first, second, a, b, c, d);
-    let which = answer.which;
-    let one = answer.first;
-    let other = answer.second;
-    let here = plain_witness(one);
-    let there = plain_witness(other);
-    EvidenceAnswer {
-        refusal: answer.refusal,
-        which: which_of(which),
-        first_edge: here.edge,
-        first_number: here.number,
-        second_edge: there.edge,
-        second_number: there.number,
-    }
+    EvidenceAnswer::from(evidence(first, second, a, b, c, d))
 }

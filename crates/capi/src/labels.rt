@@ -7,8 +7,8 @@ ghost use Rattle.one_label.specs.FiveAnswers.{holding_answer};
 ghost use Rattle.capi.specs.PlainLabels.{plain_five, five, wish_of, mark_answer, marks_after_mark};
 
 use super::answers::FiveCountsAnswer;
-use one_label::{FiveAnswer, FiveCounts, Wish, change_mark, holding_counts};
-use pair_check::{check_pair, pair_refusal};
+use one_label::{FiveCounts, Wish, change_mark, holding_counts};
+use pair_check::check_pair;
 use rerooting::reroot;
 
 // The number, and the table re-rooted at the tip with this label in the lent words.
@@ -18,19 +18,6 @@ pub extern "C" fn leskwyn_reroot(table: &[u16], label: u16, out: &mut [u16]) -> 
         × (out.new ≡ after_reroot table.now label out.old) }
 {
     reroot(table, label, out)
-}
-
-fn plain_five(answer: FiveAnswer) -> FiveCountsAnswer
-    ensures { result ≡ plain_five answer }
-{
-    FiveCountsAnswer {
-        refusal: answer.refusal,
-        a: answer.a,
-        b: answer.b,
-        c: answer.c,
-        d: answer.d,
-        e: answer.e,
-    }
 }
 
 // The sets of four that hold a label and three other kept ones.
@@ -43,7 +30,7 @@ pub extern "C" fn leskwyn_holding(
 ) -> FiveCountsAnswer
     ensures { result ≡ plain_five (holding_answer first.now second.now marks.now label) }
 {
-    plain_five(holding_counts(first, second, marks, label))
+    FiveCountsAnswer::from(holding_counts(first, second, marks, label))
 }
 
 // 0 strikes, anything else restores.
@@ -57,14 +44,14 @@ fn wish_of(mark: u16) -> Wish
 }
 
 // The number of two tables, and 32 if they have none.
+// A number, as the C interface has it.
 fn tables_or_32(first: &[u16], second: &[u16]) -> u16
     ensures { result ≡ refusal (tables_order first.now second.now ++ ((32, true) ∷ [])) }
 {
-    let number = pair_refusal(check_pair(first, second));
-    if number != 0 {
-        return number;
+    match check_pair(first, second) {
+        Ok(_) => 32,
+        Err(refusal) => u16::from(refusal),
     }
-    32
 }
 
 // The counts once the label has this mark, and the mark among the lent ones. A mark above 1 is refused as marks are.
@@ -87,15 +74,15 @@ pub extern "C" fn leskwyn_change_mark(
         ≡ marks_after_mark first.now second.now marks.old (five a b c d e) label mark) }
 {
     if 1 < mark {
-        return plain_five(FiveAnswer {
+        return FiveCountsAnswer {
             refusal: tables_or_32(first, second),
             a: 0,
             b: 0,
             c: 0,
             d: 0,
             e: 0,
-        });
+        };
     }
     let counts = FiveCounts { a, b, c, d, e };
-    plain_five(change_mark(first, second, marks, counts, label, wish_of(mark)))
+    FiveCountsAnswer::from(change_mark(first, second, marks, counts, label, wish_of(mark)))
 }

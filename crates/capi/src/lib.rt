@@ -2,7 +2,7 @@
 // it wraps.
 #![tactic(auto)]
 
-mod answers; // answers.rt: the answers as plain structs
+mod answers; // answers.rt: the answers as plain structs, each from a library's answer
 mod exports; // exports.rt: the exported functions
 mod labels; // labels.rt: those for one label: a tree re-rooted at it, the sets that hold it, and its mark changed
 mod tables; // tables.rt: those that write a table of one tree: its canonical copy

@@ -13,10 +13,5 @@ pub extern "C" fn leskwyn_nearest(shelf: &[u16], work: &mut [Cell]) -> NearestAn
     ensures { (result ≡ plain_nearest (nearest_answer shelf.now (length work.old)))
         × (work.new ≡ after_nearest shelf.now work.old) }
 {
-    let answer = nearest(shelf, work);
-    NearestAnswer {
-        refusal: answer.refusal,
-        position: answer.position,
-        sum: answer.sum,
-    }
+    NearestAnswer::from(nearest(shelf, work))
 }

@@ -16,9 +16,5 @@ pub extern "C" fn leskwyn_canonical_copy(
     ensures { (result ≡ plain_copy (copy_answer marks.now table.now (length copy.old)))
         × (copy.new ≡ after_copy marks.now table.now copy.old) }
 {
-    let answer = canonical_copy(table, marks, copy);
-    CopyAnswer {
-        refusal: answer.refusal,
-        words: answer.words,
-    }
+    CopyAnswer::from(canonical_copy(table, marks, copy))
 }

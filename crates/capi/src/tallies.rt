@@ -15,12 +15,7 @@ pub extern "C" fn leskwyn_exchange_tallies(table: &[u16], work: &mut [Cell]) -> 
     ensures { (result ≡ plain_tallies (exchange_answer table.now (length work.old)))
         × (work.new ≡ after_exchanges table.now work.old) }
 {
-    let answer = exchange_tallies(table, work);
-    let tallies = answer.tallies;
-    ExchangeAnswer {
-        refusal: answer.refusal,
-        tallies,
-    }
+    ExchangeAnswer::from(exchange_tallies(table, work))
 }
 
 // How far the exchange of two labels moves the tree.
@@ -28,9 +23,5 @@ pub extern "C" fn leskwyn_exchange_tallies(table: &[u16], work: &mut [Cell]) -> 
 pub extern "C" fn leskwyn_exchange_distance(table: &[u16], x: u16, y: u16) -> ExchangeDistanceAnswer
     ensures { result ≡ plain_distance (distance_answer table.now x y) }
 {
-    let answer = exchange_distance(table, x, y);
-    ExchangeDistanceAnswer {
-        refusal: answer.refusal,
-        distance: answer.distance,
-    }
+    ExchangeDistanceAnswer::from(exchange_distance(table, x, y))
 }

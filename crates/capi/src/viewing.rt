@@ -7,7 +7,6 @@ ghost use Rattle.capi.specs.PlainViews.{plain_view};
 
 use super::answers::{TopologyAnswer, ViewAnswer};
 use table_words::Cell;
-use trees::Topology;
 use views::{view, view_topology};
 
 // What a viewer is told of two trees; the crossings of the visible labels are in the lent cells afterwards.
@@ -23,21 +22,7 @@ pub extern "C" fn leskwyn_view(
         × (work.new
         ≡ after_view first.now second.now levels.now viewer work.old) }
 {
-    let answer = view(first, second, levels, viewer, work);
-    ViewAnswer {
-        refusal: answer.refusal,
-        visible: answer.visible,
-        a: answer.a,
-        b: answer.b,
-        c: answer.c,
-        d: answer.d,
-        e: answer.e,
-        distance: answer.distance,
-        first_splits: answer.first_splits,
-        second_splits: answer.second_splits,
-        common_splits: answer.common_splits,
-        robinson_foulds: answer.robinson_foulds,
-    }
+    ViewAnswer::from(view(first, second, levels, viewer, work))
 }
 
 // The topology of four labels, for a viewer.
@@ -53,18 +38,5 @@ pub extern "C" fn leskwyn_view_topology(
 ) -> TopologyAnswer
     ensures { result ≡ plain_topology (view_topology table.now levels.now viewer a b c d) }
 {
-    let answer = view_topology(table, levels, viewer, a, b, c, d);
-    let topology = answer.topology;
-    match topology {
-        Topology::Butterfly(partner) => TopologyAnswer {
-            refusal: answer.refusal,
-            butterfly: 1,
-            partner,
-        },
-        Topology::Star => TopologyAnswer {
-            refusal: answer.refusal,
-            butterfly: 0,
-            partner: 0,
-        },
-    }
+    TopologyAnswer::from(view_topology(table, levels, viewer, a, b, c, d))
 }

@@ -17,6 +17,7 @@ pub mod NinePair
 pub mod NodeBlock
 pub mod NodeCodes
 pub mod PairLoops
+pub mod Prefix
 pub mod SizeTerms
 pub mod SumsByNode
 pub mod SumsOf

@@ -7,7 +7,7 @@ ghost use Rattle.claims.specs.lemmas.BlockTerms.{Rectangles};
 
 use super::cells::all_terms;
 use super::dots::{DotSums, all_dots};
-use super::lines::{line_rests, line_sums};
+use super::lines::{fill_lines, line_rest, line_sum};
 use super::terms::PairTerms;
 use super::three_lines::three_lines;
 
@@ -27,10 +27,20 @@ fn block_sums(
     ensures { Summed cells.now sums.new totals.new down.new
         along.new rows columns }
 {
-    line_sums(cells, columns, rows, 1, columns, sums);
-    line_sums(cells, 1, columns, columns, rows, totals);
-    line_rests(cells, 1, columns, columns, rows, sums, down);
-    line_rests(cells, columns, rows, 1, columns, totals, along);
+    fill_lines(columns, rows, |at| line_sum(cells, at, 1, columns), sums);
+    fill_lines(1, columns, |at| line_sum(cells, at, columns, rows), totals);
+    fill_lines(
+        1,
+        columns,
+        |at| line_rest(cells, at, columns, rows, sums),
+        down,
+    );
+    fill_lines(
+        columns,
+        rows,
+        |at| line_rest(cells, at, 1, columns, totals),
+        along,
+    );
 }
 
 // The dot products of the rows or of the columns, whichever are fewer.

@@ -6,7 +6,6 @@ ghost use Rattle.claims.specs.lemmas.CellSums.{RowTerms, AllTerms};
 
 use super::cell_terms::{CellSums, cell_terms};
 use super::lines::{line_squares, total, total_squares};
-use table_words::as_count;
 
 // What row i gives.
 fn row_terms(
@@ -33,9 +32,8 @@ fn row_terms(
     let mut plus: u64 = 0;
     let mut minus: u64 = 0;
     let mut k = i * columns;
-    let mut j = 0;
-    while j < columns {
-        let t = as_count(cells[k]);
+    for j in 0..columns {
+        let t = u64::from(cells[k]);
         if t != 0 {
             let cell = cell_terms(t, row, totals[j], down[j], beside, whole, squares, base);
             pairs += cell.pairs;
@@ -43,7 +41,6 @@ fn row_terms(
             minus += cell.minus;
         }
         k += 1;
-        j += 1;
     }
     CellSums {
         pairs: pairs,
@@ -72,15 +69,13 @@ pub(crate) fn all_terms(
     let mut pairs: u64 = 0;
     let mut plus: u64 = 0;
     let mut minus: u64 = 0;
-    let mut i = 0;
-    while i < rows {
+    for i in 0..rows {
         let row = row_terms(
             cells, rows, columns, i, whole, squares, base, sums, totals, down, along,
         );
         pairs += row.pairs;
         plus += row.plus;
         minus += row.minus;
-        i += 1;
     }
     CellSums {
         pairs: pairs,

@@ -7,7 +7,6 @@ ghost use Rattle.claims.specs.lemmas.CellLines.{squared};
 ghost use Rattle.claims.specs.lemmas.LineDots.{FewLines, AddRoom, added, scaled, line_of, dot_squares_of, term_squares_of};
 
 use super::lines::total_squares;
-use table_words::as_count;
 
 // The squares of dot products, and of their terms.
 #[derive(Clone, Copy)]
@@ -21,11 +20,7 @@ fn clear(dots: &mut [u64], lines: usize)
     requires { lines ≤ length dots.old }
     ensures { dots.new ≡ filled_to (λ l. 0) lines dots.old }
 {
-    let mut l = 0;
-    while l < lines {
-        dots[l] = 0;
-        l += 1;
-    }
+    dots[..lines].fill(0);
 }
 
 // t times each cell of a line is added to its dot product. The squares of what was added.
@@ -38,13 +33,11 @@ fn add_line(cells: &[u16], t: u64, at: usize, gap: usize, lines: usize, dots: &m
 {
     let mut s: u64 = 0;
     let mut k = at;
-    let mut l = 0;
-    while l < lines {
-        let z = t * as_count(cells[k]);
-        dots[l] = dots[l] + z;
+    for dot in &mut dots[..lines] {
+        let z = t * u64::from(cells[k]);
+        *dot += z;
         s += z * z;
         k += gap;
-        l += 1;
     }
     s
 }
@@ -67,15 +60,13 @@ fn line_dots(
     let mut terms: u64 = 0;
     let mut k = i * gap;
     let mut at = 0;
-    let mut a = 0;
-    while a < len {
-        let t = as_count(cells[k]);
+    for _ in 0..len {
+        let t = u64::from(cells[k]);
         if t != 0 {
             terms += add_line(cells, t, at, gap, i, dots);
         }
         k += step;
         at += step;
-        a += 1;
     }
     let squares = total_squares(dots, i);
     DotSums {
@@ -100,12 +91,10 @@ pub(crate) fn all_dots(
 {
     let mut squares: u64 = 0;
     let mut terms: u64 = 0;
-    let mut i = 0;
-    while i < lines {
+    for i in 0..lines {
         let line = line_dots(cells, gap, step, i, len, dots);
         squares += line.dots;
         terms += line.terms;
-        i += 1;
     }
     DotSums {
         dots: squares,

@@ -1,40 +1,29 @@
 // The block of the cells of two nodes, filled row by row. `columns` are the edges of the second node, its own first.
-ghost use Rattle.std.specs.Prelude.{◌+◌, ◌*◌, ◌≤◌, length};
-ghost use Rattle.table_words.specs.Sizes.{tips_most};
+ghost use Rattle.std.specs.Prelude.{◌≡◌, ℕ, ◌+◌, ◌*◌, ◌<◌, ◌≤◌, length};
 ghost use Rattle.tree_check.specs.Table.{word};
-ghost use Rattle.claims.specs.lemmas.CodeCells.{child_cell, own_cell};
-ghost use Rattle.claims.specs.lemmas.NodeBlock.{BlockWritten, BlockRowRoom, NodeEdges, RowsFilled};
+ghost use Rattle.claims.specs.lemmas.NodeBlock.{BlockWritten, NodeEdges, RowsFilled};
 
 use super::code_cells::{both, first_only, neither, second_only};
 use table_words::Cell;
 
-// The row of a child's edge, from `at` on.
-fn child_row(work: &[Cell], base: usize, columns: &[usize], block: &mut [u16], at: usize)
-    requires { BlockRowRoom work.now base columns.now (length block.old) at }
-    ensures { BlockWritten block.old block.new at (length columns.now)
-        (child_cell work.now base (word columns.now)) }
+// A row of cells, from `at` on: what `first` gives for the first edge, and what `later` gives for each of the others.
+pub(crate) fn fill_row<F: Fn(usize) -> u16, G: Fn(usize) -> u16>(
+    edges: &[usize],
+    at: usize,
+    first: F,
+    later: G,
+    cells: &mut [u16],
+)
+    requires room { (1 ≤ length edges.now) × (at + length edges.now ≤ length cells.old) }
+    requires first_callable { F.pre first (word edges.now 0) }
+    requires later_callable { (j : ℕ) → 1 ≤ j → j < length edges.now → G.pre later (word edges.now j) }
+    ensures { (f : ℕ → ℕ) → ((v : ℕ) → F.post first (word edges.now 0) v → v ≡ f 0)
+        → ((j v : ℕ) → 1 ≤ j → j < length edges.now → G.post later (word edges.now j) v → v ≡ f j)
+        → BlockWritten cells.old cells.new at (length edges.now) f }
 {
-    block[at] = first_only(work, base, columns[0]);
-    let mut j = 1;
-    while j < columns.len() {
-        block[at + j] = both(work, base, columns[j]);
-        j += 1;
-    }
-}
-
-// The row of the node's own edge, in front.
-fn own_row(work: &[Cell], base: usize, n: u16, columns: &[usize], block: &mut [u16])
-    requires block_row_room { BlockRowRoom work.now base columns.now (length block.old) 0 × (n ≤ tips_most) }
-    requires fits { word work.now base + word work.now (word columns.now 0)
-        ≤ n + word work.now (base + word columns.now 0) }
-    ensures { BlockWritten block.old block.new 0 (length columns.now)
-        (own_cell work.now base n (word columns.now)) }
-{
-    block[0] = neither(work, base, columns[0], n);
-    let mut j = 1;
-    while j < columns.len() {
-        block[j] = second_only(work, base, columns[j]);
-        j += 1;
+    cells[at] = first(edges[0]);
+    for j in 1..edges.len() {
+        cells[at + j] = later(edges[j]);
     }
 }
 
@@ -52,10 +41,22 @@ pub(crate) fn fill_block(
     ensures { RowsFilled work.now width n rows.now columns.now
         block.new (length rows.now) }
 {
-    own_row(work, rows[0] * width, n, columns, block);
-    let mut i = 1;
-    while i < rows.len() {
-        child_row(work, rows[i] * width, columns, block, i * columns.len());
-        i += 1;
+    let base = rows[0] * width;
+    fill_row(
+        columns,
+        0,
+        |c| neither(work, base, c, n),
+        |c| second_only(work, base, c),
+        block,
+    );
+    for i in 1..rows.len() {
+        let base = rows[i] * width;
+        fill_row(
+            columns,
+            i * columns.len(),
+            |c| first_only(work, base, c),
+            |c| both(work, base, c),
+            block,
+        );
     }
 }

@@ -14,7 +14,7 @@ use super::code_cells::{both, first_only, neither, second_only};
 use super::fills::fill_block;
 use super::nine::nine_terms;
 use super::terms::PairTerms;
-use table_words::{Cell, as_count};
+use table_words::Cell;
 
 // Three cells of a row.
 #[derive(Clone, Copy)]
@@ -24,16 +24,17 @@ struct ThreeCells {
     c: u64,
 }
 
-// The row of a node's own edge.
+// The row of a node's own edge. It and a child's differ in all that they call, and one function that took these calls as
+// closures would have to be given a child's twice below: so there are two.
 fn own_cells(work: &[Cell], base: usize, n: u16, c0: usize, c1: usize, c2: usize) -> ThreeCells
     requires three_room { ThreeRoom work.now base c0 c1 c2 × (n ≤ tips_most) }
     requires fits { word work.now base + word work.now c0 ≤ n + word work.now (base + c0) }
     ensures { OwnRow work.now n base c0 c1 c2 result.a result.b result.c }
 {
     ThreeCells {
-        a: as_count(neither(work, base, c0, n)),
-        b: as_count(second_only(work, base, c1)),
-        c: as_count(second_only(work, base, c2)),
+        a: u64::from(neither(work, base, c0, n)),
+        b: u64::from(second_only(work, base, c1)),
+        c: u64::from(second_only(work, base, c2)),
     }
 }
 
@@ -43,9 +44,9 @@ fn child_cells(work: &[Cell], base: usize, c0: usize, c1: usize, c2: usize) -> T
     ensures { ChildRow work.now base c0 c1 c2 result.a result.b result.c }
 {
     ThreeCells {
-        a: as_count(first_only(work, base, c0)),
-        b: as_count(both(work, base, c1)),
-        c: as_count(both(work, base, c2)),
+        a: u64::from(first_only(work, base, c0)),
+        b: u64::from(both(work, base, c1)),
+        c: u64::from(both(work, base, c2)),
     }
 }
 

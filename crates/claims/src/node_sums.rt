@@ -11,7 +11,7 @@ ghost use Rattle.claims.specs.lemmas.TreeSizes.{NodeSizes, TreeSizes};
 
 use super::lines::{line_squares, line_sum};
 use super::sizes::fill_sizes;
-use table_words::{Cell, as_count};
+use table_words::Cell;
 
 // How many pairs there are of s labels.
 fn pairs_of(s: u64) -> u64
@@ -41,13 +41,11 @@ fn node_term(sizes: &[u16], codes: usize) -> u64
     let squares = line_squares(sizes, 0, 1, codes);
     let mut plus: u64 = 0;
     let mut pairs: u64 = 0;
-    let mut i = 0;
-    while i < codes {
-        let s = as_count(sizes[i]);
+    for size in &sizes[..codes] {
+        let s = u64::from(*size);
         let p = pairs_of(s);
         plus += size_term(s, p, whole - s);
         pairs += p;
-        i += 1;
     }
     plus - pairs * squares
 }
@@ -80,12 +78,10 @@ pub(crate) fn tree_sum(
         × (result ≤ 699170560) }
 {
     let mut total: u64 = 0;
-    let mut v = 0;
-    while v < parents.len() {
+    for v in 0..parents.len() {
         let from = starts[v];
         let to = starts[v + 1];
         total += node_sum(work, step, n, &edges[from..to], sizes);
-        v += 1;
     }
     total
 }

@@ -52,11 +52,9 @@ fn node_row(
     }
     let mut s2: u64 = 0;
     let mut s3: u64 = 0;
-    let mut i = 0;
-    while i < count {
-        let v = inner[i];
-        let from = second_starts[v];
-        let to = second_starts[v + 1];
+    for v in &inner[..count] {
+        let from = second_starts[*v];
+        let to = second_starts[*v + 1];
         let pair = node_pair(
             work,
             width,
@@ -72,7 +70,6 @@ fn node_row(
         );
         s2 += pair.s2;
         s3 += pair.s3;
-        i += 1;
     }
     PairTerms { s2, s3 }
 }
@@ -109,8 +106,7 @@ fn all_pairs(
     let mut dots = [0u64; TIPS];
     let mut s2: u64 = 0;
     let mut s3: u64 = 0;
-    let mut v = 0;
-    while v < first_parents.len() {
+    for v in 0..first_parents.len() {
         let from = first_starts[v];
         let to = first_starts[v + 1];
         let row = node_row(
@@ -132,7 +128,6 @@ fn all_pairs(
         );
         s2 += row.s2;
         s3 += row.s3;
-        v += 1;
     }
     PairTerms { s2, s3 }
 }

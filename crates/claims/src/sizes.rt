@@ -4,6 +4,7 @@ ghost use Rattle.tree_check.specs.Table.{word};
 ghost use Rattle.claims.specs.lemmas.CodeSizes.{SizesRoom, code_size};
 ghost use Rattle.claims.specs.lemmas.NodeBlock.{BlockWritten};
 
+use super::fills::fill_row;
 use table_words::{Cell, cell_word};
 
 // The sizes, in the first cells of `sizes`. `edges` are the node's, its own first, and every `step`-th cell of the
@@ -13,10 +14,11 @@ pub(crate) fn fill_sizes(work: &[Cell], step: usize, n: u16, edges: &[usize], si
     ensures { BlockWritten sizes.old sizes.new 0 (length edges.now)
         (code_size work.now step n (word edges.now)) }
 {
-    sizes[0] = n - cell_word(work[edges[0] * step]);
-    let mut i = 1;
-    while i < edges.len() {
-        sizes[i] = cell_word(work[edges[i] * step]);
-        i += 1;
-    }
+    fill_row(
+        edges,
+        0,
+        |e| n - cell_word(work[e * step]),
+        |e| cell_word(work[e * step]),
+        sizes,
+    );
 }

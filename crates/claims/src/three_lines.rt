@@ -8,7 +8,6 @@ ghost use Rattle.claims.specs.lemmas.CellLines.{line_cell};
 ghost use Rattle.claims.specs.lemmas.ThreeLines.{LowLine, TwoSums};
 
 use super::terms::PairTerms;
-use table_words::as_count;
 
 // A line and another: the sum of the first and of its squares, the products of cells at the same place, and these times
 // the sums of the cells.
@@ -39,10 +38,9 @@ fn two_lines(cells: &[u16], at: usize, to: usize, step: usize, len: usize) -> Li
     let mut weighed: u64 = 0;
     let mut k = at;
     let mut l = to;
-    let mut a = 0;
-    while a < len {
-        let x = as_count(cells[k]);
-        let y = as_count(cells[l]);
+    for _ in 0..len {
+        let x = u64::from(cells[k]);
+        let y = u64::from(cells[l]);
         let p = x * y;
         total += x;
         squares += x * x;
@@ -50,7 +48,6 @@ fn two_lines(cells: &[u16], at: usize, to: usize, step: usize, len: usize) -> Li
         weighed += p * (x + y);
         k += step;
         l += step;
-        a += 1;
     }
     LineSums {
         sum: total,
@@ -73,16 +70,14 @@ fn all_lines(cells: &[u16], gap: usize, step: usize, len: usize) -> Products
     let mut total: u64 = 0;
     let mut weighed: u64 = 0;
     let mut k = 0;
-    let mut a = 0;
-    while a < len {
-        let x = as_count(cells[k]);
-        let y = as_count(cells[gap + k]);
-        let z = as_count(cells[2 * gap + k]);
+    for _ in 0..len {
+        let x = u64::from(cells[k]);
+        let y = u64::from(cells[gap + k]);
+        let z = u64::from(cells[2 * gap + k]);
         let p = x * y * z;
         total += p;
         weighed += p * (x + y + z);
         k += step;
-        a += 1;
     }
     Products {
         sum: total,

@@ -7,11 +7,12 @@ ghost use Rattle.claims.specs.ClaimAnswer.{claim_answer};
 use super::node_sums::tree_sum;
 use super::pair_sums::pair_sums;
 use code_lists::list_codes;
-use pair_check::{CheckedPair, pair_refusal};
 use table_words::{CODES, Cell, STARTS, TIPS};
+use tree_check::refusal_of;
 use tree_pairs::cross_pair;
 
 // The number; S, S', S2 and S3.
+// No Result: a refused call gives its number, and zeros (docs/SPECIFICATION.md, 7.2).
 #[derive(Clone, Copy)]
 pub struct ClaimSums {
     pub refusal: u16,
@@ -78,28 +79,29 @@ fn sums_of(
 }
 
 // The claim sums over the kept labels, with the crossings in the cells afterwards.
+// split_counts and triplet_table begin alike; each gives zeros of a struct of its own.
 pub fn claim_sums(first: &[u16], second: &[u16], marks: &[u8], work: &mut [Cell]) -> ClaimSums
     ensures { (result ≡ claim_answer first.now second.now marks.now (length work.old))
         × (work.new
         ≡ after_crossings first.now second.now marks.now work.old) }
 {
     let answer = cross_pair(first, second, marks, work);
-    let CheckedPair::Pair {
-        tips,
-        counted,
-        rows,
-        columns,
-    } = answer
-    else {
+    let Ok(pair) = answer else {
         return ClaimSums {
-            refusal: pair_refusal(answer),
+            refusal: refusal_of(answer),
             first: 0,
             second: 0,
             same: 0,
             different: 0,
         };
     };
-    let m = rows + 1;
-    let k = columns + 1;
-    sums_of(&first[2..2 + m], &second[2..2 + k], work, counted, tips)
+    let m = pair.rows + 1;
+    let k = pair.columns + 1;
+    sums_of(
+        &first[2..2 + m],
+        &second[2..2 + k],
+        work,
+        pair.counted,
+        pair.tips,
+    )
 }

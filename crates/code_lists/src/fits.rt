@@ -2,7 +2,7 @@
 ghost use Rattle.std.specs.Prelude.{◌≡◌};
 ghost use Rattle.code_lists.specs.ListedCodes.{parents_fit, codes_fit};
 
-use table_words::{MOST_NODES, as_index};
+use table_words::MOST_NODES;
 
 // Whether there are 1 to MOST_NODES parent words, each node's parent before it.
 fn parents_fit(parents: &[u16]) -> bool
@@ -14,12 +14,10 @@ fn parents_fit(parents: &[u16]) -> bool
     if MOST_NODES < parents.len() {
         return false;
     }
-    let mut i = 1;
-    while i < parents.len() {
-        if i <= as_index(parents[i]) {
+    for i in 1..parents.len() {
+        if i <= usize::from(parents[i]) {
             return false;
         }
-        i += 1;
     }
     true
 }

@@ -23,14 +23,12 @@ pub fn inner_nodes(starts: &[usize], inner: &mut [usize]) -> usize
         return 0;
     }
     let mut count = 0;
-    let mut v = 1;
-    while v < starts.len() {
+    for v in 1..starts.len() {
         let is_inner = 3 <= codes_between(starts[v - 1], starts[v]);
         if is_inner {
             inner[count] = v - 1;
             count += 1;
         }
-        v += 1;
     }
     count
 }

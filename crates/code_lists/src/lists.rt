@@ -7,7 +7,7 @@ ghost use Rattle.code_lists.specs.lemmas.CodeCounts.{CountedCodes, StartsIn};
 ghost use Rattle.code_lists.specs.lemmas.EdgePlaces.{EdgesIn};
 
 use super::fits::codes_fit;
-use table_words::{NODES, as_index};
+use table_words::NODES;
 
 // How many codes lead into each node: each edge has one into the node above it and one into its own.
 fn code_counts(parents: &[u16]) -> [usize; NODES]
@@ -15,12 +15,10 @@ fn code_counts(parents: &[u16]) -> [usize; NODES]
     ensures { CountedCodes parents.now (λ v. 0) (codes_of parents.now) result }
 {
     let mut counts = [0usize; NODES];
-    let mut i = 1;
-    while i < parents.len() {
-        let v = as_index(parents[i]);
-        counts[v] = counts[v] + 1;
-        counts[i] = counts[i] + 1;
-        i += 1;
+    for i in 1..parents.len() {
+        let v = usize::from(parents[i]);
+        counts[v] += 1;
+        counts[i] += 1;
     }
     counts
 }
@@ -32,15 +30,13 @@ fn code_starts(parents: &[u16], next: &mut [usize; NODES], starts: &mut [usize])
     ensures { StartsIn parents.now starts.old next.new starts.new }
 {
     let mut at = 0;
-    let mut v = 0;
-    while v < parents.len() {
+    for v in 0..parents.len() {
         let codes = next[v];
         next[v] = at;
         starts[v] = at;
         at += codes;
-        v += 1;
     }
-    starts[v] = at;
+    starts[parents.len()] = at;
 }
 
 // The edges of the codes into node 0, then of those into node 1, and so on; each node's own edge before its
@@ -50,14 +46,12 @@ fn edge_list(parents: &[u16], next: &mut [usize; NODES], edges: &mut [usize])
     requires room { codes_of parents.now ≤ length edges.old }
     ensures { EdgesIn parents.now edges.old edges.new }
 {
-    let mut i = 1;
-    while i < parents.len() {
-        let v = as_index(parents[i]);
+    for i in 1..parents.len() {
+        let v = usize::from(parents[i]);
         edges[next[v]] = i - 1;
-        next[v] = next[v] + 1;
+        next[v] += 1;
         edges[next[i]] = i - 1;
-        next[i] = next[i] + 1;
-        i += 1;
+        next[i] += 1;
     }
 }
 

@@ -3,28 +3,19 @@ ghost use Rattle.std.specs.Prelude.{◌≡◌, length};
 ghost use Rattle.compare.specs.Input.{Within};
 ghost use Rattle.compare.specs.lemmas.InputLaws.{read_answer};
 
-use std::io::{Error, Read};
+use std::io::{Read, Result};
 
-// How many bytes came; or that a read failed.
-#[derive(Clone, Copy)]
-pub enum Input {
-    Bytes(usize),
-    Failed,
-}
-
-// What a read into `part` answered. A read that a signal broke off counts as failed: the program has no handler, so no
-// signal that leaves it running breaks one off.
-fn answer(got: Result<usize, Error>, part: &[u8]) -> Input
+// What a read into `part` answered: how many bytes came, or that it failed. A read that a signal broke off counts as
+// failed: the program has no handler, so no signal that leaves it running breaks one off.
+fn answer(got: Result<usize>, part: &[u8]) -> Result<usize>
     ensures { result ≡ read_answer got (length part.now) }
 {
-    match got {
-        Ok(n) => Input::Bytes(n.min(part.len())),
-        Err(_) => Input::Failed,
-    }
+    let n = got?;
+    Ok(n.min(part.len()))
 }
 
 // One read into `part`.
-fn read_some<R: Read>(source: &mut R, part: &mut [u8]) -> Input
+fn read_some<R: Read>(source: &mut R, part: &mut [u8]) -> Result<usize>
     ensures { Within result part.new }
 {
     let got = source.read(part);
@@ -33,19 +24,16 @@ fn read_some<R: Read>(source: &mut R, part: &mut [u8]) -> Input
 
 // Reads until `bytes` is full or the input ends, and answers how many bytes stand in front of `bytes`; or stops at the
 // first read that fails.
-pub fn read_input<R: Read>(source: &mut R, bytes: &mut [u8]) -> Input
+pub fn read_input<R: Read>(source: &mut R, bytes: &mut [u8]) -> Result<usize>
     ensures { Within result bytes.new }
 {
     let mut done = 0;
     while done < bytes.len() {
-        let some = read_some(source, &mut bytes[done..]);
-        let Input::Bytes(n) = some else {
-            return Input::Failed;
-        };
+        let n = read_some(source, &mut bytes[done..])?;
         if n == 0 {
-            return Input::Bytes(done);
+            return Ok(done);
         }
         done += n;
     }
-    Input::Bytes(done)
+    Ok(done)
 }

@@ -4,7 +4,7 @@
 
 mod input; // input.rt: standard input, read to its end or to a failure
 
-use input::{Input, read_input};
+use input::read_input;
 use listings::TEXT;
 
 // Compares the bytes of a file and writes the listing; or a line on standard error where it cannot be written whole.
@@ -23,8 +23,7 @@ const INPUT: usize = 1017;
 fn main(rt: HostRuntime) {
     let mut bytes = [0u8; INPUT];
     let mut source = rt.stdin();
-    let input = read_input(&mut source, &mut bytes);
-    let Input::Bytes(n) = input else {
+    let Ok(n) = read_input(&mut source, &mut bytes) else {
         io::write_all(2, b"compare: cannot read standard input\n");
         return;
     };

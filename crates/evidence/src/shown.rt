@@ -5,11 +5,12 @@ ghost use Rattle.evidence.specs.EvidenceAnswer.{refused_evidence, evidence_answe
 ghost use Rattle.evidence.specs.lemmas.EvidenceFound.{two_butterflies};
 
 use counting::Case;
-use pair_check::{CheckedPair, check_pair, pair_refusal};
+use pair_check::check_pair;
 use trees::{Topology, Witness, witness_of};
 
 // The number; the case; and for each tree the lowest-numbered edge that parts the four two and two, or the node where all
 // their paths meet.
+// No Result: a refused call gives its number, and zeros (docs/SPECIFICATION.md, 7.2).
 #[derive(Clone, Copy)]
 pub struct EvidenceAnswer {
     pub refusal: u16,
@@ -62,16 +63,9 @@ pub fn evidence(first: &[u16], second: &[u16], a: u16, b: u16, c: u16, d: u16) -
     ensures { (result ≡ evidence_answer first.now second.now a b c d)
         × EvidenceTold first.now second.now a b c d result }
 {
-    let answer = check_pair(first, second);
-    let CheckedPair::Pair {
-        tips: _,
-        counted: _,
-        rows: _,
-        columns: _,
-    } = answer
-    else {
-        return refused(pair_refusal(answer));
-    };
+    if let Err(refusal) = check_pair(first, second) {
+        return refused(u16::from(refusal));
+    }
     let one = witness_of(first, a, b, c, d);
     if one.refusal != 0 {
         return refused(one.refusal);

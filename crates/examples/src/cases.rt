@@ -23,128 +23,91 @@
 //
 // Any other kind, more words or cells than there are (1024 where every one is printed), and fewer words than WORDS are a bad case;
 // an edge or a label that is missing is 0.
+use super::kinds::{Kind, OfOne, OfTwo};
 use super::{cells, changes, fours, pair_cases, print, quartet_cases, tree_cases};
-use table_words::{Cell, TIPS, as_index};
+use table_words::{Cell, TIPS};
 
-// The cells that two tables of 256 tips and 1024 nodes need.
-const MOST_CELLS: usize = 1046529;
-
-fn cells_of(thousands: u16, units: u16) -> usize {
-    thousands as usize * 1000 + units as usize
-}
-
-// The most words or cells that a case of this kind gets.
-fn most_cells(kind: u16) -> usize {
+// A case of one table, with as many words as it asks for; None where there are not so many.
+fn ask_words(
+    kind: OfOne,
+    count: usize,
+    first: &[u16],
+    table: &[u16],
+    lent: &mut [u16],
+) -> Option<()> {
+    let words = lent.get_mut(..count)?;
+    if kind != OfOne::Zeros {
+        cells::fill(words, cells::word_before);
+    }
     match kind {
-        1 | 10 | 11 | 12 => 1024,
-        _ => MOST_CELLS,
+        OfOne::Check => tree_cases::check_case(table),
+        OfOne::Walk => tree_cases::walk_case(table, words),
+        OfOne::Beyond => tree_cases::part_case(b"beyond", cells::word_at(first, 0), table, words),
+        OfOne::Walked => tree_cases::walked_case(cells::word_at(first, 0), table, words),
+        OfOne::Centre => tree_cases::centre_case(first, table),
+        OfOne::Topology => tree_cases::topology_case(first, table),
+        OfOne::Centres => fours::print_sets(b"centres", 3, table),
+        OfOne::Topologies => fours::print_sets(b"topologies", 4, table),
+        OfOne::Changes => changes::changes_case(table, words),
+        OfOne::Zeros => tree_cases::check_case(words),
     }
+    Some(())
 }
 
-// The kinds that need no words.
-fn ask_table(kind: u16, first: &[u16], table: &[u16]) {
+// A case of two tables, with as many cells as it asks for; None where there are not so many. Every label is kept: there is
+// a mark of 1 for each tip of the second table, if it is one.
+fn ask_cells(
+    kind: OfTwo,
+    count: usize,
+    first: &[u16],
+    second: &[u16],
+    lent: &mut [Cell],
+) -> Option<()> {
+    let work = lent.get_mut(..count)?;
+    let all = [1u8; TIPS];
+    let marks = all.get(..usize::from(fours::tips_of(second)))?;
     match kind {
-        0 => tree_cases::check_case(table),
-        4 => tree_cases::centre_case(first, table),
-        5 => tree_cases::topology_case(first, table),
-        6 => fours::print_sets(b"centres", 3, table),
-        7 => fours::print_sets(b"topologies", 4, table),
-        _ => print::bad_case(),
+        OfTwo::Crossings => pair_cases::crossings_case(first, second, marks, work),
+        OfTwo::Splits => pair_cases::splits_case(first, second, marks, work),
+        OfTwo::CrossingsOfOne => pair_cases::crossings_case(second, second, marks, work),
+        OfTwo::Quartets => quartet_cases::quartets_case(first, second, marks, work),
+        OfTwo::QuartetsOfOne => quartet_cases::quartets_case(second, second, marks, work),
     }
+    Some(())
 }
 
-// The kinds of one table and words, and those that need none.
-fn ask_words(kind: u16, first: &[u16], table: &[u16], words: &mut [u16]) {
-    cells::fill_words(kind, words);
+// The arrays are made here, apart from what is asked of them: the check does not finish where a million words are written out.
+fn ask_one(kind: OfOne, count: usize, first: &[u16], table: &[u16]) -> Option<()> {
+    let mut words = [0u16; cells::MOST_CELLS];
+    ask_words(kind, count, first, table, &mut words)
+}
+
+fn ask_two(kind: OfTwo, count: usize, first: &[u16], second: &[u16]) -> Option<()> {
+    let mut work: [Cell; cells::MOST_CELLS] = [0; cells::MOST_CELLS];
+    ask_cells(kind, count, first, second, &mut work)
+}
+
+// The case of a line; None, with nothing printed, where it is a bad one.
+fn ask(line: &[u16]) -> Option<()> {
+    let [kind, thousands, units, len, tables @ ..] = line else {
+        return None;
+    };
+    let kind = Kind::try_from(*kind).ok()?;
+    let count = usize::from(*thousands) * 1000 + usize::from(*units);
+    if kind.most_cells() < count {
+        return None;
+    }
+    let (first, second) = tables.split_at_checked(usize::from(*len))?;
     match kind {
-        1 => tree_cases::walk_case(table, words),
-        2 => tree_cases::part_case(b"beyond", cells::word_at(first, 0), table, words),
-        3 => tree_cases::walked_case(cells::word_at(first, 0), table, words),
-        8 => changes::changes_case(table, words),
-        9 => tree_cases::check_case(words),
-        _ => ask_table(kind, first, table),
+        Kind::One(kind) => ask_one(kind, count, first, second),
+        Kind::Two(kind) => ask_two(kind, count, first, second),
     }
-}
-
-// The kinds of two tables, with marks for the labels of the second.
-fn ask_kept(kind: u16, first: &[u16], second: &[u16], marks: &[u8], work: &mut [Cell]) {
-    match kind {
-        10 => pair_cases::crossings_case(first, second, marks, work),
-        11 => pair_cases::splits_case(first, second, marks, work),
-        12 => pair_cases::crossings_case(second, second, marks, work),
-        13 => quartet_cases::quartets_case(first, second, marks, work),
-        _ => quartet_cases::quartets_case(second, second, marks, work),
-    }
-}
-
-// Every label kept: a mark of 1 for each tip of the second table, if it is one.
-fn ask_pair(kind: u16, first: &[u16], second: &[u16], work: &mut [Cell]) {
-    cells::fill(kind, work);
-    let marks = [1u8; TIPS];
-    let n = as_index(fours::tips_of(second));
-    if n <= TIPS {
-        ask_kept(kind, first, second, &marks[..n], work);
-    }
-}
-
-// The case with as many of the lent words as it asks for.
-fn lend_words(kind: u16, count: usize, first: &[u16], table: &[u16], words: &mut [u16]) {
-    if count <= words.len() {
-        ask_words(kind, first, table, &mut words[..count]);
-        return;
-    }
-    print::bad_case();
-}
-
-// The case with as many of the lent cells as it asks for.
-fn lend_cells(kind: u16, count: usize, first: &[u16], second: &[u16], work: &mut [Cell]) {
-    if count <= work.len() {
-        ask_pair(kind, first, second, &mut work[..count]);
-        return;
-    }
-    print::bad_case();
-}
-
-fn ask_one(kind: u16, count: usize, first: &[u16], table: &[u16]) {
-    let mut words = [0u16; MOST_CELLS];
-    lend_words(kind, count, first, table, &mut words);
-}
-
-fn ask_two(kind: u16, count: usize, first: &[u16], second: &[u16]) {
-    let mut work: [Cell; MOST_CELLS] = [0; MOST_CELLS];
-    lend_cells(kind, count, first, second, &mut work);
-}
-
-// The kinds of one table and of two.
-fn ask(kind: u16, count: usize, first: &[u16], second: &[u16]) {
-    match kind {
-        10 | 11 | 12 | 13 | 14 => ask_two(kind, count, first, second),
-        _ => ask_one(kind, count, first, second),
-    }
-}
-
-// The case with its tables parted.
-fn ask_parts(kind: u16, count: usize, len: usize, tables: &[u16]) {
-    if count <= most_cells(kind) {
-        if len <= tables.len() {
-            ask(kind, count, &tables[..len], &tables[len..]);
-            return;
-        }
-    }
-    print::bad_case();
 }
 
 // Runs the case of a line.
-pub(crate) fn run(words: &[u16]) {
-    if words.len() < 4 {
+pub(crate) fn run(line: &[u16]) {
+    if ask(line).is_none() {
         print::bad_case();
-    } else {
-        ask_parts(
-            words[0],
-            cells_of(words[1], words[2]),
-            as_index(words[3]),
-            &words[4..],
-        );
     }
     print::end();
 }

@@ -2,36 +2,25 @@
 // or copied.
 use table_words::{Cell, cell_count};
 
-// What a word holds before a case of this kind: 9000, 9001, .. where words are printed.
-fn word_before(kind: u16, i: usize) -> u16 {
-    match kind {
-        9 => 0,
-        _ => (9000 + i % 1024) as u16,
-    }
+// The cells that two tables of 256 tips and 1024 nodes need.
+pub(crate) const MOST_CELLS: usize = 1046529;
+
+// What a word holds before a call that writes words: 9000, 9001, .., and again after 1024.
+pub(crate) fn word_before(i: usize) -> u16 {
+    (9000 + i % 1024) as u16
 }
 
-pub(crate) fn fill_words(kind: u16, words: &mut [u16]) {
-    let mut i = 0;
-    while i < words.len() {
-        words[i] = word_before(kind, i);
-        i += 1;
-    }
+// What a cell holds before a call whose every cell is printed: 200, 201, .., 255 and again.
+pub(crate) fn cell_before(i: usize) -> Cell {
+    (200 + i % 56) as Cell
 }
 
-// What a cell holds before a case of this kind: 200, 201, .., 255 and again where cells are printed, and 7 where they are
-// summed.
-fn before(kind: u16, i: usize) -> Cell {
-    match kind {
-        13 | 14 => 7,
-        _ => (200 + i % 56) as Cell,
-    }
-}
-
-pub(crate) fn fill(kind: u16, cells: &mut [Cell]) {
-    let mut i = 0;
-    while i < cells.len() {
-        cells[i] = before(kind, i);
-        i += 1;
+// Puts into each place of what is lent what it holds before a call.
+pub(crate) fn fill<T: Drop, F: Fn(usize) -> T>(lent: &mut [T], before: F)
+    requires { F.IsAlwaysCallable before }
+{
+    for (i, place) in lent.iter_mut().enumerate() {
+        *place = before(i);
     }
 }
 
@@ -45,11 +34,7 @@ pub(crate) fn copy(words: &[u16], cells: &mut [u16]) {
     if words.len() < cells.len() {
         return;
     }
-    let mut i = 0;
-    while i < cells.len() {
-        cells[i] = words[i];
-        i += 1;
-    }
+    cells.copy_from_slice(&words[..cells.len()]);
 }
 
 // x + y, or the largest number where that is too large.
@@ -61,11 +46,7 @@ pub(crate) fn plus(x: u64, y: u64) -> u64 {
 }
 
 pub(crate) fn sum_of(cells: &[Cell]) -> u64 {
-    let mut sum = 0;
-    let mut i = 0;
-    while i < cells.len() {
-        sum = plus(sum, cell_count(cells[i]));
-        i += 1;
-    }
-    sum
+    cells
+        .iter()
+        .fold(0, |sum, cell| plus(sum, cell_count(*cell)))
 }

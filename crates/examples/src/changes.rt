@@ -1,12 +1,11 @@
 // Every change of one word of a table, counted by what the check answers.
 use super::fours::one_more;
 use super::{cells, print};
-use table_words::as_index;
 
 // The place of a number of the check: 0 to 7 at their own, 31 at 8. Any other is not counted.
 fn place_of_number(number: u16) -> usize {
     if number < 8 {
-        return as_index(number);
+        return usize::from(number);
     }
     if number == 31 { 8 } else { 9 }
 }
@@ -27,23 +26,18 @@ fn try_word(table: &mut [u16], at: usize, x: u16, counts: &mut [u64; 9]) {
 }
 
 fn try_words(table: &mut [u16], at: usize, counts: &mut [u64; 9]) {
-    let mut x = 0;
-    while x < 65535 {
+    for x in 0..=65535 {
         try_word(table, at, x, counts);
-        x += 1;
     }
-    try_word(table, at, 65535, counts);
 }
 
 // The table is copied to the cells, and changed there.
 pub(crate) fn changes_case(words: &[u16], table: &mut [u16]) {
     cells::copy(words, table);
     let mut counts = [0u64; 9];
-    let mut at = 0;
-    while at < table.len() {
+    for at in 0..table.len() {
         try_words(table, at, &mut counts);
-        at += 1;
     }
     print::name(b"changes");
-    print::counts(&counts);
+    print::numbers(&counts);
 }

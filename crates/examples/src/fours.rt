@@ -2,7 +2,7 @@
 // rising order; a set of three has a 0 in front.
 use super::cells::plus;
 use super::print;
-use trees::{Checked, Topology};
+use trees::Topology;
 
 // The labels of a code.
 #[derive(Clone, Copy)]
@@ -29,10 +29,10 @@ fn rises(four: Four, n: u16) -> bool {
 
 // The tips of a table, or 0 where it is refused.
 pub(crate) fn tips_of(table: &[u16]) -> u16 {
-    let Checked::Tree { tips, nodes: _ } = trees::check(table) else {
-        return 0;
-    };
-    tips
+    match trees::check(table) {
+        Ok(tree) => tree.tips,
+        Err(_) => 0,
+    }
 }
 
 // The partner of the smallest label, or 0 for a star: the smallest label is nobody's partner.
@@ -64,10 +64,8 @@ fn print_set(size: u16, table: &[u16], n: u16, four: Four) {
 pub(crate) fn print_sets(name: &[u8], size: u16, table: &[u16]) {
     let n = tips_of(table);
     print::name(name);
-    let mut code = 0;
-    while code < 65535 {
+    for code in 0..65535 {
         print_set(size, table, n, four_at(code));
-        code += 1;
     }
 }
 
@@ -106,9 +104,7 @@ fn place_in(first: &[u16], second: &[u16], n: u16, four: Four) -> usize {
 // The enumerator: every set of four of n labels, at most 16, is asked for its topology in both trees, and counted by
 // its case, A B C D E. It knows nothing of claims.
 pub(crate) fn count(first: &[u16], second: &[u16], n: u16, counts: &mut [u64; 9]) {
-    let mut code = 0;
-    while code < 65535 {
+    for code in 0..65535 {
         one_more(counts, place_in(first, second, n, four_at(code)));
-        code += 1;
     }
 }

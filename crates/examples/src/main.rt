@@ -4,10 +4,11 @@
 // tests/example_cases.py, which works the answers out of docs/SPECIFICATION.md and shares nothing with the libraries.
 #![tactic(auto)]
 
-mod cases; // cases.rt: the kinds of cases
+mod cases; // cases.rt: a case, asked by its kind
 mod cells; // cells.rt: what lent cells hold before a call, and their sum afterwards
 mod changes; // changes.rt: every change of one word of a table
 mod fours; // fours.rt: every set of three and of four labels
+mod kinds; // kinds.rt: the kinds of cases
 mod pair_cases; // pair_cases.rt: crossings and split counts
 mod print; // print.rt: names and numbers on a line
 mod quartet_cases; // quartet_cases.rt: claim sums and quartet tables
@@ -39,10 +40,8 @@ fn step(line: Line, byte: u8, words: &mut [u16]) -> Line {
 fn read_cases(text: &[u8]) {
     let mut words = [0u16; 2100];
     let mut line = Line { len: 0, number: 0 };
-    let mut i = 0;
-    while i < text.len() {
-        line = step(line, text[i], &mut words);
-        i += 1;
+    for byte in text {
+        line = step(line, *byte, &mut words);
     }
 }
 

@@ -1,5 +1,4 @@
-// Names and numbers on a line of standard output.
-use table_words::{Cell, cell_count};
+// Names and numbers on a line of standard output. `print!` would need the runtime passed through every function.
 
 // The descriptor of standard output.
 const STDOUT: i32 = 1;
@@ -9,36 +8,14 @@ pub(crate) fn name(text: &[u8]) {
 }
 
 // A number after a space.
-pub(crate) fn number(x: u16) {
-    large(x as u64);
-}
-
-pub(crate) fn large(x: u64) {
+pub(crate) fn number<T: Into<u64>>(x: T) {
     io::write_all(STDOUT, b" ");
-    io::print_decimal(STDOUT, x);
+    io::print_decimal(STDOUT, x.into());
 }
 
-pub(crate) fn numbers(words: &[u16]) {
-    let mut i = 0;
-    while i < words.len() {
-        number(words[i]);
-        i += 1;
-    }
-}
-
-pub(crate) fn cells(cells: &[Cell]) {
-    let mut i = 0;
-    while i < cells.len() {
-        large(cell_count(cells[i]));
-        i += 1;
-    }
-}
-
-pub(crate) fn counts(counts: &[u64; 9]) {
-    let mut i = 0;
-    while i < 9 {
-        large(counts[i]);
-        i += 1;
+pub(crate) fn numbers<T: Copy + Into<u64>>(xs: &[T]) {
+    for x in xs {
+        number(*x);
     }
 }
 

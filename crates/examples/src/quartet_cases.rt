@@ -2,48 +2,39 @@
 use super::{cells, print, verdict};
 use table_words::Cell;
 
-fn print_claims(first: &[u16], second: &[u16], marks: &[u8], work: &mut [Cell]) {
-    let sums = quartets::claim_sums(first, second, marks, work);
-    print::name(b"claims");
-    print::number(sums.refusal);
-    print::large(sums.first);
-    print::large(sums.second);
-    print::large(sums.same);
-    print::large(sums.different);
-    print::large(cells::sum_of(work));
+// The name of a call, its number and its figures, and the sum of the cells after it.
+fn print_figures(name: &[u8], refusal: u16, figures: &[u64], work: &[Cell]) {
+    print::name(name);
+    print::number(refusal);
+    print::numbers(figures);
+    print::number(cells::sum_of(work));
 }
 
-fn print_table(first: &[u16], second: &[u16], marks: &[u8], work: &mut [Cell]) {
-    cells::fill(13, work);
+fn print_claims(first: &[u16], second: &[u16], marks: &[u8], work: &mut [Cell]) {
+    work.fill(7);
+    let sums = quartets::claim_sums(first, second, marks, work);
+    let figures = [sums.first, sums.second, sums.same, sums.different];
+    print_figures(b"claims", sums.refusal, &figures, work);
+}
+
+// Beside print_triplets, since their tables are of two types.
+fn print_quartets(first: &[u16], second: &[u16], marks: &[u8], work: &mut [Cell]) {
+    work.fill(7);
     let table = quartets::quartet_table(first, second, marks, work);
-    print::name(b" quartets");
-    print::number(table.refusal);
-    print::large(table.a);
-    print::large(table.b);
-    print::large(table.c);
-    print::large(table.d);
-    print::large(table.e);
-    print::large(table.distance);
-    print::large(cells::sum_of(work));
+    let figures = [table.a, table.b, table.c, table.d, table.e, table.distance];
+    print_figures(b" quartets", table.refusal, &figures, work);
     verdict::print_of(table, first, second);
 }
 
 fn print_triplets(first: &[u16], second: &[u16], work: &mut [Cell]) {
-    cells::fill(13, work);
+    work.fill(7);
     let table = quartets::triplet_table(first, second, work);
-    print::name(b" triplets");
-    print::number(table.refusal);
-    print::large(table.a);
-    print::large(table.b);
-    print::large(table.c);
-    print::large(table.d);
-    print::large(table.e);
-    print::large(table.distance);
-    print::large(cells::sum_of(work));
+    let figures = [table.a, table.b, table.c, table.d, table.e, table.distance];
+    print_figures(b" triplets", table.refusal, &figures, work);
 }
 
 pub(crate) fn quartets_case(first: &[u16], second: &[u16], marks: &[u8], work: &mut [Cell]) {
     print_claims(first, second, marks, work);
-    print_table(first, second, marks, work);
+    print_quartets(first, second, marks, work);
     print_triplets(first, second, work);
 }

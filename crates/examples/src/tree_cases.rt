@@ -1,17 +1,17 @@
 // Cases of one table.
 use super::cells::word_at;
 use super::print;
-use trees::{Checked, Topology};
+use trees::Topology;
 
 pub(crate) fn check_case(table: &[u16]) {
     print::name(b"check");
     match trees::check(table) {
-        Checked::Tree { tips, nodes } => {
-            print::number(0);
-            print::number(tips);
-            print::number(nodes);
+        Ok(tree) => {
+            print::number(0u16);
+            print::number(tree.tips);
+            print::number(tree.nodes);
         }
-        Checked::Refused(number) => print::number(number),
+        Err(refusal) => print::number(u16::from(refusal)),
     }
 }
 
@@ -48,10 +48,10 @@ pub(crate) fn centre_case(labels: &[u16], table: &[u16]) {
 fn print_topology(topology: Topology) {
     match topology {
         Topology::Butterfly(partner) => {
-            print::number(1);
+            print::number(1u16);
             print::number(partner);
         }
-        Topology::Star => print::number(0),
+        Topology::Star => print::number(0u16),
     }
 }
 

@@ -9,7 +9,7 @@ ghost use Rattle.exchange_distances.specs.lemmas.WalkArrays.{ShapeSizes, Squared
 ghost use Rattle.exchange_distances.specs.lemmas.SquareLoops.{Sizing, RestSquared};
 ghost use Rattle.exchange_distances.specs.lemmas.TableArrays.{Arrays};
 
-use table_words::{Cell, NODES, TIPS, as_index, cell_index};
+use table_words::{Cell, NODES, TIPS, cell_index};
 use walks::spans;
 
 // How many labels lie at or below each node, from where its span begins and ends; all n do at node 0.
@@ -18,10 +18,8 @@ fn sizes(begin: &[Cell; NODES], end: &[Cell; NODES], n: usize, m: usize, size: &
     ensures { SpanSizes n m begin.now end.now size.new }
 {
     size[0] = n;
-    let mut v = 1;
-    while v < m {
+    for v in 1..m {
         size[v] = cell_index(end[v]) - cell_index(begin[v]);
-        v += 1;
     }
 }
 
@@ -30,11 +28,9 @@ fn square_rest(parents: &[u16], n: usize, size: &[usize; NODES], square: &mut [u
     requires { Sizing n parents.now size.now × (length square.old ≡ node_room) }
     ensures { RestSquared n size.now (length parents.now) square.new }
 {
-    let mut v = 0;
-    while v < parents.len() {
+    for v in 0..parents.len() {
         let rest = n - size[v];
         square[v] = rest * rest;
-        v += 1;
     }
 }
 
@@ -45,12 +41,10 @@ fn squares(parents: &[u16], n: usize, size: &[usize; NODES], square: &mut [usize
         → Squared n parents.now size.now square.new s }
 {
     square_rest(parents, n, size, square);
-    let mut i = 1;
-    while i < parents.len() {
-        let u = as_index(parents[i]);
+    for i in 1..parents.len() {
+        let u = usize::from(parents[i]);
         let b = size[i];
-        square[u] = square[u] + b * b;
-        i += 1;
+        square[u] += b * b;
     }
 }
 

@@ -8,10 +8,11 @@ ghost use Rattle.exchange_distances.specs.ExchangeAnswers.{distance_answer};
 use super::arrays::arrays_of;
 use super::pairs::whole_of;
 use super::paths::costs_from;
-use table_words::{NODES, TIPS, as_index};
-use trees::{Checked, asked_refusal, check, refusal_of};
+use table_words::{NODES, TIPS};
+use trees::{asked_refusal, check};
 
 // The number of the refusal with 0, or 0 with the distance.
+// No Result: a refused call gives its number, and zeros (docs/SPECIFICATION.md, 7.2).
 #[derive(Clone, Copy)]
 pub struct ExchangeDistance {
     pub refusal: u16,
@@ -33,28 +34,30 @@ fn distance_of(table: &[u16], n: usize, m: usize, x: usize, y: usize) -> usize
     costs_from(
         &table[2..2 + m],
         n,
-        as_index(labelled[x]),
+        usize::from(labelled[x]),
         &size,
         &square,
         &mut toward,
         &mut costs,
     );
-    (whole_of(n) - costs[as_index(labelled[y])]) / 6
+    (whole_of(n) - costs[usize::from(labelled[y])]) / 6
 }
 
 // How many sets of four have another topology where the labels x and y are exchanged. The tree's order, then 10 and 11.
 pub fn exchange_distance(table: &[u16], x: u16, y: u16) -> ExchangeDistance
     ensures { result ≡ distance_answer table.now x y }
 {
-    let answer = check(table);
-    let Checked::Tree { tips, nodes } = answer else {
-        return ExchangeDistance {
-            refusal: refusal_of(answer),
-            distance: 0,
-        };
+    let tree = match check(table) {
+        Ok(tree) => tree,
+        Err(refusal) => {
+            return ExchangeDistance {
+                refusal: u16::from(refusal),
+                distance: 0,
+            };
+        }
     };
     let asked = [x, y];
-    let number = asked_refusal(&asked, as_index(tips));
+    let number = asked_refusal(&asked, usize::from(tree.tips));
     if number != 0 {
         return ExchangeDistance {
             refusal: number,
@@ -63,10 +66,10 @@ pub fn exchange_distance(table: &[u16], x: u16, y: u16) -> ExchangeDistance
     }
     let distance = distance_of(
         table,
-        as_index(tips),
-        as_index(nodes),
-        as_index(x),
-        as_index(y),
+        usize::from(tree.tips),
+        usize::from(tree.nodes),
+        usize::from(x),
+        usize::from(y),
     );
     ExchangeDistance {
         refusal: 0,

@@ -1,6 +1,5 @@
 // Each pair of labels in the tally of its distance: from each label one walk, and one division for each label before it.
 ghost use Rattle.std.specs.Prelude.{◌≡◌, ◌*◌, ◌-◌, ◌/◌, ◌≤◌};
-ghost use Rattle.sums.specs.Fours.{fours};
 ghost use Rattle.exchanges.specs.theorems.Walk.{whole_cost};
 ghost use Rattle.exchange_distances.specs.lemmas.WalkArrays.{WalkedArrays};
 ghost use Rattle.exchange_distances.specs.lemmas.TallyLoops.{falls_at, CountedTallies};
@@ -8,7 +7,8 @@ ghost use Rattle.exchange_distances.specs.lemmas.TallyRoom.{TallyRowRoom};
 ghost use Rattle.exchange_distances.specs.lemmas.PairTallies.{ShapeTallied};
 
 use super::paths::costs_from;
-use table_words::{NODES, TIPS, as_index};
+use counting::sets_of_four;
+use table_words::{NODES, TIPS};
 
 // Six times the distance of a path that takes nothing.
 pub(crate) fn whole_of(n: usize) -> usize
@@ -17,14 +17,6 @@ pub(crate) fn whole_of(n: usize) -> usize
 {
     let k = n - 2;
     2 * (k * (k * k)) + 3 * (k * k)
-}
-
-// How many sets of four there are.
-fn sets_of_four(n: usize) -> usize
-    requires { (4 ≤ n) × (n ≤ 256) }
-    ensures { result ≡ fours n }
-{
-    n * (n - 1) * (n - 2) * (n - 3) / 24
 }
 
 // The pairs of the label y with each smaller one, from what the paths from its tip take.
@@ -40,12 +32,10 @@ fn tally_row(
     ensures { CountedTallies (falls_at whole sets labelled.now costs.now) y tallies.old
         tallies.new }
 {
-    let mut x = 0;
-    while x < y {
-        let path = costs[as_index(labelled[x])];
+    for &tip in &labelled[..y] {
+        let path = costs[usize::from(tip)];
         let t = 10 * ((whole - path) / 6) / sets;
-        tallies[t] = tallies[t] + 1;
-        x += 1;
+        tallies[t] += 1;
     }
 }
 
@@ -61,23 +51,21 @@ pub(crate) fn tally_pairs(
     ensures { ShapeTallied n parents.now labelled.now size.now square.now result }
 {
     let whole = whole_of(n);
-    let sets = sets_of_four(n);
+    let sets = sets_of_four(n as u16) as usize;
     let mut toward = [0usize; NODES];
     let mut costs = [0usize; NODES];
     let mut tallies = [0u64; 11];
-    let mut y = 0;
-    while y < n {
+    for (y, &tip) in labelled[..n].iter().enumerate() {
         costs_from(
             parents,
             n,
-            as_index(labelled[y]),
+            usize::from(tip),
             size,
             square,
             &mut toward,
             &mut costs,
         );
         tally_row(y, whole, sets, labelled, &costs, &mut tallies);
-        y += 1;
     }
     tallies
 }

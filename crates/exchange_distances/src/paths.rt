@@ -7,7 +7,7 @@ ghost use Rattle.exchanges.specs.theorems.PathSum.{cost};
 ghost use Rattle.exchange_distances.specs.lemmas.CostRoom.{CostRoom};
 ghost use Rattle.exchange_distances.specs.lemmas.WalkArrays.{WalkFrom, path_most, Climbing, CostsFrom, Roomy};
 
-use table_words::{NODES, as_index};
+use table_words::NODES;
 
 // What a node of a path takes: of n labels e lie behind the edge from the one end, f behind the edge from the other, and q is
 // the sum of the squares of the labels behind each edge into the node.
@@ -50,7 +50,7 @@ fn climb(
     marks[p] = 1;
     let mut v = p;
     while 0 < v {
-        let u = as_index(parents[v]);
+        let u = usize::from(parents[v]);
         let c = next_cost(v, p, costs[v], n, toward[v], n - size[v], square[v]);
         marks[u] = 1;
         toward[u] = size[v];
@@ -75,15 +75,13 @@ fn sweep(
     ensures { CostsFrom n parents.now size.now square.now p costs.new
         × Roomy marks.now toward.new costs.new }
 {
-    let mut i = 1;
-    while i < parents.len() {
+    for i in 1..parents.len() {
         if marks[i] == 0 {
-            let u = as_index(parents[i]);
+            let u = usize::from(parents[i]);
             let c = next_cost(u, p, costs[u], n, toward[u], size[i], square[u]);
             toward[i] = n - size[i];
             costs[i] = c;
         }
-        i += 1;
     }
 }
 

@@ -8,13 +8,14 @@ ghost use Rattle.exchange_distances.specs.lemmas.FirstTally.{all_first};
 
 use super::arrays::arrays_of;
 use super::pairs::tally_pairs;
-use table_words::{NODES, TIPS, as_count, as_index};
-use tree_check::{Checked, check, refusal_of};
+use table_words::{NODES, TIPS};
+use tree_check::check;
 
 // From so many tips on every exchange falls in tally 0: a distance grows as the third power of n, the sets of four as the fourth.
 const LARGE: u16 = 82;
 
 // The number of the refusal with zeros, or 0 with how many exchanges fall in each tally.
+// No Result: a refused call gives its number, and zeros (docs/SPECIFICATION.md, 7.2).
 #[derive(Clone, Copy)]
 pub struct ExchangeAnswer {
     pub refusal: u16,
@@ -47,27 +48,29 @@ fn tallies_of(table: &[u16], n: usize, m: usize) -> [u64; 11]
 pub fn tally_exchanges(table: &[u16]) -> ExchangeAnswer
     ensures { result ≡ tallies_answer table.now }
 {
-    let answer = check(table);
-    let Checked::Tree { tips, nodes } = answer else {
-        return ExchangeAnswer {
-            refusal: refusal_of(answer),
-            tallies: [0; 11],
-        };
+    let tree = match check(table) {
+        Ok(tree) => tree,
+        Err(refusal) => {
+            return ExchangeAnswer {
+                refusal: u16::from(refusal),
+                tallies: [0; 11],
+            };
+        }
     };
-    if tips < 4 {
+    if tree.tips < 4 {
         return ExchangeAnswer {
             refusal: 0,
-            tallies: all_first(as_count(tips)),
+            tallies: all_first(u64::from(tree.tips)),
         };
     }
-    if LARGE <= tips {
+    if LARGE <= tree.tips {
         return ExchangeAnswer {
             refusal: 0,
-            tallies: all_first(as_count(tips)),
+            tallies: all_first(u64::from(tree.tips)),
         };
     }
     ExchangeAnswer {
         refusal: 0,
-        tallies: tallies_of(table, as_index(tips), as_index(nodes)),
+        tallies: tallies_of(table, usize::from(tree.tips), usize::from(tree.nodes)),
     }
 }

@@ -4,8 +4,8 @@ ghost use Rattle.exchange_tallies.specs.ExchangeTallies.{exchange_answer, after_
 
 use exchange_distances::{ExchangeAnswer, tally_exchanges};
 use pair_check::clear;
-use table_words::{Cell, as_index};
-use tree_check::{Checked, check, refusal_of};
+use table_words::Cell;
+use tree_check::{Refusal, check};
 
 // A refusal has no tallies.
 fn refused(number: u16) -> ExchangeAnswer
@@ -23,14 +23,14 @@ pub fn exchange_tallies(table: &[u16], work: &mut [Cell]) -> ExchangeAnswer
     ensures { (result ≡ exchange_answer table.now (length work.old))
         × (work.new ≡ after_exchanges table.now work.old) }
 {
-    let answer = check(table);
-    let Checked::Tree { tips: _, nodes } = answer else {
-        return refused(refusal_of(answer));
+    let tree = match check(table) {
+        Ok(tree) => tree,
+        Err(refusal) => return refused(u16::from(refusal)),
     };
-    let edges = as_index(nodes) - 1;
+    let edges = usize::from(tree.nodes) - 1;
     let cells = edges * edges;
     if work.len() < cells {
-        return refused(9);
+        return refused(u16::from(Refusal::Cells));
     }
     clear(work, cells);
     tally_exchanges(table)

@@ -5,7 +5,7 @@ ghost use Rattle.sums.specs.Sum.{sum};
 ghost use Rattle.kept_triplets.specs.lemmas.Edges.{adds as edges_adds, adds_at, ListedEdges, NodeSums, ListedSums, edge_listed};
 
 use super::terms::{cell, edge_term};
-use table_words::{Cell, NODES, TIPS, as_index};
+use table_words::{Cell, NODES, TIPS};
 
 // Whether an edge adds anything, with s kept labels beyond it and p beyond its parent's edge: it has two, and fewer than the
 // edge above it.
@@ -33,15 +33,13 @@ pub(crate) fn list_edges(
 {
     let last = m - 2;
     let mut count = 0;
-    let mut i = 0;
-    while i < last {
+    for i in 0..last {
         let j = i + 2;
-        let p = as_index(table[2 + j]);
+        let p = usize::from(table[2 + j]);
         listed[count] = j;
         if adds(cell(all, begin[j], end[j]), cell(all, begin[p], end[p])) {
             count += 1;
         }
-        i += 1;
     }
     count
 }
@@ -60,12 +58,9 @@ pub(crate) fn edge_terms(
         table.now listed.now) }
 {
     let mut total = 0u64;
-    let mut q = 0;
-    while q < count {
-        let j = listed[q];
-        let p = as_index(table[2 + j]);
+    for &j in &listed[..count] {
+        let p = usize::from(table[2 + j]);
         total += edge_term(cell(all, begin[j], end[j]), cell(all, begin[p], end[p]));
-        q += 1;
     }
     total
 }

@@ -1,16 +1,18 @@
 // The place of each kept label in one tree's walk, in the order of the other's; how many lie in a span, and what they weigh.
-ghost use Rattle.std.specs.Prelude.{◌≡◌, ◌≤◌, ◌<◌, length};
+ghost use Rattle.std.specs.Prelude.{◌≡◌, ℕ, ◌≤◌, ◌<◌, length};
 ghost use Rattle.table_words.specs.Sizes.{tips_most};
 ghost use Rattle.sums.specs.Bits.{bit};
+ghost use Rattle.sums.specs.Sum.{sum};
+ghost use Rattle.tree_check.specs.Table.{word};
 ghost use Rattle.walks.specs.theorems.SpanLaws.{in_span};
 ghost use Rattle.kept_triplets.specs.lemmas.Places.{place_of, Prefixed};
 ghost use Rattle.kept_triplets.specs.lemmas.Filling.{PlaceRoom, PlacesListed};
 ghost use Rattle.kept_triplets.specs.lemmas.Weighing.{SpanFilled, LowWeights, Weighed};
 
 use marks::is_kept;
-use table_words::{Cell, NODES, TIPS, as_index, cell_index};
+use table_words::{Cell, NODES, TIPS, cell_index};
 
-// The place of a kept label; a struck one gets 255, which lies in no span.
+// The place of a kept label; a struck one gets 255, which lies in no span. One test, no switch of steps.
 fn place_of(keeps: bool, place: Cell) -> Cell
     ensures { result ≡ place_of keeps place }
 {
@@ -34,12 +36,10 @@ pub(crate) fn fill_places(
     ensures { PlacesListed n marks.now first_nodes.now second_nodes.now
         first_begin.now second_begin.now at.new }
 {
-    let mut y = 1;
-    while y < n {
-        let node = as_index(first_nodes[y]);
-        let other = as_index(second_nodes[y]);
+    for y in 1..n {
+        let node = usize::from(first_nodes[y]);
+        let other = usize::from(second_nodes[y]);
         at[cell_index(second_begin[other])] = place_of(is_kept(marks, y), first_begin[node]);
-        y += 1;
     }
 }
 
@@ -56,6 +56,28 @@ fn within(at: Cell, begin: Cell, end: Cell) -> u64
     0
 }
 
+// What `term` gives for each of the first k places, added up, for each k up to `count`.
+fn running_sums<F: Fn(Cell) -> u64>(
+    at: &[Cell; TIPS],
+    count: usize,
+    term: F,
+    sums: &mut [u64; TIPS],
+)
+    requires room { (count < tips_most) × (length sums.old ≡ tips_most) }
+    requires callable { F.IsAlwaysCallable term }
+    requires low { (p n : ℕ) → F.post term p n → n ≤ 65536 }
+    ensures long { length sums.new ≡ tips_most }
+    ensures sums { (f : ℕ → ℕ) → ((p n : ℕ) → F.post term p n → n ≡ f p)
+        → (k : ℕ) → k ≤ count → word sums.new k ≡ sum k (λ i. f (word at.now i)) }
+{
+    sums[0] = 0;
+    let mut total = 0u64;
+    for (k, &place) in at[..count].iter().enumerate() {
+        total += term(place);
+        sums[k + 1] = total;
+    }
+}
+
 // How many of the first k places lie in a span, for each k up to `count`.
 pub(crate) fn prefix(
     at: &[Cell; TIPS],
@@ -67,14 +89,7 @@ pub(crate) fn prefix(
     requires { (count < tips_most) × (length sums.old ≡ tips_most) }
     ensures { Prefixed at.now begin end count sums.new }
 {
-    sums[0] = 0;
-    let mut total = 0u64;
-    let mut k = 0;
-    while k < count {
-        total += within(at[k], begin, end);
-        k += 1;
-        sums[k] = total;
-    }
+    running_sums(at, count, |place| within(place, begin, end), sums);
 }
 
 // One value at all places of a span.
@@ -82,11 +97,8 @@ pub(crate) fn fill_span(weights: &mut [u64; TIPS], begin: Cell, end: Cell, value
     requires { length weights.old ≡ tips_most }
     ensures { SpanFilled begin end end value weights.old weights.new }
 {
-    let last = cell_index(end);
-    let mut k = cell_index(begin);
-    while k < last {
+    for k in cell_index(begin)..cell_index(end) {
         weights[k] = value;
-        k += 1;
     }
 }
 
@@ -95,12 +107,5 @@ pub(crate) fn weigh(at: &[Cell; TIPS], count: usize, weights: &[u64; TIPS], sums
     requires { (count < tips_most) × (length sums.old ≡ tips_most) × LowWeights weights.now }
     ensures { Weighed at.now weights.now count sums.new }
 {
-    sums[0] = 0;
-    let mut total = 0u64;
-    let mut k = 0;
-    while k < count {
-        total += weights[cell_index(at[k])];
-        k += 1;
-        sums[k] = total;
-    }
+    running_sums(at, count, |place| weights[cell_index(place)], sums);
 }

@@ -8,7 +8,7 @@ ghost use Rattle.kept_triplets.specs.lemmas.AllRows.{RowsListed};
 
 use super::places::{fill_span, weigh};
 use super::terms::{alike_term, apart_term, cell};
-use table_words::{Cell, NODES, TIPS, as_index};
+use table_words::{Cell, NODES, TIPS};
 
 #[derive(Clone, Copy)]
 pub(crate) struct PairTerms {
@@ -56,13 +56,10 @@ fn row_terms(
 {
     let mut alike = 0u64;
     let mut apart = 0u64;
-    let mut q = 0;
-    while q < count {
-        let j = columns[q];
-        let terms = pair_at(sums, begin, end, j, as_index(second[2 + j]));
+    for &j in &columns[..count] {
+        let terms = pair_at(sums, begin, end, j, usize::from(second[2 + j]));
         alike += terms.alike;
         apart += terms.apart;
-        q += 1;
     }
     PairTerms { alike, apart }
 }
@@ -89,7 +86,7 @@ fn row_at(
         × (result.apart ≡ sum (table_nodes second.now - 2) (λ j. apart_over marks.now
         (table_tips first.now) first.now second.now v (j + 2))) }
 {
-    let p = as_index(first[2 + v]);
+    let p = usize::from(first[2 + v]);
     let mut weights = [0u64; TIPS];
     fill_span(&mut weights, first_begin[p], first_end[p], 65536);
     fill_span(&mut weights, first_begin[v], first_end[v], 1);
@@ -126,14 +123,13 @@ pub(crate) fn all_rows(
 {
     let mut alike = 0u64;
     let mut apart = 0u64;
-    let mut q = 0;
-    while q < row_count {
+    for &v in &rows[..row_count] {
         let row = row_at(
             first,
             second,
             marks,
             n,
-            rows[q],
+            v,
             first_begin,
             first_end,
             second_begin,
@@ -144,7 +140,6 @@ pub(crate) fn all_rows(
         );
         alike += row.alike;
         apart += row.apart;
-        q += 1;
     }
     PairTerms { alike, apart }
 }

@@ -1,29 +1,18 @@
 // The triplet table of two trees over the kept labels.
-ghost use Rattle.std.specs.Prelude.{◌≡◌, ◌-◌, ◌≤◌};
-ghost use Rattle.sums.specs.theorems.ThreesLaws.{threes};
+ghost use Rattle.std.specs.Prelude.{◌≡◌};
 ghost use Rattle.triplets.specs.TripletAnswer.{refused_triplets};
 ghost use Rattle.triplets.specs.lemmas.FormedTriplets.{TripletsFit, formed_triplets};
 ghost use Rattle.kept_triplets.specs.KeptAnswer.{kept_answer};
 
 use super::totals::kept_sums;
+use counting::sets_of_three;
 use marks::check_marks;
-use pair_check::{CheckedPair, check_pair, pair_refusal};
-use table_words::as_index;
+use pair_check::check_pair;
 use triplets::TripletTable;
 
-// How many sets of three there are among the labels 1 to n - 1.
-fn sets_of_three(n: u64) -> u64
-    requires { n ≤ 256 }
-    ensures { result ≡ threes (n - 1) }
-{
-    if n < 4 {
-        return 0;
-    }
-    (n - 1) * (n - 2) * (n - 3) / 6
-}
-
 // The five counts, from the sums over edges and over pairs of edges.
-fn form_table(first: u64, second: u64, alike: u64, apart: u64, n: u64) -> TripletTable
+// triplets has one like it: a public function could not ask that the sums fit.
+fn form_table(first: u64, second: u64, alike: u64, apart: u64, n: u16) -> TripletTable
     requires { TripletsFit n first second alike apart }
     ensures { result ≡ formed_triplets n first second alike apart }
 {
@@ -44,6 +33,7 @@ fn form_table(first: u64, second: u64, alike: u64, apart: u64, n: u64) -> Triple
     }
 }
 
+// one_label has one like it, of another struct.
 fn refused(number: u16) -> TripletTable
     ensures { result ≡ refused_triplets number }
 {
@@ -62,22 +52,16 @@ fn refused(number: u16) -> TripletTable
 pub fn kept_triplets(first: &[u16], second: &[u16], marks: &[u8]) -> TripletTable
     ensures { result ≡ kept_answer first.now second.now marks.now }
 {
-    let answer = check_pair(first, second);
-    let CheckedPair::Pair {
-        tips,
-        counted: _,
-        rows,
-        columns,
-    } = answer
-    else {
-        return refused(pair_refusal(answer));
+    let pair = match check_pair(first, second) {
+        Ok(pair) => pair,
+        Err(refusal) => return refused(u16::from(refusal)),
     };
-    let checked = check_marks(marks, tips);
-    let number = checked.refusal;
-    if number != 0 {
-        return refused(number);
+    if let Err(refusal) = check_marks(marks, pair.tips) {
+        return refused(u16::from(refusal));
     }
-    let sums = kept_sums(first, second, marks, as_index(tips), rows + 1, columns + 1);
+    let m = pair.rows + 1;
+    let k = pair.columns + 1;
+    let sums = kept_sums(first, second, marks, usize::from(pair.tips), m, k);
     form_table(
         sums.first,
         sums.second,

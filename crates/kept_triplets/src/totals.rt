@@ -16,7 +16,7 @@ pub(crate) struct KeptSums {
     pub second: u64,
     pub alike: u64,
     pub apart: u64,
-    pub others: u64,
+    pub others: u16,
 }
 
 // From the spans of both trees; `at` has the places of the first walk in the order of the second, `back` those of the second
@@ -82,7 +82,7 @@ fn sums_of(
         ),
         alike: pairs.alike,
         apart: pairs.apart,
-        others: second_all[n - 1],
+        others: second_all[n - 1] as u16,
     }
 }
 

@@ -5,12 +5,14 @@ ghost use Rattle.sums.specs.Tests.{some};
 ghost use Rattle.tree_check.specs.Table.{word};
 ghost use Rattle.levels.specs.Levels.{level_most, is_visible, checked_levels};
 
-use table_words::{as_index, cell_word};
+use table_words::cell_word;
+use tree_check::Refusal;
 
 // The highest level.
 const HIGHEST: u16 = 3;
 
 // The number, and how many labels are visible.
+// No Result: a refused call gives its number, and zeros (docs/SPECIFICATION.md, 7.2).
 #[derive(Clone, Copy)]
 pub struct CheckedLevels {
     pub refusal: u16,
@@ -21,14 +23,7 @@ pub struct CheckedLevels {
 fn some_high(levels: &[u8]) -> bool
     ensures { result ≡ some (length levels.now) (λ x. ltb level_most (word levels.now x)) }
 {
-    let mut x = 0;
-    while x < levels.len() {
-        if HIGHEST < cell_word(levels[x]) {
-            return true;
-        }
-        x += 1;
-    }
-    false
+    levels.iter().any(|level| HIGHEST < cell_word(*level))
 }
 
 // Whether the label x is visible: it has a level, and that is not above the viewer's.
@@ -47,12 +42,10 @@ fn visible_labels(levels: &[u8], viewer: u16) -> u16
     ensures { result ≡ count (length levels.now) (is_visible levels.now viewer) }
 {
     let mut total = 0u16;
-    let mut x = 0;
-    while x < levels.len() {
+    for x in 0..levels.len() {
         if is_visible(levels, viewer, x) {
             total += 1;
         }
-        x += 1;
     }
     total
 }
@@ -62,7 +55,7 @@ fn refused() -> CheckedLevels
     ensures { result ≡ record { refusal = 37; visible = 0 } }
 {
     CheckedLevels {
-        refusal: 37,
+        refusal: u16::from(Refusal::Levels),
         visible: 0,
     }
 }
@@ -71,7 +64,7 @@ fn refused() -> CheckedLevels
 pub fn check_levels(levels: &[u8], viewer: u16, n: u16) -> CheckedLevels
     ensures { result ≡ checked_levels levels.now viewer n }
 {
-    if levels.len() != as_index(n) {
+    if levels.len() != usize::from(n) {
         return refused();
     }
     if some_high(levels) {
@@ -90,12 +83,7 @@ pub fn check_levels(levels: &[u8], viewer: u16, n: u16) -> CheckedLevels
 pub(crate) fn some_hidden(levels: &[u8], viewer: u16, asked: &[u16]) -> bool
     ensures { result ≡ some (length asked.now) (λ i. not (is_visible levels.now viewer (word asked.now i))) }
 {
-    let mut i = 0;
-    while i < asked.len() {
-        if !is_visible(levels, viewer, as_index(asked[i])) {
-            return true;
-        }
-        i += 1;
-    }
-    false
+    asked
+        .iter()
+        .any(|x| !is_visible(levels, viewer, usize::from(*x)))
 }

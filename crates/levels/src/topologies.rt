@@ -4,7 +4,7 @@ ghost use Rattle.trees.specs.declared.quartet.Topology.TheVariants.{Star as Topo
 ghost use Rattle.levels.specs.ViewTopology.{view_topology, ViewTold};
 
 use super::levels::{check_levels, some_hidden};
-use trees::{Checked, Topology, TopologyAnswer, check, refusal_of, topology_of};
+use trees::{Refusal, Topology, TopologyAnswer, check, topology_of};
 
 // A refusal tells a star.
 fn refused(number: u16) -> TopologyAnswer
@@ -30,17 +30,17 @@ pub fn view_topology(
     ensures { (result ≡ view_topology table.now levels.now viewer a b c d)
         × ViewTold table.now levels.now viewer a b c d result }
 {
-    let answer = check(table);
-    let Checked::Tree { tips, nodes: _ } = answer else {
-        return refused(refusal_of(answer));
+    let tree = match check(table) {
+        Ok(tree) => tree,
+        Err(refusal) => return refused(u16::from(refusal)),
     };
-    let told = check_levels(levels, viewer, tips);
+    let told = check_levels(levels, viewer, tree.tips);
     if told.refusal != 0 {
         return refused(told.refusal);
     }
     let asked = [a, b, c, d];
     if some_hidden(levels, viewer, &asked) {
-        return refused(10);
+        return refused(u16::from(Refusal::TooLarge));
     }
     topology_of(table, a, b, c, d)
 }

@@ -39,6 +39,7 @@ pub struct Triplets {
 }
 
 // The refusal, or 0; and what a comparison that is not refused gives.
+// No Result: a refused call gives its number, and zeros (docs/SPECIFICATION.md, 7.2).
 #[derive(Clone, Copy)]
 pub struct Figures {
     pub refusal: u16,

@@ -7,7 +7,6 @@ ghost use Rattle.listings.specs.Listing.{text_room, bytes_listed, after_listing}
 
 use super::figures::Figures;
 use super::text::{copy, put_line};
-use table_words::as_count;
 
 // The length of a text that is always enough for a listing.
 pub const TEXT: usize = 512;
@@ -17,7 +16,7 @@ fn put_first_lines(figures: Figures, out: &mut [u8]) -> usize
     requires { 119 ≤ length out.old }
     ensures { TextWritten 0 out.old (first_lines figures) result out.new × (result ≤ 119) }
 {
-    let tips = [as_count(figures.tips)];
+    let tips = [u64::from(figures.tips)];
     let sums = figures.claims;
     let claims = [sums.first, sums.second, sums.same, sums.different];
     let end = put_line(b"leaves", &tips, 0, out);
@@ -44,10 +43,10 @@ fn put_last_lines(figures: Figures, at: usize, out: &mut [u8]) -> usize
 {
     let counts = figures.splits;
     let splits = [
-        as_count(counts.first),
-        as_count(counts.second),
-        as_count(counts.common),
-        as_count(counts.distance),
+        u64::from(counts.first),
+        u64::from(counts.second),
+        u64::from(counts.common),
+        u64::from(counts.distance),
     ];
     let cases = figures.triplets;
     let triplets = [cases.a, cases.b, cases.c, cases.d, cases.e];
@@ -73,7 +72,7 @@ fn put_listing(figures: Figures, out: &mut [u8]) -> usize
     if figures.refusal == 0 {
         return put_lines(figures, out);
     }
-    let refusal = [as_count(figures.refusal)];
+    let refusal = [u64::from(figures.refusal)];
     put_line(b"refused", &refusal, 0, out)
 }
 

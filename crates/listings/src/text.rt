@@ -1,4 +1,5 @@
-// Words, numbers and lines, put into a text one after the other. Each function answers where the text ends.
+// Words, numbers and lines, put into a text one after the other. Each function answers where the text ends. By hand: each byte is
+// promised, and nothing is allocated.
 ghost use Rattle.std.specs.Prelude.{◌≡◌, ◌+◌, ◌*◌, ◌≤◌, length};
 ghost use Rattle.listings.specs.lemmas.Written.{TextWritten, text_written};
 ghost use Rattle.listings.specs.Lines.{spaced, spaced_all, line as lines_line};
@@ -9,12 +10,9 @@ pub(crate) fn copy(bytes: &[u8], at: usize, out: &mut [u8]) -> usize
     ensures { (result ≡ at + length bytes.now)
         × (out.new ≡ text_written at bytes.now out.old) }
 {
-    let mut i = 0;
-    while i < bytes.len() {
-        out[at + i] = bytes[i];
-        i += 1;
-    }
-    at + i
+    let end = at + bytes.len();
+    out[at..end].copy_from_slice(bytes);
+    end
 }
 
 // The number, after a space.
@@ -35,10 +33,8 @@ fn put_numbers(numbers: &[u64], at: usize, out: &mut [u8]) -> usize
         × (result ≤ at + 21 * length numbers.now) }
 {
     let mut end = at;
-    let mut i = 0;
-    while i < numbers.len() {
-        end = put_number(numbers[i], end, out);
-        i += 1;
+    for number in numbers {
+        end = put_number(*number, end, out);
     }
     end
 }

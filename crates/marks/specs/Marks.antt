@@ -1,11 +1,12 @@
 -- The marks of labels: which are kept, and the rule that the marks of a call are held to (docs/SPECIFICATION.md, 'Marks').
 -- Assumes nothing.
-use Rattle.std.specs.Prelude.{◌≡◌, Bool, not, List, [], ◌∷◌, ℕ, ◌≤◌, ◌<◌, eqb, ltb, length}
+use Rattle.std.specs.Prelude.{◌≡◌, Bool, not, List, [], ◌∷◌, ℕ, Result, Ok, Err, ◌≤◌, ◌<◌, eqb, ltb, length}
 use Rattle.sums.specs.Counts.{count}
 use Rattle.sums.specs.Tests.{some}
 use Rattle.tree_check.specs.Table.{word}
-use Rattle.tree_check.specs.Refusals.{Rule, refusal, if_accepted}
-use Rattle.marks.specs.declared.marked.CheckedMarks.{CheckedMarks}
+use Rattle.tree_check.specs.Refusals.{Rule, refusal}
+use Rattle.tree_check.specs.declared.refusals.Refusal.{Refusal}
+use Rattle.tree_check.specs.Numbers.{answer_by}
 
 -- the label x is kept: its mark is 1
 unfoldable pub is_kept : List ℕ → ℕ → Bool
@@ -24,7 +25,6 @@ pub record AreMarks (marks : List ℕ) (n : ℕ) : Type 0 where
   pub long : length marks ≡ n
   pub low : (x : ℕ) → x < n → word marks x ≤ 1
 
--- the number, and how many labels are kept; none by refused marks
-unfoldable pub checked_marks : List ℕ → ℕ → CheckedMarks
-checked_marks marks n =
-    let number = refusal (marks_order marks n) in record { refusal = number; kept = if_accepted number (kept_of marks n) 0 }
+-- how many labels are kept, or refused marks
+unfoldable pub checked_marks : List ℕ → ℕ → Result ℕ Refusal
+checked_marks marks n = answer_by (refusal (marks_order marks n)) (kept_of marks n)

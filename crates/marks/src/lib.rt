@@ -3,4 +3,4 @@
 
 mod marked; // marked.rt: the marks checked, and a label asked for
 
-pub use marked::{CheckedMarks, check_marks, is_kept};
+pub use marked::{check_marks, is_kept};

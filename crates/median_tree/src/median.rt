@@ -5,9 +5,11 @@ ghost use Rattle.median_tree.specs.Nearest.{refused_nearest, nearest_answer, aft
 use super::summed::{all_sums, first_least};
 use pair_check::clear;
 use table_words::{Cell, as_word};
+use tree_check::Refusal;
 use tree_lists::check_list;
 
 // The number; the position of the tree, from 0; and its summed distance to all.
+// No Result: a refused call gives its number, and zeros (docs/SPECIFICATION.md, 7.2).
 #[derive(Clone, Copy)]
 pub struct NearestAnswer {
     pub refusal: u16,
@@ -38,7 +40,7 @@ pub fn nearest(list: &[u16], work: &mut [Cell]) -> NearestAnswer
     }
     let cells = trees.edges * trees.edges;
     if work.len() < cells {
-        return refused(9);
+        return refused(u16::from(Refusal::Cells));
     }
     let sums = all_sums(list, &trees.starts, trees.trees, trees.tips, work);
     clear(work, cells);

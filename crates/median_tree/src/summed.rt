@@ -62,12 +62,10 @@ fn add_row(
     ensures { Sums (distance_of list.now) (i + 1) 0 sums.new
         × SameFrom (list_cells list.now) work.old work.new }
 {
-    let mut j = 0;
-    while j < i {
+    for j in 0..i {
         let d = pair_distance(list, starts, i, j, n, work);
-        sums[i] = sums[i] + d;
-        sums[j] = sums[j] + d;
-        j += 1;
+        sums[i] += d;
+        sums[j] += d;
     }
 }
 
@@ -84,10 +82,8 @@ pub(crate) fn all_sums(
         × SameFrom (list_cells list.now) work.old work.new }
 {
     let mut sums = [0u64; TREES];
-    let mut i = 0;
-    while i < k {
+    for i in 0..k {
         add_row(list, starts, i, n, work, &mut sums);
-        i += 1;
     }
     sums
 }
@@ -98,13 +94,11 @@ pub(crate) fn first_least(sums: &[u64; TREES], k: usize) -> usize
     ensures { (result ≡ first_least (word sums.now) k) × (result < k) }
 {
     let mut p = 0;
-    let mut i = 0;
-    while i < k {
+    for i in 0..k {
         let is_less = sums[i] < sums[p];
         if is_less {
             p = i;
         }
-        i += 1;
     }
     p
 }

@@ -21,6 +21,7 @@ pub struct FiveCounts {
 }
 
 // The number, and the five counts: zeros with a number.
+// No Result: a refused call gives its number, and zeros (docs/SPECIFICATION.md, 7.2).
 #[derive(Clone, Copy)]
 pub struct FiveAnswer {
     pub refusal: u16,
@@ -31,6 +32,7 @@ pub struct FiveAnswer {
     pub e: u64,
 }
 
+// kept_triplets has one like it, of another struct.
 pub(crate) fn refused(number: u16) -> FiveAnswer
     ensures { result ≡ refused_five number }
 {

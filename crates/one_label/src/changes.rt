@@ -1,8 +1,6 @@
 // One label struck or restored: the five counts with the sets of four that hold it taken off or added, and its mark.
 ghost use Rattle.std.specs.Prelude.{◌≡◌, not, ◌&&◌, ◌≤◌, eqb};
-ghost use Rattle.std.specs.Bool.{beq};
 ghost use Rattle.sums.specs.Bits.{bit};
-ghost use Rattle.sums.specs.Fours.{fours};
 ghost use Rattle.one_label.specs.FiveAnswers.{counts_of, five_of};
 ghost use Rattle.one_label.specs.Changes.{total_of, overdrawn, new_count, change_answer, marks_after};
 ghost use Rattle.one_label.specs.lemmas.Changed.{CountFits, AllFit};
@@ -10,29 +8,9 @@ ghost use Rattle.one_label.specs.lemmas.Changed.{CountFits, AllFit};
 use super::answers::{FiveAnswer, FiveCounts, Wish, refused, restores};
 use super::checks::check_label;
 use super::held::held_counts;
+use counting::sets_of_four;
 use marks::is_kept;
-use table_words::{as_count, as_index};
-
-// How many sets of four there are among k labels.
-fn sets_of_four(k: u64) -> u64
-    requires { k ≤ 256 }
-    ensures { result ≡ fours k }
-{
-    if k < 4 {
-        return 0;
-    }
-    k * (k - 1) * (k - 2) * (k - 3) / 24
-}
-
-// Whether two answers are the same.
-fn same(x: bool, y: bool) -> bool
-    ensures { result ≡ beq x y }
-{
-    if x {
-        return y;
-    }
-    !y
-}
+use tree_check::Refusal;
 
 // Whether five counts add up to `all`. None is above it if they do, so no sum wraps.
 fn adds_up(counts: FiveCounts, all: u64) -> bool
@@ -58,6 +36,7 @@ fn adds_up(counts: FiveCounts, all: u64) -> bool
 }
 
 // Whether a strike would take more from a case than it holds.
+// By a test, as here and below, since the definitions take one (specs/Changes): a closure for each wish is no plainer.
 fn overdraws(restore: bool, counts: FiveCounts, held: FiveCounts) -> bool
     ensures { result ≡ (not restore && overdrawn (counts_of counts) (counts_of held)) }
 {
@@ -127,30 +106,29 @@ pub fn change_mark(
     ensures { (result ≡ change_answer first.now second.now marks.old counts label wish)
         × (marks.new ≡ marks_after first.now second.now marks.old counts label wish) }
 {
-    let told = check_label(first, second, marks, label);
-    let number = told.refusal;
-    if number != 0 {
-        return refused(number);
-    }
+    let sizes = match check_label(first, second, marks, label) {
+        Ok(sizes) => sizes,
+        Err(refusal) => return refused(u16::from(refusal)),
+    };
     let restore = restores(wish);
-    let x = as_index(label);
-    if same(is_kept(marks, x), restore) {
-        return refused(33);
+    let x = usize::from(label);
+    if is_kept(marks, x) == restore {
+        return refused(u16::from(Refusal::AsWished));
     }
-    if !adds_up(counts, sets_of_four(as_count(told.kept))) {
-        return refused(34);
+    if !adds_up(counts, sets_of_four(sizes.kept)) {
+        return refused(u16::from(Refusal::Counts));
     }
     let held = held_counts(
         first,
         second,
         marks,
-        told.tips,
-        told.first,
-        told.second,
+        sizes.tips,
+        sizes.first,
+        sizes.second,
         label,
     );
     if overdraws(restore, counts, held) {
-        return refused(34);
+        return refused(u16::from(Refusal::Counts));
     }
     marks[x] = mark_of(restore);
     changed(restore, counts, held)

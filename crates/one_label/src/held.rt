@@ -8,7 +8,7 @@ ghost use Rattle.one_label.specs.lemmas.HeldCounts.{MarksExchanged, HeldAre};
 use super::answers::FiveCounts;
 use kept_triplets::kept_triplets;
 use rerooting::reroot;
-use table_words::{TABLE_WORDS, TIPS, as_index};
+use table_words::{TABLE_WORDS, TIPS};
 
 // The marks with those of 0 and x exchanged.
 fn exchanged_marks(marks: &[u8], x: usize) -> [u8; TIPS]
@@ -16,11 +16,7 @@ fn exchanged_marks(marks: &[u8], x: usize) -> [u8; TIPS]
     ensures { MarksExchanged marks.now x result }
 {
     let mut out = [0u8; TIPS];
-    let mut y = 0;
-    while y < marks.len() {
-        out[y] = marks[y];
-        y += 1;
-    }
+    out[..marks.len()].copy_from_slice(marks);
     out[0] = marks[x];
     out[x] = marks[0];
     out
@@ -43,7 +39,7 @@ pub(crate) fn held_counts(
     reroot(first, x, &mut one);
     let mut two = [0u16; TABLE_WORDS];
     reroot(second, x, &mut two);
-    let turned = exchanged_marks(marks, as_index(x));
+    let turned = exchanged_marks(marks, usize::from(x));
     let table = kept_triplets(&one[..2 + 2 * m], &two[..2 + 2 * k], &turned[..n]);
     FiveCounts {
         a: table.a,

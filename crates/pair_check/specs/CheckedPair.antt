@@ -1,17 +1,21 @@
 -- What the pair check answers.
 -- Assumes nothing.
-use Rattle.std.specs.Prelude.{◌≡◌, List, ℕ, zero, suc, ◌-◌}
+use Rattle.std.specs.Prelude.{◌≡◌, List, ℕ, ◌-◌, Result, Ok, Err}
 use Rattle.tree_check.specs.Table.{Table, tips, nodes}
 use Rattle.tree_check.specs.Refusals.{refusal, if_accepted}
+use Rattle.tree_check.specs.declared.refusals.Refusal.{Refusal}
+use Rattle.tree_check.specs.Numbers.{refusal_number, answer_by}
 use Rattle.marks.specs.Marks.{kept_of}
-use Rattle.pair_check.specs.declared.pairs.CheckedPair.{CheckedPair}
-use Rattle.pair_check.specs.declared.pairs.CheckedPair.TheVariants.{Pair, Refused}
+use Rattle.pair_check.specs.declared.pairs.Pair.{Pair}
 use Rattle.pair_check.specs.PairOrder.{tables_order, cells_order, pair_order}
+
+-- what the check finds: a pair, or the rule that is broken
+abbrev pub CheckedPair : Type 0
+CheckedPair = Result Pair Refusal
 
 -- accepted with n, how many labels are counted, m − 1 and m' − 1, or refused with the number
 unfoldable pub pair_verdict : ℕ → Table → Table → ℕ → CheckedPair
-pair_verdict zero t u counted = Pair (tips t) counted (nodes t - 1) (nodes u - 1)
-pair_verdict (suc k) t u counted = Refused (suc k)
+pair_verdict k t u counted = answer_by k (record { tips = tips t; counted = counted; rows = nodes t - 1; columns = nodes u - 1 })
 
 -- by the tables alone: all labels are counted
 unfoldable pub checked_pair : Table → Table → CheckedPair
@@ -27,24 +31,24 @@ checked_work t u marks cells = pair_verdict (refusal (pair_order t u marks cells
 
 -- the number and values of each case: 0 with n, the counted labels and the edges of both trees, or the number with zeros
 abbrev pub pair_number : CheckedPair → ℕ
-pair_number (Pair n counted rows columns) = 0
-pair_number (Refused k) = k
+pair_number (Ok pair) = 0
+pair_number (Err r) = refusal_number r
 
 abbrev pub pair_tips : CheckedPair → ℕ
-pair_tips (Pair n counted rows columns) = n
-pair_tips (Refused k) = 0
+pair_tips (Ok pair) = pair.tips
+pair_tips (Err r) = 0
 
 abbrev pub counted_of : CheckedPair → ℕ
-counted_of (Pair n counted rows columns) = counted
-counted_of (Refused k) = 0
+counted_of (Ok pair) = pair.counted
+counted_of (Err r) = 0
 
 abbrev pub rows_of : CheckedPair → ℕ
-rows_of (Pair n counted rows columns) = rows
-rows_of (Refused k) = 0
+rows_of (Ok pair) = pair.rows
+rows_of (Err r) = 0
 
 abbrev pub columns_of : CheckedPair → ℕ
-columns_of (Pair n counted rows columns) = columns
-columns_of (Refused k) = 0
+columns_of (Ok pair) = pair.columns
+columns_of (Err r) = 0
 
 -- an answer tells this number, and the values or zeros
 pub record PairTold (number : ℕ) (t u : Table) (counted : ℕ) (r : CheckedPair) : Type 0 where

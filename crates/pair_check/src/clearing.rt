@@ -11,9 +11,5 @@ pub fn clear(work: &mut [Cell], count: usize)
     if work.len() < count {
         return;
     }
-    let mut c = 0;
-    while c < count {
-        work[c] = 0;
-        c += 1;
-    }
+    work[..count].fill(0);
 }

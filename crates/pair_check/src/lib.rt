@@ -6,4 +6,4 @@ mod pairs; // pairs.rt: the pair check
 mod clearing; // clearing.rt: the lent work cells cleared
 
 pub use clearing::clear;
-pub use pairs::{CheckedPair, check_cells, check_pair, check_work, pair_refusal};
+pub use pairs::{Pair, check_cells, check_pair, check_work};

@@ -1,61 +1,22 @@
 // One comparison file, compared: its bytes cut into two tables, and the four counts of the pair.
 ghost use Rattle.std.specs.Prelude.{◌≡◌};
-ghost use Rattle.splits.specs.SplitAnswer.{split_answer};
-ghost use Rattle.triplets.specs.TripletAnswer.{triplet_answer};
-ghost use Rattle.claims.specs.ClaimAnswer.{claim_answer};
-ghost use Rattle.quartets.specs.QuartetAnswer.{quartet_answer};
 ghost use Rattle.listings.specs.Listing.{of_refusal};
-ghost use Rattle.pair_file.specs.PairFile.{cells_lent, comparison};
+ghost use Rattle.pair_file.specs.PairFile.{comparison};
 ghost use Rattle.pair_file.specs.lemmas.PairFigures.{pair_figures, word_figures, called_with};
 
 use super::words::decode;
 use listings::{Claims, Figures, Quartets, Splits, Triplets};
-use pair_check::{CheckedPair, check_cells, pair_refusal};
-use quartets::{
-    ClaimSums, QuartetTable, SplitCounts, TripletTable, claim_sums, quartet_table, split_counts,
-    triplet_table,
-};
-use table_words::{Cell, TIPS, as_index, table_length};
+use pair_check::check_cells;
+use quartets::{Refusal, claim_sums, quartet_table, split_counts, triplet_table};
+use table_words::{Cell, TIPS, table_length};
 
 // The most bytes of a file, and the most words.
 const BYTES: usize = 1016;
 
 const WORDS: usize = 508;
 
-// The cells lent to each operation: enough for any two trees of one file, so that 9 never occurs.
+// The cells lent to one operation after the other: enough for any two trees of one file, so that 9 never occurs.
 const CELLS: usize = 15625;
-
-// The claim sums, with work of their own.
-fn claims_of(first: &[u16], second: &[u16], marks: &[u8]) -> ClaimSums
-    ensures { result ≡ claim_answer first.now second.now marks.now cells_lent }
-{
-    let mut work: [Cell; CELLS] = [0; CELLS];
-    claim_sums(first, second, marks, &mut work)
-}
-
-// The quartet table, with work of its own.
-fn quartets_of(first: &[u16], second: &[u16], marks: &[u8]) -> QuartetTable
-    ensures { result ≡ quartet_answer first.now second.now marks.now cells_lent }
-{
-    let mut work: [Cell; CELLS] = [0; CELLS];
-    quartet_table(first, second, marks, &mut work)
-}
-
-// The split counts, with work of their own.
-fn splits_of(first: &[u16], second: &[u16], marks: &[u8]) -> SplitCounts
-    ensures { result ≡ split_answer first.now second.now marks.now cells_lent }
-{
-    let mut work: [Cell; CELLS] = [0; CELLS];
-    split_counts(first, second, marks, &mut work)
-}
-
-// The triplet table, with work of its own.
-fn triplets_of(first: &[u16], second: &[u16]) -> TripletTable
-    ensures { result ≡ triplet_answer first.now second.now cells_lent }
-{
-    let mut work: [Cell; CELLS] = [0; CELLS];
-    triplet_table(first, second, &mut work)
-}
 
 // The number of a refusal, and zeros.
 fn refused(number: u16) -> Figures
@@ -98,10 +59,11 @@ fn refused(number: u16) -> Figures
 fn figures_of(first: &[u16], second: &[u16], marks: &[u8], tips: u16) -> Figures
     ensures { result ≡ called_with first.now second.now marks.now tips }
 {
-    let sums = claims_of(first, second, marks);
-    let cases = quartets_of(first, second, marks);
-    let counts = splits_of(first, second, marks);
-    let threes = triplets_of(first, second);
+    let mut work: [Cell; CELLS] = [0; CELLS];
+    let sums = claim_sums(first, second, marks, &mut work);
+    let cases = quartet_table(first, second, marks, &mut work);
+    let counts = split_counts(first, second, marks, &mut work);
+    let threes = triplet_table(first, second, &mut work);
     Figures {
         refusal: 0,
         tips,
@@ -139,19 +101,13 @@ fn figures_of(first: &[u16], second: &[u16], marks: &[u8], tips: u16) -> Figures
 fn compare_tables(first: &[u16], second: &[u16]) -> Figures
     ensures { result ≡ pair_figures first.now second.now }
 {
-    let answer = check_cells(first, second, CELLS);
-    let CheckedPair::Pair {
-        tips,
-        counted: _,
-        rows: _,
-        columns: _,
-    } = answer
-    else {
-        return refused(pair_refusal(answer));
+    let pair = match check_cells(first, second, CELLS) {
+        Ok(pair) => pair,
+        Err(refusal) => return refused(u16::from(refusal)),
     };
     let marks = [1u8; TIPS];
-    let n = as_index(tips);
-    figures_of(first, second, &marks[..n], tips)
+    let n = usize::from(pair.tips);
+    figures_of(first, second, &marks[..n], pair.tips)
 }
 
 // The figures of a file's words: the first table by its own length, then the rest.
@@ -168,10 +124,10 @@ pub fn compare(bytes: &[u8]) -> Figures
     ensures { result ≡ comparison bytes.now }
 {
     if BYTES < bytes.len() {
-        return refused(14);
+        return refused(u16::from(Refusal::LongFile));
     }
     if bytes.len() % 2 != 0 {
-        return refused(15);
+        return refused(u16::from(Refusal::OddFile));
     }
     let mut words = [0u16; WORDS];
     let count = decode(bytes, &mut words);

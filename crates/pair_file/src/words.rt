@@ -16,10 +16,8 @@ pub(crate) fn decode(bytes: &[u8], words: &mut [u16]) -> usize
         × (take result words.new ≡ file_words bytes.now) }
 {
     let count = bytes.len() / 2;
-    let mut i = 0;
-    while i < count {
+    for i in 0..count {
         words[i] = word_of(bytes[2 * i], bytes[2 * i + 1]);
-        i += 1;
     }
-    i
+    count
 }

@@ -6,8 +6,9 @@ mod tables; // tables.rt: the quartet table of two trees
 
 pub use claims::{ClaimSums, claim_sums};
 pub use evidence::{Case, EvidenceAnswer, evidence};
-pub use pair_check::{CheckedPair, check_cells, check_pair, check_work, pair_refusal};
+pub use pair_check::{Pair, check_cells, check_pair, check_work};
 pub use splits::{SplitCounts, split_counts};
 pub use tables::{QuartetTable, quartet_table};
+pub use tree_check::{Refusal, refusal_of};
 pub use tree_pairs::crossings;
 pub use triplets::{TripletTable, triplet_table};

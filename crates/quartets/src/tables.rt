@@ -6,11 +6,14 @@ ghost use Rattle.quartets.specs.lemmas.FormedTable.{TableFits, formed};
 ghost use Rattle.quartets.specs.QuartetAnswer.{DemandThree, quartet_answer};
 
 use claims::claim_sums;
-use pair_check::{CheckedPair, check_work, pair_refusal};
+use counting::sets_of_four;
+use pair_check::check_work;
 use table_words::Cell;
+use tree_check::refusal_of;
 
 // The number; the same butterfly in both trees, different butterflies, a butterfly in the first only, in the second
 // only, a star in both; and the distance B + C + D.
+// No Result: a refused call gives its number, and zeros (docs/SPECIFICATION.md, 7.2).
 #[derive(Clone, Copy)]
 pub struct QuartetTable {
     pub refusal: u16,
@@ -22,32 +25,6 @@ pub struct QuartetTable {
     pub distance: u64,
 }
 
-// A word as a wider number.
-fn wide(x: u16) -> u32
-    ensures { result ≡ x }
-{
-    x as u32
-}
-
-// A count as a wider one.
-fn widened(x: u32) -> u64
-    ensures { result ≡ x }
-{
-    x as u64
-}
-
-// How many sets of four there are among k labels: none below four, where k - 3 would go below 0; 4195023360 is the largest
-// product, at 256.
-fn sets_of_four(k: u32) -> u32
-    requires { k ≤ 256 }
-    ensures { result ≡ fours k }
-{
-    if k < 4 {
-        return 0;
-    }
-    k * (k - 1) * (k - 2) * (k - 3) / 24
-}
-
 // The five formulas, from the four claim sums and the number n of counted labels alone.
 fn form_table(first: u64, second: u64, same: u64, different: u64, n: u16) -> QuartetTable
     requires { TableFits n first second same different }
@@ -57,7 +34,7 @@ fn form_table(first: u64, second: u64, same: u64, different: u64, n: u16) -> Qua
     let b = different / 4;
     let c = first / 2 - a - b;
     let d = second / 2 - a - b;
-    let all = widened(sets_of_four(wide(n)));
+    let all = sets_of_four(n);
     let e = all - a - b - c - d;
     let distance = b + c + d;
     QuartetTable {
@@ -79,15 +56,9 @@ pub fn quartet_table(first: &[u16], second: &[u16], marks: &[u8], work: &mut [Ce
         ≡ after_crossings first.now second.now marks.now work.old) }
 {
     let answer = check_work(first, second, marks, work.len());
-    let CheckedPair::Pair {
-        tips: _,
-        counted,
-        rows: _,
-        columns: _,
-    } = answer
-    else {
+    let Ok(pair) = answer else {
         return QuartetTable {
-            refusal: pair_refusal(answer),
+            refusal: refusal_of(answer),
             a: 0,
             b: 0,
             c: 0,
@@ -97,5 +68,11 @@ pub fn quartet_table(first: &[u16], second: &[u16], marks: &[u8], work: &mut [Ce
         };
     };
     let sums = claim_sums(first, second, marks, work);
-    form_table(sums.first, sums.second, sums.same, sums.different, counted)
+    form_table(
+        sums.first,
+        sums.second,
+        sums.same,
+        sums.different,
+        pair.counted,
+    )
 }

@@ -2,7 +2,7 @@
 ghost use Rattle.std.specs.Prelude.{◌≤◌, length};
 ghost use Rattle.rerooting.specs.lemmas.Renumbering.{Rerootable, RenumberedAre};
 
-use table_words::{NODES, as_index};
+use table_words::NODES;
 
 // New numbers for the nodes of a tree that is renumbered to node z: along the path to node 0 first, then the others in order.
 pub(crate) fn new_numbers(parents: &[u16], z: usize) -> [usize; NODES]
@@ -15,17 +15,15 @@ pub(crate) fn new_numbers(parents: &[u16], z: usize) -> [usize; NODES]
     while v != 0 {
         news[v] = i;
         i += 1;
-        v = as_index(parents[v]);
+        v = usize::from(parents[v]);
     }
     news[0] = i;
     i += 1;
-    let mut w = 0;
-    while w < parents.len() {
+    for w in 0..parents.len() {
         if news[w] == NODES {
             news[w] = i;
             i += 1;
         }
-        w += 1;
     }
     news
 }

@@ -8,8 +8,8 @@ ghost use Rattle.rerooting.specs.Rerooted.{reroot_order, written, after_reroot};
 ghost use Rattle.rerooting.specs.lemmas.Writing.{TableNumbered, NodesWritten, parent_for};
 
 use super::numbers::new_numbers;
-use table_words::{NODES, as_index, as_word};
-use tree_check::{Checked, check, refusal_of};
+use table_words::{NODES, as_word};
+use tree_check::{Refusal, check};
 use trees::node_of;
 
 // 0 for x, x for 0, and any other label as it is.
@@ -45,13 +45,11 @@ fn write_nodes(table: &[u16], m: usize, x: u16, news: &[usize; NODES], out: &mut
     ensures { NodesWritten table.now x m out.old out.new }
 {
     let last = news[0];
-    let mut v = 0;
-    while v < m {
+    for v in 0..m {
         let i = news[v];
-        let p = news[as_index(table[2 + v])];
+        let p = news[usize::from(table[2 + v])];
         out[2 + i] = as_word(parent_for(i, last, p));
         out[2 + (m + i)] = exchange(x, table[2 + (m + v)]);
-        v += 1;
     }
 }
 
@@ -69,20 +67,21 @@ fn write_table(table: &[u16], m: usize, x: u16, out: &mut [u16])
 }
 
 // The table re-rooted at the tip with this label, which changes places with label 0, into the first 2 + 2m lent cells.
+// The answer is the number itself, as docs/LIBRARY.md promises.
 pub fn reroot(table: &[u16], label: u16, out: &mut [u16]) -> u16
     ensures { (result ≡ refusal (reroot_order table.now label (length out.old)))
         × (out.new ≡ after_reroot table.now label out.old) }
 {
-    let answer = check(table);
-    let Checked::Tree { tips, nodes } = answer else {
-        return refusal_of(answer);
+    let tree = match check(table) {
+        Ok(tree) => tree,
+        Err(refusal) => return u16::from(refusal),
     };
-    if tips <= label {
-        return 10;
+    if tree.tips <= label {
+        return u16::from(Refusal::TooLarge);
     }
-    let m = as_index(nodes);
+    let m = usize::from(tree.nodes);
     if out.len() < 2 + 2 * m {
-        return 12;
+        return u16::from(Refusal::Short);
     }
     write_table(table, m, label, out);
     0

@@ -1,12 +1,29 @@
 // Splits counted in the cells: rows whose first column and first row are the sizes. Of the labels, `kept` are counted.
-ghost use Rattle.std.specs.Prelude.{◌&&◌, ◌≡◌, ◌+◌, ◌-◌, ◌≤◌, ◌<◌, eqb, length};
+ghost use Rattle.std.specs.Prelude.{Bool, ◌&&◌, ◌≡◌, ℕ, ◌+◌, ◌-◌, ◌≤◌, ◌<◌, eqb, length};
+ghost use Rattle.sums.specs.Counts.{count};
 ghost use Rattle.sums.specs.Tests.{some};
 ghost use Rattle.tree_pairs.specs.lemmas.EdgeRows.{EdgeRoom};
 ghost use Rattle.splits.specs.lemmas.SplitCells.{split_size, new_size, half_row, new_edge, edge_splits};
 ghost use Rattle.splits.specs.lemmas.SplitCells.{shared_row, apart_row, occurs_row, common_row, common_rows};
 ghost use Rattle.splits.specs.lemmas.SplitLoops.{RowsRoom, SplitRowRoom};
 
-use table_words::{Cell, as_index, cell_count};
+use table_words::{Cell, cell_count};
+
+// How many of the indices before `len` pass a test. Each is looked at, so that several are tested at a time.
+fn count_of<F: Fn(usize) -> bool>(len: usize, test: F) -> u16
+    requires few { len ≤ 65535 }
+    requires callable { (i : ℕ) → i < len → F.pre test i }
+    ensures { (q : ℕ → Bool) → ((i : ℕ) (b : Bool) → i < len → F.post test i b → b ≡ q i)
+        → result ≡ count len q }
+{
+    let mut total = 0u16;
+    for i in 0..len {
+        if test(i) {
+            total += 1;
+        }
+    }
+    total
+}
 
 // Whether an edge with `size` of the kept labels beyond it is a split.
 pub(crate) fn is_split(size: Cell, kept: u64) -> bool
@@ -44,8 +61,7 @@ fn has_half(work: &[Cell], step: usize, parents: &[u16], row: usize, kept: u64) 
     requires { EdgeRoom (length work.now) step parents.now × (row < length parents.now - 1) }
     ensures { result ≡ some row (half_row kept work.now step parents.now row) }
 {
-    let mut k = 0;
-    while k < row {
+    for k in 0..row {
         if are_halves(
             parents[k + 1],
             parents[row + 1],
@@ -55,7 +71,6 @@ fn has_half(work: &[Cell], step: usize, parents: &[u16], row: usize, kept: u64) 
         ) {
             return true;
         }
-        k += 1;
     }
     false
 }
@@ -66,7 +81,7 @@ fn is_first(work: &[Cell], step: usize, parents: &[u16], i: usize, kept: u64) ->
     requires { EdgeRoom (length work.now) step parents.now × (i < length parents.now - 2) }
     ensures { result ≡ new_edge kept work.now step parents.now i }
 {
-    let up = as_index(parents[i + 2]) - 1;
+    let up = usize::from(parents[i + 2]) - 1;
     let above = work[up * step];
     if !is_new(work[(i + 1) * step], above, kept) {
         return false;
@@ -86,16 +101,10 @@ pub(crate) fn edge_splits(work: &[Cell], step: usize, parents: &[u16], kept: u64
     requires { EdgeRoom (length work.now) step parents.now }
     ensures { result ≡ edge_splits kept work.now step parents.now }
 {
-    let last = parents.len() - 2;
-    let mut total = 0u16;
-    let mut i = 0;
-    while i < last {
-        if is_first(work, step, parents, i, kept) {
-            total += 1;
-        }
-        i += 1;
-    }
-    total
+    count_of(
+        parents.len() - 2,
+        |i| is_first(work, step, parents, i, kept),
+    )
 }
 
 // Whether x is y and z.
@@ -108,24 +117,12 @@ fn is_both(x: Cell, y: Cell, z: Cell) -> bool
     x == z
 }
 
-// Whether a cell of the row that begins at `base` has the row's size and the column's. Every column is looked at, so that
-// several are compared at a time.
+// Whether a cell of the row that begins at `base` has the row's size and the column's.
 pub(crate) fn shared_row(work: &[Cell], base: usize, width: usize) -> bool
     requires { SplitRowRoom (length work.now) base width }
     ensures { result ≡ shared_row width work.now base }
 {
-    let mut found = 0u16;
-    let mut j = 0;
-    while j < width {
-        if is_both(work[base + j], work[base], work[j]) {
-            found += 1;
-        }
-        j += 1;
-    }
-    if found == 0 {
-        return false;
-    }
-    true
+    count_of(width, |j| is_both(work[base + j], work[base], work[j])) != 0
 }
 
 // Whether no label lies beyond both of two edges, and every kept label beyond one: the cell, and the two sizes.
@@ -143,18 +140,10 @@ pub(crate) fn apart_row(work: &[Cell], base: usize, width: usize, kept: u64) -> 
     requires { SplitRowRoom (length work.now) base width }
     ensures { result ≡ apart_row kept width work.now base }
 {
-    let mut found = 0u16;
-    let mut j = 0;
-    while j < width {
-        if is_apart(work[base + j], work[base], work[j], kept) {
-            found += 1;
-        }
-        j += 1;
-    }
-    if found == 0 {
-        return false;
-    }
-    true
+    count_of(
+        width,
+        |j| is_apart(work[base + j], work[base], work[j], kept),
+    ) != 0
 }
 
 // Whether the row that begins at `base` has the label sets of some column. They are turned round only if all kept labels lie
@@ -189,14 +178,8 @@ pub(crate) fn common_rows(work: &[Cell], width: usize, parents: &[u16], kept: u6
     requires { EdgeRoom (length work.now) width parents.now × RowsRoom (length work.now) width parents.now }
     ensures { result ≡ common_rows kept work.now width parents.now }
 {
-    let last = parents.len() - 2;
-    let mut total = 0u16;
-    let mut i = 0;
-    while i < last {
-        if is_common(work, width, parents, i, kept) {
-            total += 1;
-        }
-        i += 1;
-    }
-    total
+    count_of(
+        parents.len() - 2,
+        |i| is_common(work, width, parents, i, kept),
+    )
 }

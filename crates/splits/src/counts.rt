@@ -5,11 +5,12 @@ ghost use Rattle.splits.specs.lemmas.SplitsCounted.{SplitsCountable, splits_coun
 ghost use Rattle.splits.specs.SplitAnswer.{split_answer};
 
 use super::cells::{common_rows, edge_splits};
-use pair_check::{CheckedPair, pair_refusal};
-use table_words::{Cell, as_count};
+use table_words::Cell;
+use tree_check::refusal_of;
 use tree_pairs::cross_pair;
 
 // The number; the first tree's splits, the second's, those of both; and the Robinson-Foulds distance.
+// No Result: a refused call gives its number, and zeros (docs/SPECIFICATION.md, 7.2).
 #[derive(Clone, Copy)]
 pub struct SplitCounts {
     pub refusal: u16,
@@ -49,22 +50,21 @@ pub fn split_counts(first: &[u16], second: &[u16], marks: &[u8], work: &mut [Cel
         ≡ after_crossings first.now second.now marks.now work.old) }
 {
     let answer = cross_pair(first, second, marks, work);
-    let CheckedPair::Pair {
-        tips: _,
-        counted,
-        rows,
-        columns,
-    } = answer
-    else {
+    let Ok(pair) = answer else {
         return SplitCounts {
-            refusal: pair_refusal(answer),
+            refusal: refusal_of(answer),
             first: 0,
             second: 0,
             common: 0,
             distance: 0,
         };
     };
-    let m = rows + 1;
-    let k = columns + 1;
-    count_splits(&first[2..2 + m], &second[2..2 + k], work, as_count(counted))
+    let m = pair.rows + 1;
+    let k = pair.columns + 1;
+    count_splits(
+        &first[2..2 + m],
+        &second[2..2 + k],
+        work,
+        u64::from(pair.counted),
+    )
 }

@@ -7,6 +7,7 @@ pub mod FourArithmetic
 pub mod FoursLaws
 pub mod Grids
 pub mod Inserted
+pub mod Listed
 pub mod ListLaws
 pub mod Matchings
 pub mod Pairings

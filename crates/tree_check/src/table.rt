@@ -1,5 +1,6 @@
 // The tree check: whether a table keeps the rules of a tree table, or the number of the first one broken.
-ghost use Rattle.std.specs.Prelude.{◌≡◌, ◌≤◌, eqb, length};
+ghost use Rattle.std.specs.Prelude.{◌≡◌, ◌≤◌, ◌==◌, eqb, length, take};
+ghost use Rattle.std.specs.List.{list_all};
 ghost use Rattle.table_words.specs.Sizes.{node_room, tips_most};
 ghost use Rattle.sums.specs.Tests.{some, every};
 ghost use Rattle.tree_check.specs.Table.{word};
@@ -7,26 +8,18 @@ ghost use Rattle.tree_check.specs.Refusals.{refusal};
 ghost use Rattle.tree_check.specs.TreeOrder.{tips_fit, nodes_fit, parent_fits, label_fits, labels_fit, labels_once, misplaced};
 ghost use Rattle.tree_check.specs.TreeOrder.{arrays_order, tree_order};
 ghost use Rattle.tree_check.specs.theorems.TreeCheck.{ArraysFit};
-ghost use Rattle.tree_check.specs.Check.{checked, number_of, TreeTold};
+ghost use Rattle.tree_check.specs.Check.{checked, TreeTold};
+ghost use Rattle.tree_check.specs.lemmas.CheckOutcomes.{outcome};
 
+use super::refusals::TableRefusal;
 use super::tallies::tally;
-use table_words::{INNER, TIPS, as_index};
+use table_words::{INNER, TIPS};
 
-// What the check finds: a tree with its tips and nodes, or the number of the refusal.
+// A table that is a tree: its tips and its nodes.
 #[derive(Clone, Copy)]
-pub enum Checked {
-    Tree { tips: u16, nodes: u16 },
-    Refused(u16),
-}
-
-// The number of an answer: 0 for accepted.
-pub fn refusal_of(answer: Checked) -> u16
-    ensures { result ≡ number_of answer }
-{
-    match answer {
-        Checked::Tree { tips: _, nodes: _ } => 0,
-        Checked::Refused(number) => number,
-    }
+pub struct Tree {
+    pub tips: u16,
+    pub nodes: u16,
 }
 
 // Whether node i may have the parent word p.
@@ -46,12 +39,10 @@ fn parent_fits(i: usize, p: usize) -> bool
 fn parents_fit(parents: &[u16]) -> bool
     ensures { result ≡ every (length parents.now) (λ i. parent_fits i (word parents.now i)) }
 {
-    let mut i = 0;
-    while i < parents.len() {
-        if !parent_fits(i, as_index(parents[i])) {
+    for (i, parent) in parents.iter().enumerate() {
+        if !parent_fits(i, usize::from(*parent)) {
             return false;
         }
-        i += 1;
     }
     true
 }
@@ -68,31 +59,19 @@ fn label_fits(n: usize, l: usize) -> bool
 
 // Whether every label is 65535 or below n.
 fn labels_in_range(labels: &[u16], n: usize) -> bool
-    ensures { result ≡ every (length labels.now) (λ i. label_fits n (word labels.now i)) }
+    ensures { result ≡ list_all (label_fits n) labels.now }
 {
-    let mut i = 0;
-    while i < labels.len() {
-        if !label_fits(n, as_index(labels[i])) {
-            return false;
-        }
-        i += 1;
-    }
-    true
+    labels
+        .iter()
+        .all(|label| label_fits(n, usize::from(*label)))
 }
 
 // Whether the first n counts are all 1.
 fn all_one(counts: &[u16], n: usize) -> bool
     requires { n ≤ length counts.now }
-    ensures { result ≡ every n (λ x. eqb (word counts.now x) 1) }
+    ensures { result ≡ list_all (λ k. k == 1) (take n counts.now) }
 {
-    let mut x = 0;
-    while x < n {
-        if counts[x] != 1 {
-            return false;
-        }
-        x += 1;
-    }
-    true
+    counts[..n].iter().all(|count| *count == 1)
 }
 
 // Whether node 0's label is 0, and every label 65535 or below n.
@@ -134,36 +113,34 @@ fn some_misplaced(labels: &[u16], kids: &[u16]) -> bool
     ensures { result ≡ some (length labels.now)
         (λ i. misplaced i (word labels.now i) (word kids.now i)) }
 {
-    let mut i = 0;
-    while i < labels.len() {
-        if is_misplaced(i, as_index(labels[i]), as_index(kids[i])) {
+    for (i, label) in labels.iter().enumerate() {
+        if is_misplaced(i, usize::from(*label), usize::from(kids[i])) {
             return true;
         }
-        i += 1;
     }
     false
 }
 
-// The first of the rules 5, 6, 31 and 7 that the two arrays break, or 0: one pass over the parents counts the children.
-fn arrays_refusal(parents: &[u16], labels: &[u16], n: usize) -> u16
+// The rules 5, 6, 31 and 7 of the two arrays: one pass over the parents counts the children.
+fn arrays_keep_rules(parents: &[u16], labels: &[u16], n: usize) -> Result<(), TableRefusal>
     requires { ArraysFit parents.now labels.now n }
-    ensures { result ≡ refusal (arrays_order n (length parents.now)
-        (word parents.now) (word labels.now)) }
+    ensures { result ≡ outcome (refusal (arrays_order n (length parents.now)
+        (word parents.now) (word labels.now))) }
 {
     if !parents_fit(parents) {
-        return 5;
+        return Err(TableRefusal::Parents);
     }
     if !labels_fit(labels, n) {
-        return 6;
+        return Err(TableRefusal::Labels);
     }
     if !labels_once(labels, n) {
-        return 31;
+        return Err(TableRefusal::Repeated);
     }
     let kids = tally(&parents[1..]);
     if some_misplaced(labels, &kids) {
-        return 7;
+        return Err(TableRefusal::Misplaced);
     }
-    0
+    Ok(())
 }
 
 fn tips_fit(n: usize) -> bool
@@ -185,37 +162,34 @@ fn nodes_fit(n: usize, m: usize) -> bool
     m <= 4 * n
 }
 
-// The number of the first rule of a tree table that is broken, or 0.
-fn tree_refusal(table: &[u16]) -> u16
-    ensures { result ≡ refusal (tree_order table.now) }
+// All rules of a tree table: the first broken one decides.
+fn keeps_rules(table: &[u16]) -> Result<(), TableRefusal>
+    ensures { result ≡ outcome (refusal (tree_order table.now)) }
 {
     if table.len() < 2 {
-        return 1;
+        return Err(TableRefusal::TooFewWords);
     }
-    let n = as_index(table[0]);
-    let m = as_index(table[1]);
+    let n = usize::from(table[0]);
+    let m = usize::from(table[1]);
     if !tips_fit(n) {
-        return 2;
+        return Err(TableRefusal::Tips);
     }
     if !nodes_fit(n, m) {
-        return 3;
+        return Err(TableRefusal::Nodes);
     }
     if table.len() != 2 + 2 * m {
-        return 4;
+        return Err(TableRefusal::Length);
     }
-    arrays_refusal(&table[2..2 + m], &table[2 + m..], n)
+    arrays_keep_rules(&table[2..2 + m], &table[2 + m..], n)
 }
 
 // Whether the words are a tree table. The first broken rule decides: 1 to 6, then 31, then 7.
-pub fn check(table: &[u16]) -> Checked
+pub fn check(table: &[u16]) -> Result<Tree, TableRefusal>
     ensures { (result ≡ checked table.now) × TreeTold table.now result }
 {
-    let number = tree_refusal(table);
-    if number != 0 {
-        return Checked::Refused(number);
-    }
-    Checked::Tree {
+    keeps_rules(table)?;
+    Ok(Tree {
         tips: table[0],
         nodes: table[1],
-    }
+    })
 }

@@ -3,7 +3,7 @@ ghost use Rattle.std.specs.Prelude.{◌≡◌, ◌≤◌, ◌<◌, length};
 ghost use Rattle.table_words.specs.Sizes.{node_room};
 ghost use Rattle.tree_check.specs.lemmas.Tally.{Tallied};
 
-use table_words::{NODES, as_index};
+use table_words::NODES;
 
 // How often each number below NODES stands among the words.
 pub(crate) fn tally(words: &[u16]) -> [u16; NODES]
@@ -11,13 +11,11 @@ pub(crate) fn tally(words: &[u16]) -> [u16; NODES]
     ensures { Tallied words.now (length words.now) result }
 {
     let mut counts = [0u16; NODES];
-    let mut i = 0;
-    while i < words.len() {
-        let w = as_index(words[i]);
+    for word in words {
+        let w = usize::from(*word);
         if w < NODES {
-            counts[w] = counts[w] + 1;
+            counts[w] += 1;
         }
-        i += 1;
     }
     counts
 }

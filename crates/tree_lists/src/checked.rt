@@ -9,11 +9,11 @@ ghost use Rattle.tree_lists.specs.CheckedList.{refused_list, checked_list};
 ghost use Rattle.tree_lists.specs.lemmas.Starts.{TableStarts};
 
 use super::cut::{STARTS, edges_of, starts_of, word_0};
-use table_words::as_index;
-use tree_check::{Checked, check};
+use tree_check::{Refusal, check};
 
 // The number; how many trees there are; how many tips each has; how many edges the largest has; where each table starts, and where
 // they end.
+// No Result: a refused call gives its number, and zeros (docs/SPECIFICATION.md, 7.2).
 #[derive(Clone, Copy)]
 pub struct TreeList {
     pub refusal: u16,
@@ -51,11 +51,10 @@ fn is_few(k: usize) -> bool
 fn is_wrong(table: &[u16], n: u16) -> bool
     ensures { result ≡ (not (eqb (refusals_refusal (tree_order table.now)) 0) || not (eqb (table_tips table.now) n)) }
 {
-    let answer = check(table);
-    let Checked::Tree { tips, nodes: _ } = answer else {
-        return true;
-    };
-    tips != n
+    match check(table) {
+        Ok(tree) => tree.tips != n,
+        Err(_) => true,
+    }
 }
 
 // Whether one of the first k tables is.
@@ -63,14 +62,12 @@ fn some_wrong(list: &[u16], starts: &[usize; STARTS], k: usize, n: u16) -> bool
     requires { (1 ≤ length list.now) × (k ≤ trees_most) × TableStarts list.now k starts.now }
     ensures { result ≡ some k (wrong_tree list.now n) }
 {
-    let mut i = 0;
-    while i < k {
+    for i in 0..k {
         let from = starts[i];
         let to = starts[i + 1];
         if is_wrong(&list[from..to], n) {
             return true;
         }
-        i += 1;
     }
     false
 }
@@ -81,15 +78,13 @@ fn most_edges(list: &[u16], starts: &[usize; STARTS], k: usize) -> usize
     ensures { (result ≡ largest k (edges_at list.now)) × (result < 65536) }
 {
     let mut most = 0;
-    let mut i = 0;
-    while i < k {
+    for i in 0..k {
         let from = starts[i];
         let to = starts[i + 1];
         let edges = edges_of(&list[from..to]);
         if most < edges {
             most = edges;
         }
-        i += 1;
     }
     most
 }
@@ -98,25 +93,25 @@ fn most_edges(list: &[u16], starts: &[usize; STARTS], k: usize) -> usize
 pub fn check_list(list: &[u16]) -> TreeList
     ensures { result ≡ checked_list list.now }
 {
-    let k = as_index(word_0(list));
+    let k = usize::from(word_0(list));
     if is_few(k) {
         let starts = starts_of(list, k);
         let from = starts[0];
         let to = starts[1];
         let n = word_0(&list[from..to]);
         if some_wrong(list, &starts, k, n) {
-            return refused(39);
+            return refused(u16::from(Refusal::ListTree));
         }
         if starts[k] < list.len() {
-            return refused(39);
+            return refused(u16::from(Refusal::ListTree));
         }
         return TreeList {
             refusal: 0,
             trees: k,
-            tips: as_index(n),
+            tips: usize::from(n),
             edges: most_edges(list, &starts, k),
             starts: starts,
         };
     }
-    refused(38)
+    refused(u16::from(Refusal::ListLength))
 }

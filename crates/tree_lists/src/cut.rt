@@ -4,7 +4,7 @@ ghost use Rattle.tree_check.specs.Table.{tips as table_tips, nodes as table_node
 ghost use Rattle.tree_lists.specs.TreeLists.{trees_most};
 ghost use Rattle.tree_lists.specs.lemmas.Starts.{TableStarts};
 
-use table_words::{as_index, table_length};
+use table_words::table_length;
 
 // The length of an array that has a cell for where each table starts, and one for their end.
 pub const STARTS: usize = 17;
@@ -26,7 +26,7 @@ pub(crate) fn edges_of(words: &[u16]) -> usize
     if words.len() < 2 {
         return 0;
     }
-    let m = as_index(words[1]);
+    let m = usize::from(words[1]);
     if m == 0 {
         return 0;
     }
@@ -41,11 +41,9 @@ pub(crate) fn starts_of(list: &[u16], k: usize) -> [usize; STARTS]
     let mut starts = [0usize; STARTS];
     starts[0] = 1;
     let mut at = 1;
-    let mut i = 0;
-    while i < k {
+    for i in 0..k {
         at += table_length(&list[at..]);
-        i += 1;
-        starts[i] = at;
+        starts[i + 1] = at;
     }
     starts
 }

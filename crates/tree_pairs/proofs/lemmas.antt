@@ -4,7 +4,5 @@ pub mod CrossingTotals
 pub mod EdgeRows
 pub mod Filling
 pub mod LentTables
-pub mod Listed
-pub mod Rows
 pub mod RowsUp
 pub mod TipRows

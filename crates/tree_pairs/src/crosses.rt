@@ -11,8 +11,9 @@ ghost use Rattle.tree_pairs.specs.lemmas.Filling.{PairArrays};
 
 use super::rows::add_rows;
 use super::rows_of_tips::tip_rows;
-use pair_check::{CheckedPair, check_cells, check_work, pair_refusal};
-use table_words::{Cell, NODES, TIPS, as_index};
+use pair_check::{Pair, check_cells, check_work};
+use table_words::{Cell, NODES, TIPS};
+use tree_check::{Refusal, refusal_of};
 use walks::spans;
 
 // The rows are written from the spans of the second tree's nodes, then each is added to its parent's.
@@ -29,7 +30,7 @@ fn fill_arrays(
         ≡ crossed_kept (table_of n first_parents.now first_labels.now) second.now
         marks.now work.old }
 {
-    let width = as_index(second[1]) - 1;
+    let width = usize::from(second[1]) - 1;
     let mut labelled = [0u16; TIPS];
     let mut begin = [0; NODES];
     let mut end = [0; NODES];
@@ -44,8 +45,8 @@ pub(crate) fn fill(first: &[u16], second: &[u16], marks: &[u8], work: &mut [Cell
     ensures { work.new
         ≡ crossed_kept first.now second.now marks.now work.old }
 {
-    let n = as_index(first[0]);
-    let m = as_index(first[1]);
+    let n = usize::from(first[0]);
+    let m = usize::from(first[1]);
     fill_arrays(&first[2..2 + m], &first[2 + m..], second, marks, n, work);
 }
 
@@ -59,40 +60,43 @@ fn fill_all(first: &[u16], second: &[u16], work: &mut [Cell])
 }
 
 // The crossings of kept labels in the lent cells, and the pair that they are of: a pair call with marks goes on from here.
-pub fn cross_pair(first: &[u16], second: &[u16], marks: &[u8], work: &mut [Cell]) -> CheckedPair
+pub fn cross_pair(
+    first: &[u16],
+    second: &[u16],
+    marks: &[u8],
+    work: &mut [Cell],
+) -> Result<Pair, Refusal>
     ensures { (result ≡ checked_work first.now second.now marks.now (length work.old))
         × PairTold (refusal (pair_order first.now second.now marks.now (length work.old)))
         first.now second.now (kept_of marks.now (table_tips first.now)) result
         × (work.new
         ≡ after_crossings first.now second.now marks.now work.old) }
 {
-    let answer = check_work(first, second, marks, work.len());
-    if pair_refusal(answer) == 0 {
-        fill(first, second, marks, work);
-    }
-    answer
+    let pair = check_work(first, second, marks, work.len())?;
+    fill(first, second, marks, work);
+    Ok(pair)
 }
 
 // The crossings of all labels in the lent cells, and the pair that they are of: the triplet table goes on from here.
-pub fn cross_all(first: &[u16], second: &[u16], work: &mut [Cell]) -> CheckedPair
+// Apart from cross_pair: it has marks of its own, and its clauses cite other definitions.
+pub fn cross_all(first: &[u16], second: &[u16], work: &mut [Cell]) -> Result<Pair, Refusal>
     ensures { (result ≡ checked_cells first.now second.now (length work.old))
         × PairTold (refusal (cells_order first.now second.now (length work.old)))
         first.now second.now (table_tips first.now) result
         × (work.new ≡ after_all first.now second.now work.old) }
 {
-    let pair = check_cells(first, second, work.len());
-    if pair_refusal(pair) == 0 {
-        fill_all(first, second, work);
-    }
-    pair
+    let pair = check_cells(first, second, work.len())?;
+    fill_all(first, second, work);
+    Ok(pair)
 }
 
 // How many kept labels lie beyond both edge i of the first tree and edge j of the second, in cell
 // (i - 1)(m' - 1) + (j - 1). The two trees may be one slice.
+// The answer is the number itself, as docs/LIBRARY.md promises.
 pub fn crossings(first: &[u16], second: &[u16], marks: &[u8], work: &mut [Cell]) -> u16
     ensures { (result ≡ refusal (pair_order first.now second.now marks.now (length work.old)))
         × (work.new
         ≡ after_crossings first.now second.now marks.now work.old) }
 {
-    pair_refusal(cross_pair(first, second, marks, work))
+    refusal_of(cross_pair(first, second, marks, work))
 }

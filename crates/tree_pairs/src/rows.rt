@@ -5,17 +5,15 @@ ghost use Rattle.tree_pairs.specs.lemmas.Listed.{ListedNodes, row_start};
 ghost use Rattle.tree_pairs.specs.lemmas.Rows.{RowsFit, RowAdded};
 ghost use Rattle.tree_pairs.specs.lemmas.RowsUp.{Room, RowsAdded};
 
-use table_words::{Cell, NODES, as_index};
+use table_words::{Cell, NODES};
 
 // The row that begins at `from` is added to the row that begins at `to`.
 fn add_row(work: &mut [Cell], to: usize, from: usize, width: usize)
     requires { RowsFit work.old to from width }
     ensures { RowAdded work.old work.new to from width }
 {
-    let mut j = 0;
-    while j < width {
-        work[to + j] = work[to + j] + work[from + j];
-        j += 1;
+    for j in 0..width {
+        work[to + j] += work[from + j];
     }
 }
 
@@ -25,10 +23,8 @@ fn row_starts(count: usize, width: usize, starts: &mut [usize; NODES])
     requires { (count ≤ node_room) × (width ≤ node_room) × (length starts.old ≡ node_room) }
     ensures { ListedNodes (row_start width) count starts.new }
 {
-    let mut v = 1;
-    while v < count {
+    for v in 1..count {
         starts[v] = (v - 1) * width;
-        v += 1;
     }
 }
 
@@ -39,10 +35,8 @@ pub(crate) fn add_rows(parents: &[u16], work: &mut [Cell], width: usize)
 {
     let mut starts = [0usize; NODES];
     row_starts(parents.len(), width, &mut starts);
-    let mut i = parents.len();
-    while 2 < i {
-        i -= 1;
-        let p = as_index(parents[i]);
+    for i in (2..parents.len()).rev() {
+        let p = usize::from(parents[i]);
         add_row(work, starts[p], starts[i], width);
     }
 }

@@ -5,7 +5,7 @@ ghost use Rattle.walks.specs.theorems.SpanLaws.{in_span};
 ghost use Rattle.tree_pairs.specs.lemmas.TipRows.{RowRoom, RowFilled, in_spans, nothing, counted_label, TipRoom, TipRows};
 
 use marks::is_kept;
-use table_words::{Cell, NODES, TIPS, as_index};
+use table_words::{Cell, NODES, TIPS};
 
 // 1 where place `at` lies in the span from `begin` to before `end`, 0 elsewhere.
 fn within(at: Cell, begin: Cell, end: Cell) -> Cell
@@ -34,10 +34,8 @@ fn tip_row(
     ensures { RowFilled (in_spans begin.now end.now at) base width work.old
         work.new }
 {
-    let mut j = 0;
-    while j < width {
+    for j in 0..width {
         work[base + j] = within(at, begin[j + 1], end[j + 1]);
-        j += 1;
     }
 }
 
@@ -56,11 +54,7 @@ fn empty_row(work: &mut [Cell], base: usize, width: usize)
     requires { RowRoom work.old base width }
     ensures { RowFilled nothing base width work.old work.new }
 {
-    let mut j = 0;
-    while j < width {
-        work[base + j] = 0;
-        j += 1;
-    }
+    work[base..base + width].fill(0);
 }
 
 // The row of each node of the first tree but node 0: of a tip whose label is kept, 1 at the nodes of the second tree at or above
@@ -79,16 +73,14 @@ pub(crate) fn tip_rows(
     ensures { TipRows labels.now marks.now n width labelled.now begin.now
         end.now (length labels.now) work.old work.new }
 {
-    let mut v = 1;
-    while v < labels.len() {
-        let x = as_index(labels[v]);
+    for v in 1..labels.len() {
+        let x = usize::from(labels[v]);
         let base = (v - 1) * width;
         if is_counted(marks, n, x) {
-            let node = as_index(labelled[x]);
+            let node = usize::from(labelled[x]);
             tip_row(work, base, width, begin[node], begin, end);
         } else {
             empty_row(work, base, width);
         }
-        v += 1;
     }
 }

@@ -8,10 +8,11 @@ ghost use Rattle.trees.specs.lemmas.CentreOutcomes.{centre_over};
 ghost use Rattle.trees.specs.lemmas.Climbing.{Climbable};
 
 use asked_labels::{asked_refusal, node_of};
-use table_words::{as_index, as_word};
-use tree_check::{Checked, check, refusal_of};
+use table_words::as_word;
+use tree_check::check;
 
 // The number of the refusal with node 0, or 0 with the centre.
+// No Result: a refused call gives its number, and zeros (docs/SPECIFICATION.md, 7.2).
 #[derive(Clone, Copy)]
 pub struct CentreAnswer {
     pub refusal: u16,
@@ -39,15 +40,15 @@ fn join(parents: &[u16], a: usize, b: usize, c: usize) -> usize
         }
         if y < x {
             if z < x {
-                x = as_index(parents[x]);
+                x = usize::from(parents[x]);
             } else {
-                z = as_index(parents[z]);
+                z = usize::from(parents[z]);
             }
         } else {
             if z < y {
-                y = as_index(parents[y]);
+                y = usize::from(parents[y]);
             } else {
-                z = as_index(parents[z]);
+                z = usize::from(parents[z]);
             }
         }
     };
@@ -58,22 +59,24 @@ fn join(parents: &[u16], a: usize, b: usize, c: usize) -> usize
 pub fn centre(table: &[u16], a: u16, b: u16, c: u16) -> CentreAnswer
     ensures { result ≡ centre_answer table.now a b c }
 {
-    let answer = check(table);
-    let Checked::Tree { tips, nodes } = answer else {
-        return CentreAnswer {
-            refusal: refusal_of(answer),
-            node: 0,
-        };
+    let tree = match check(table) {
+        Ok(tree) => tree,
+        Err(refusal) => {
+            return CentreAnswer {
+                refusal: u16::from(refusal),
+                node: 0,
+            };
+        }
     };
     let asked = [a, b, c];
-    let number = asked_refusal(&asked, as_index(tips));
+    let number = asked_refusal(&asked, usize::from(tree.tips));
     if number != 0 {
         return CentreAnswer {
             refusal: number,
             node: 0,
         };
     }
-    let m = as_index(nodes);
+    let m = usize::from(tree.nodes);
     CentreAnswer {
         refusal: 0,
         node: centre_node(&table[2..2 + m], &table[2 + m..], a, b, c),

@@ -9,6 +9,6 @@ mod witness; // witness.rt: the edge that parts four labels, or the node where t
 pub use asked_labels::{asked_refusal, node_of};
 pub use centres::{CentreAnswer, centre};
 pub use quartet::{Topology, TopologyAnswer, topology_of};
-pub use tree_check::{Checked, check, refusal_of};
+pub use tree_check::{Refusal, TableRefusal, Tree, check, refusal_of};
 pub use walks::{PartBeyond, beyond, beyond_refusal, part_beyond, spans, walk};
 pub use witness::{Witness, WitnessAnswer, witness_of};

@@ -6,11 +6,12 @@ ghost use Rattle.trees.specs.lemmas.RootedArrays.{RootedArrays};
 ghost use Rattle.trees.specs.lemmas.Sides.{pairing, SidesAre, Shown, topology_shown};
 
 use asked_labels::{asked_refusal, node_of};
-use table_words::{NODES, as_index};
-use tree_check::{Checked, check, refusal_of};
+use table_words::NODES;
+use tree_check::check;
 use walks::add_up;
 
 // A butterfly names the partner of the smallest label; a star names nobody.
+// An enum of its own: its form is asked for (docs/SPECIFICATION.md, 12).
 #[derive(Clone, Copy)]
 pub enum Topology {
     Butterfly(u16),
@@ -18,6 +19,7 @@ pub enum Topology {
 }
 
 // The number of the refusal with a star, or 0 with the topology.
+// No Result: a refused call gives its number, and zeros (docs/SPECIFICATION.md, 7.2).
 #[derive(Clone, Copy)]
 pub struct TopologyAnswer {
     pub refusal: u16,
@@ -108,13 +110,11 @@ fn shown_pairing(sides: &[usize; NODES], m: usize) -> usize
     requires { m ≤ node_room }
     ensures { Shown sides.now m result }
 {
-    let mut i = 1;
-    while i < m {
+    for i in 1..m {
         let k = pairing_of(sides[i]);
         if k != 0 {
             return k;
         }
-        i += 1;
     }
     0
 }
@@ -139,22 +139,24 @@ pub(crate) fn named_pairing(k: usize, a: u16, b: u16, c: u16, d: u16) -> Topolog
 pub fn topology_of(table: &[u16], a: u16, b: u16, c: u16, d: u16) -> TopologyAnswer
     ensures { (result ≡ topology_answer table.now a b c d) × Told table.now a b c d result }
 {
-    let answer = check(table);
-    let Checked::Tree { tips, nodes } = answer else {
-        return TopologyAnswer {
-            refusal: refusal_of(answer),
-            topology: Topology::Star,
-        };
+    let tree = match check(table) {
+        Ok(tree) => tree,
+        Err(refusal) => {
+            return TopologyAnswer {
+                refusal: u16::from(refusal),
+                topology: Topology::Star,
+            };
+        }
     };
     let asked = [a, b, c, d];
-    let number = asked_refusal(&asked, as_index(tips));
+    let number = asked_refusal(&asked, usize::from(tree.tips));
     if number != 0 {
         return TopologyAnswer {
             refusal: number,
             topology: Topology::Star,
         };
     }
-    let m = as_index(nodes);
+    let m = usize::from(tree.nodes);
     let sides = sides_of(&table[2..2 + m], &table[2 + m..], a, b, c, d);
     let k = shown_pairing(&sides, m);
     TopologyAnswer {

@@ -9,10 +9,11 @@ ghost use Rattle.trees.specs.lemmas.Seen.{ShownEdge, witness_at, Seen};
 use super::centres::centre_node;
 use super::quartet::{Topology, named_pairing, pairing_of, sides_of};
 use asked_labels::asked_refusal;
-use table_words::{NODES, as_index, as_word};
-use tree_check::{Checked, check, refusal_of};
+use table_words::{NODES, as_word};
+use tree_check::check;
 
 // The lowest-numbered edge that parts four labels two and two, or the node where all their paths meet.
+// An enum of its own: its form is asked for (docs/SPECIFICATION.md, 12).
 #[derive(Clone, Copy)]
 pub enum Witness {
     Edge(u16),
@@ -20,6 +21,7 @@ pub enum Witness {
 }
 
 // The number of the refusal with a star and meeting node 0, or 0 with the topology and its witness.
+// No Result: a refused call gives its number, and zeros (docs/SPECIFICATION.md, 7.2).
 #[derive(Clone, Copy)]
 pub struct WitnessAnswer {
     pub refusal: u16,
@@ -32,12 +34,10 @@ fn shown_edge(sides: &[usize; NODES], m: usize) -> usize
     requires { m ≤ node_room }
     ensures { ShownEdge sides.now m result }
 {
-    let mut i = 1;
-    while i < m {
+    for i in 1..m {
         if pairing_of(sides[i]) != 0 {
             return i;
         }
-        i += 1;
     }
     0
 }
@@ -72,16 +72,18 @@ fn seen(parents: &[u16], labels: &[u16], a: u16, b: u16, c: u16, d: u16) -> Witn
 pub fn witness_of(table: &[u16], a: u16, b: u16, c: u16, d: u16) -> WitnessAnswer
     ensures { (result ≡ witness_answer table.now a b c d) × WitnessTold table.now a b c d result }
 {
-    let answer = check(table);
-    let Checked::Tree { tips, nodes } = answer else {
-        return WitnessAnswer {
-            refusal: refusal_of(answer),
-            topology: Topology::Star,
-            witness: Witness::Meet(0),
-        };
+    let tree = match check(table) {
+        Ok(tree) => tree,
+        Err(refusal) => {
+            return WitnessAnswer {
+                refusal: u16::from(refusal),
+                topology: Topology::Star,
+                witness: Witness::Meet(0),
+            };
+        }
     };
     let asked = [a, b, c, d];
-    let number = asked_refusal(&asked, as_index(tips));
+    let number = asked_refusal(&asked, usize::from(tree.tips));
     if number != 0 {
         return WitnessAnswer {
             refusal: number,
@@ -89,6 +91,6 @@ pub fn witness_of(table: &[u16], a: u16, b: u16, c: u16, d: u16) -> WitnessAnswe
             witness: Witness::Meet(0),
         };
     }
-    let m = as_index(nodes);
+    let m = usize::from(tree.nodes);
     seen(&table[2..2 + m], &table[2 + m..], a, b, c, d)
 }

@@ -1,7 +1,7 @@
 // The columns with two labels or more, listed: no other column adds to the sums over pairs of edges.
 ghost use Rattle.triplets.specs.lemmas.ListedColumns.{ColumnRoom, AllListed};
 
-use table_words::{Cell, as_index, cell_count};
+use table_words::{Cell, cell_count};
 
 // The columns from the second on whose first cell is 2 or more, from the front of `columns`, and in `above` the columns of
 // their parents. How many there are.
@@ -16,14 +16,12 @@ pub(crate) fn list_columns(
 {
     let last = parents.len() - 2;
     let mut count = 0;
-    let mut i = 0;
-    while i < last {
+    for i in 0..last {
         columns[count] = i + 1;
-        above[count] = as_index(parents[i + 2]) - 1;
+        above[count] = usize::from(parents[i + 2]) - 1;
         if 2 <= cell_count(work[i + 1]) {
             count += 1;
         }
-        i += 1;
     }
     count
 }

@@ -3,7 +3,7 @@ ghost use Rattle.std.specs.Prelude.{◌≡◌, ◌≤◌};
 ghost use Rattle.shapes.specs.theorems.TripletCounts.{edge_term};
 ghost use Rattle.triplets.specs.lemmas.EdgeSums.{SizeCells, edge_sum};
 
-use table_words::{Cell, as_index, cell_count};
+use table_words::{Cell, cell_count};
 
 // An edge with s labels beyond it, and p beyond its parent's edge.
 fn edge_term(s: u64, p: u64) -> u64
@@ -20,14 +20,12 @@ pub(crate) fn edge_terms(work: &[Cell], step: usize, parents: &[u16]) -> u64
 {
     let last = parents.len() - 2;
     let mut total = 0u64;
-    let mut i = 0;
-    while i < last {
-        let above = as_index(parents[i + 2]) - 1;
+    for i in 0..last {
+        let above = usize::from(parents[i + 2]) - 1;
         total += edge_term(
             cell_count(work[(i + 1) * step]),
             cell_count(work[above * step]),
         );
-        i += 1;
     }
     total
 }

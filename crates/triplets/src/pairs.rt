@@ -6,7 +6,7 @@ ghost use Rattle.triplets.specs.lemmas.ListedColumns.{ColumnRoom, AllListed};
 ghost use Rattle.triplets.specs.lemmas.ListedRows.{FourCells, RowCells, alike_at, apart_at, alike_listed, apart_listed};
 
 use super::columns::list_columns;
-use table_words::{Cell, NODES, as_index, cell_count};
+use table_words::{Cell, NODES, cell_count};
 
 // Few nodes.
 const FEW: usize = 128;
@@ -65,12 +65,10 @@ fn row_terms(
 {
     let mut alike = 0u64;
     let mut apart = 0u64;
-    let mut q = 0;
-    while q < count {
+    for q in 0..count {
         let terms = cell_terms(work, base, up, columns[q], above[q]);
         alike += terms.alike;
         apart += terms.apart;
-        q += 1;
     }
     PairTerms { alike, apart }
 }
@@ -96,7 +94,7 @@ fn row_sums(
     if cell_count(work[base]) < 2 {
         return PairTerms { alike: 0, apart: 0 };
     }
-    let up = (as_index(first_parents[row + 1]) - 1) * width;
+    let up = (usize::from(first_parents[row + 1]) - 1) * width;
     row_terms(work, base, up, columns, above, count)
 }
 
@@ -117,8 +115,7 @@ fn pair_terms(
     let last = first_parents.len() - 2;
     let mut alike = 0u64;
     let mut apart = 0u64;
-    let mut i = 0;
-    while i < last {
+    for i in 0..last {
         let row = row_sums(
             work,
             i + 1,
@@ -130,7 +127,6 @@ fn pair_terms(
         );
         alike += row.alike;
         apart += row.apart;
-        i += 1;
     }
     PairTerms { alike, apart }
 }

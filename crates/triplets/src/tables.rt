@@ -1,6 +1,5 @@
 // The triplet table of two trees.
-ghost use Rattle.std.specs.Prelude.{◌≡◌, ◌-◌, ◌≤◌, length};
-ghost use Rattle.sums.specs.theorems.ThreesLaws.{threes};
+ghost use Rattle.std.specs.Prelude.{◌≡◌, length};
 ghost use Rattle.tree_pairs.specs.Crossings.{after_all};
 ghost use Rattle.triplets.specs.lemmas.FormedTriplets.{TripletsFit, formed_triplets};
 ghost use Rattle.triplets.specs.lemmas.TripletsCounted.{Countable, triplets_counted};
@@ -8,12 +7,14 @@ ghost use Rattle.triplets.specs.TripletAnswer.{triplet_answer};
 
 use super::edges::edge_terms;
 use super::pairs::pair_sums;
-use pair_check::{CheckedPair, pair_refusal};
-use table_words::{Cell, as_count};
+use counting::sets_of_three;
+use table_words::Cell;
+use tree_check::refusal_of;
 use tree_pairs::cross_all;
 
 // The number; the triplets resolved alike in both trees, differently, in the first only, in the second only, in neither;
 // and the distance B + C + D.
+// No Result: a refused call gives its number, and zeros (docs/SPECIFICATION.md, 7.2).
 #[derive(Clone, Copy)]
 pub struct TripletTable {
     pub refusal: u16,
@@ -25,19 +26,9 @@ pub struct TripletTable {
     pub distance: u64,
 }
 
-// How many sets of three there are among the labels 1 to n - 1.
-fn sets_of_three(n: u64) -> u64
-    requires { n ≤ 256 }
-    ensures { result ≡ threes (n - 1) }
-{
-    if n < 4 {
-        return 0;
-    }
-    (n - 1) * (n - 2) * (n - 3) / 6
-}
-
 // The five counts, from the sums over edges and over pairs of edges.
-fn form_table(first: u64, second: u64, alike: u64, apart: u64, n: u64) -> TripletTable
+// kept_triplets has one like it: a public function could not ask that the sums fit.
+fn form_table(first: u64, second: u64, alike: u64, apart: u64, n: u16) -> TripletTable
     requires { TripletsFit n first second alike apart }
     ensures { result ≡ formed_triplets n first second alike apart }
 {
@@ -63,7 +54,7 @@ fn count_triplets(
     first_parents: &[u16],
     second_parents: &[u16],
     work: &[Cell],
-    n: u64,
+    n: u16,
 ) -> TripletTable
     requires { Countable work.now n first_parents.now second_parents.now }
     ensures { result ≡ triplets_counted work.now n first_parents.now second_parents.now }
@@ -80,15 +71,9 @@ pub fn triplet_table(first: &[u16], second: &[u16], work: &mut [Cell]) -> Triple
         × (work.new ≡ after_all first.now second.now work.old) }
 {
     let answer = cross_all(first, second, work);
-    let CheckedPair::Pair {
-        tips,
-        counted: _,
-        rows,
-        columns,
-    } = answer
-    else {
+    let Ok(pair) = answer else {
         return TripletTable {
-            refusal: pair_refusal(answer),
+            refusal: refusal_of(answer),
             a: 0,
             b: 0,
             c: 0,
@@ -97,7 +82,7 @@ pub fn triplet_table(first: &[u16], second: &[u16], work: &mut [Cell]) -> Triple
             distance: 0,
         };
     };
-    let m = rows + 1;
-    let k = columns + 1;
-    count_triplets(&first[2..2 + m], &second[2..2 + k], work, as_count(tips))
+    let m = pair.rows + 1;
+    let k = pair.columns + 1;
+    count_triplets(&first[2..2 + m], &second[2..2 + k], work, pair.tips)
 }

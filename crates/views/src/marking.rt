@@ -24,10 +24,8 @@ pub(crate) fn marks_for(levels: &[u8], viewer: u16) -> [u8; TIPS]
     ensures { result ≡ in_front (length levels.now) (λ x. bit (is_visible levels.now viewer x)) (replicate tips_most 0) }
 {
     let mut marks = [0u8; TIPS];
-    let mut x = 0;
-    while x < levels.len() {
+    for x in 0..levels.len() {
         marks[x] = mark_of(levels, viewer, x);
-        x += 1;
     }
     marks
 }

@@ -4,11 +4,12 @@ ghost use Rattle.views.specs.View.{refused_view, view_answer, after_view};
 
 use super::marking::marks_for;
 use levels::check_levels;
-use quartets::{CheckedPair, check_pair, pair_refusal, quartet_table, split_counts};
-use table_words::{Cell, as_count, as_index};
+use quartets::{check_pair, quartet_table, split_counts};
+use table_words::Cell;
 
 // The number; how many labels are visible; A to E and B + C + D over them; their splits in the first tree, in the second and in
 // both, and the Robinson-Foulds distance.
+// No Result: a refused call gives its number, and zeros (docs/SPECIFICATION.md, 7.2).
 #[derive(Clone, Copy)]
 pub struct ViewAnswer {
     pub refusal: u16,
@@ -58,22 +59,16 @@ pub fn view(
         × (work.new
         ≡ after_view first.now second.now levels.now viewer work.old) }
 {
-    let answer = check_pair(first, second);
-    let CheckedPair::Pair {
-        tips,
-        counted: _,
-        rows: _,
-        columns: _,
-    } = answer
-    else {
-        return refused(pair_refusal(answer));
+    let pair = match check_pair(first, second) {
+        Ok(pair) => pair,
+        Err(refusal) => return refused(u16::from(refusal)),
     };
-    let told = check_levels(levels, viewer, tips);
+    let told = check_levels(levels, viewer, pair.tips);
     if told.refusal != 0 {
         return refused(told.refusal);
     }
     let marks = marks_for(levels, viewer);
-    let n = as_index(tips);
+    let n = usize::from(pair.tips);
     let table = quartet_table(first, second, &marks[..n], work);
     if table.refusal != 0 {
         return refused(table.refusal);
@@ -81,16 +76,16 @@ pub fn view(
     let splits = split_counts(first, second, &marks[..n], work);
     ViewAnswer {
         refusal: 0,
-        visible: as_count(told.visible),
+        visible: u64::from(told.visible),
         a: table.a,
         b: table.b,
         c: table.c,
         d: table.d,
         e: table.e,
         distance: table.distance,
-        first_splits: as_count(splits.first),
-        second_splits: as_count(splits.second),
-        common_splits: as_count(splits.common),
-        robinson_foulds: as_count(splits.distance),
+        first_splits: u64::from(splits.first),
+        second_splits: u64::from(splits.second),
+        common_splits: u64::from(splits.common),
+        robinson_foulds: u64::from(splits.distance),
     }
 }

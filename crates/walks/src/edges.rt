@@ -8,8 +8,8 @@ ghost use Rattle.walks.specs.lemmas.TreeArrays.{TreeArrays};
 ghost use Rattle.walks.specs.lemmas.Positions.{placed};
 
 use super::sizes::{ends, sizes};
-use table_words::{NODES, as_index, as_word};
-use tree_check::{Checked, check, refusal_of};
+use table_words::{NODES, as_word};
+use tree_check::{Refusal, check};
 
 // Whether a table of that many nodes has no such edge.
 fn no_edge(edge: u16, nodes: u16) -> bool
@@ -22,6 +22,7 @@ fn no_edge(edge: u16, nodes: u16) -> bool
 }
 
 // The number of the refusal with zeros, or 0 with the first cell of the labels beyond an edge and how many they are.
+// No Result: a refused call gives its number, and zeros (docs/SPECIFICATION.md, 7.2).
 #[derive(Clone, Copy)]
 pub struct PartBeyond {
     pub refusal: u16,
@@ -51,34 +52,37 @@ fn part_of(parents: &[u16], labels: &[u16], n: usize, i: usize) -> PartBeyond
 pub fn part_beyond(table: &[u16], edge: u16, cells: usize) -> PartBeyond
     ensures { result ≡ place_beyond table.now edge cells }
 {
-    let answer = check(table);
-    let Checked::Tree { tips, nodes } = answer else {
-        return PartBeyond {
-            refusal: refusal_of(answer),
-            start: 0,
-            count: 0,
-        };
+    let tree = match check(table) {
+        Ok(tree) => tree,
+        Err(refusal) => {
+            return PartBeyond {
+                refusal: u16::from(refusal),
+                start: 0,
+                count: 0,
+            };
+        }
     };
-    if no_edge(edge, nodes) {
+    if no_edge(edge, tree.nodes) {
         return PartBeyond {
-            refusal: 13,
+            refusal: u16::from(Refusal::NoEdge),
             start: 0,
             count: 0,
         };
     }
-    let n = as_index(tips);
+    let n = usize::from(tree.tips);
     if cells < n {
         return PartBeyond {
-            refusal: 12,
+            refusal: u16::from(Refusal::Short),
             start: 0,
             count: 0,
         };
     }
-    let m = as_index(nodes);
-    part_of(&table[2..2 + m], &table[2 + m..], n, as_index(edge))
+    let m = usize::from(tree.nodes);
+    part_of(&table[2..2 + m], &table[2 + m..], n, usize::from(edge))
 }
 
 // The number of a refusal of `beyond` on the same input, or 0.
+// The answer is the number itself, as docs/LIBRARY.md promises.
 pub fn beyond_refusal(table: &[u16], edge: u16, walk: &[u16]) -> u16
     ensures { result ≡ refusal (edge_order table.now edge (length walk.now)) }
 {
@@ -92,7 +96,7 @@ pub fn beyond<'a>(table: &[u16], edge: u16, walk: &'a [u16]) -> &'a [u16]
         × (result.ref_ptr ≡ words_on (place_beyond table.now edge (length walk.now)).start walk.entry.ref_ptr) }
 {
     let part = part_beyond(table, edge, walk.len());
-    let from = as_index(part.start);
-    let to = from + as_index(part.count);
+    let from = usize::from(part.start);
+    let to = from + usize::from(part.count);
     &walk[from..to]
 }

@@ -9,20 +9,18 @@ ghost use Rattle.walks.specs.lemmas.TreeArrays.{TreeArrays};
 ghost use Rattle.walks.specs.lemmas.Positions.{TipsMarked, Sizes, Ends};
 
 use std::num::wrapping_add_usize;
-use table_words::{NODES, as_index};
+use table_words::NODES;
 
 // Each node's cell is added to its parent's, from the highest node down, modulo 2^64. A parent word that is no smaller
 // than the node plays no part; for more than NODES nodes the cells stay.
 pub fn add_up(parents: &[u16], cells: &mut [usize; NODES])
     ensures { cells.new ≡ added_up parents.now cells.old }
 {
-    let mut i = parents.len();
-    if NODES < i {
+    if NODES < parents.len() {
         return;
     }
-    while 0 < i {
-        i -= 1;
-        let p = as_index(parents[i]);
+    for i in (0..parents.len()).rev() {
+        let p = usize::from(parents[i]);
         if p < i {
             cells[p] = wrapping_add_usize(cells[p], cells[i]);
         }
@@ -44,10 +42,8 @@ fn mark_tips(labels: &[u16], n: usize, cells: &mut [usize; NODES])
     requires { (length labels.now ≤ node_room) × (length cells.old ≡ node_room) }
     ensures { TipsMarked n labels.now (length labels.now) cells.new }
 {
-    let mut v = 0;
-    while v < labels.len() {
-        cells[v] = own_label(as_index(labels[v]), n);
-        v += 1;
+    for (v, label) in labels.iter().enumerate() {
+        cells[v] = own_label(usize::from(*label), n);
     }
 }
 
@@ -73,12 +69,10 @@ pub(crate) fn ends(
     ensures { Ends (table_of n parents.now labels.now) reach.new }
 {
     reach[0] = 1;
-    let mut c = 1;
-    while c < parents.len() {
-        let p = as_index(parents[c]);
+    for c in 1..parents.len() {
+        let p = usize::from(parents[c]);
         let at = reach[p];
-        reach[c] = at + own_label(as_index(labels[c]), n);
+        reach[c] = at + own_label(usize::from(labels[c]), n);
         reach[p] = at + size[c];
-        c += 1;
     }
 }

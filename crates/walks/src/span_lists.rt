@@ -6,13 +6,14 @@ ghost use Rattle.sums.specs.Lists.{in_front};
 ghost use Rattle.tree_check.specs.Table.{tips as table_tips, nodes as table_nodes, node_of};
 ghost use Rattle.tree_check.specs.lemmas.TableParts.{table_of};
 ghost use Rattle.tree_check.specs.Refusals.{refusal};
+ghost use Rattle.tree_check.specs.Numbers.{answer_by};
 ghost use Rattle.walks.specs.Spans.{lists_order, spans_order, span_begin, span_end, filled};
 ghost use Rattle.walks.specs.lemmas.TreeArrays.{TreeArrays};
 ghost use Rattle.walks.specs.lemmas.SpanLists.{NodesListed};
 
 use super::sizes::{ends, sizes};
-use table_words::{Cell, NODES, as_cell, as_index, as_word};
-use tree_check::{Checked, check, refusal_of};
+use table_words::{Cell, NODES, as_cell, as_word};
+use tree_check::{Refusal, check};
 
 // The node of each label below n: the last one that has it.
 fn list_nodes(labels: &[u16], n: usize, labelled: &mut [u16])
@@ -20,14 +21,12 @@ fn list_nodes(labels: &[u16], n: usize, labelled: &mut [u16])
     ensures { NodesListed labels.now n (length labels.now) labelled.old
         labelled.new }
 {
-    let mut v = 0;
-    while v < labels.len() {
-        let x = as_index(labels[v]);
+    for (v, label) in labels.iter().enumerate() {
+        let x = usize::from(*label);
         let is_label = x < n;
         if is_label {
             labelled[x] = as_word(v);
         }
-        v += 1;
     }
 }
 
@@ -54,32 +53,31 @@ fn list_spans(parents: &[u16], labels: &[u16], n: usize, begin: &mut [Cell], end
     sizes(parents, labels, n, &mut size);
     let mut reach = [0usize; NODES];
     ends(parents, labels, n, &size, &mut reach);
-    let mut v = 0;
-    while v < parents.len() {
+    for v in 0..parents.len() {
         begin[v] = as_cell(one_less(reach[v] - size[v]));
         end[v] = as_cell(one_less(reach[v]));
-        v += 1;
     }
 }
 
-// 12 or 0: whether the lists have a cell for each of n labels and m nodes.
-fn lists_refusal(labelled: usize, begin: usize, end: usize, n: usize, m: usize) -> u16
-    ensures { result ≡ refusal (lists_order labelled begin end n m) }
+// Whether the lists have a cell for each of n labels and m nodes.
+fn have_room(labelled: usize, begin: usize, end: usize, n: usize, m: usize) -> Result<(), Refusal>
+    ensures { result ≡ answer_by (refusal (lists_order labelled begin end n m)) tt }
 {
     if labelled < n {
-        return 12;
+        return Err(Refusal::Short);
     }
     if begin < m {
-        return 12;
+        return Err(Refusal::Short);
     }
     if end < m {
-        return 12;
+        return Err(Refusal::Short);
     }
-    0
+    Ok(())
 }
 
 // The node of each label, and for each node where the labels but 0 at or below it begin in the walk and the place after them.
 // Later cells of the three lists stay.
+// The answer is the number itself, as docs/LIBRARY.md promises.
 pub fn spans(table: &[u16], labelled: &mut [u16], begin: &mut [Cell], end: &mut [Cell]) -> u16
     ensures { (result ≡ refusal (spans_order table.now (length labelled.old) (length begin.old)
         (length end.old)))
@@ -90,16 +88,16 @@ pub fn spans(table: &[u16], labelled: &mut [u16], begin: &mut [Cell], end: &mut 
         × (end.new
         ≡ filled result (table_nodes table.now) (span_end table.now) end.old) }
 {
-    let answer = check(table);
-    let Checked::Tree { tips, nodes } = answer else {
-        return refusal_of(answer);
+    let tree = match check(table) {
+        Ok(tree) => tree,
+        Err(refusal) => return u16::from(refusal),
     };
-    let n = as_index(tips);
-    let m = as_index(nodes);
-    let number = lists_refusal(labelled.len(), begin.len(), end.len(), n, m);
-    if number == 0 {
-        list_nodes(&table[2 + m..], n, labelled);
-        list_spans(&table[2..2 + m], &table[2 + m..], n, begin, end);
+    let n = usize::from(tree.tips);
+    let m = usize::from(tree.nodes);
+    if let Err(refusal) = have_room(labelled.len(), begin.len(), end.len(), n, m) {
+        return u16::from(refusal);
     }
-    number
+    list_nodes(&table[2 + m..], n, labelled);
+    list_spans(&table[2..2 + m], &table[2 + m..], n, begin, end);
+    0
 }

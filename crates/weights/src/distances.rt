@@ -1,5 +1,6 @@
 // The weighted distance of two trees.
 ghost use Rattle.std.specs.Prelude.{◌≡◌, ◌+◌, ◌*◌, ◌≤◌, length};
+ghost use Rattle.tree_check.specs.Numbers.{answer_by};
 ghost use Rattle.tree_check.specs.Refusals.{refusal};
 ghost use Rattle.tree_check.specs.Table.{tips};
 ghost use Rattle.counting.specs.Kept.{kept};
@@ -8,28 +9,39 @@ ghost use Rattle.counting.specs.Cases.{quartets as cases_quartets};
 ghost use Rattle.pair_check.specs.PairOrder.{MarkedPair};
 ghost use Rattle.tree_pairs.specs.Crossings.{crossed_kept};
 ghost use Rattle.weights.specs.Weights.{over256, numerator_of};
-ghost use Rattle.weights.specs.WeightedAnswer.{fraction_order, weighted_answer, after_weighted, WeightTold};
+ghost use Rattle.weights.specs.WeightedAnswer.{fraction_order, refused_weight, weighted_answer, after_weighted, WeightTold};
 
 use super::weight::{Weight, fraction_of, numerator_of, weigh};
-use pair_check::{CheckedPair, check_work, pair_refusal};
-use quartets::quartet_table;
+use pair_check::check_work;
+use quartets::{Refusal, quartet_table};
 use table_words::Cell;
 
 // The number; and B + p(C + D).
+// No Result: a refused call gives its number, and zeros (docs/SPECIFICATION.md, 7.2).
 #[derive(Clone, Copy)]
 pub struct WeightedDistance {
     pub refusal: u16,
     pub distance: f64,
 }
 
-// 30 if the fraction is no k/256.
-fn fraction_refusal(p: f64) -> u16
-    ensures { result ≡ refusal (fraction_order p) }
+// A refusal answers zero.
+fn refused(number: u16) -> WeightedDistance
+    ensures { result ≡ refused_weight number }
+{
+    WeightedDistance {
+        refusal: number,
+        distance: 0.0,
+    }
+}
+
+// Refused if the fraction is no k/256.
+fn check_fraction(p: f64) -> Result<(), Refusal>
+    ensures { result ≡ answer_by (refusal (fraction_order p)) tt }
 {
     if numerator_of(p) == 257 {
-        return 30;
+        return Err(Refusal::Fraction);
     }
-    0
+    Ok(())
 }
 
 // The weighted distance of a pair with cells enough, by a fraction that is a k/256.
@@ -62,27 +74,15 @@ pub fn weighted_distance(
         ≡ after_weighted first.now second.now marks.now weight work.old)
         × WeightTold first.now second.now marks.now (length work.old) weight result }
 {
-    let answer = check_work(first, second, marks, work.len());
-    let CheckedPair::Pair {
-        tips: _,
-        counted: _,
-        rows: _,
-        columns: _,
-    } = answer
-    else {
-        return WeightedDistance {
-            refusal: pair_refusal(answer),
-            distance: 0.0,
-        };
-    };
+    if let Err(refusal) = check_work(first, second, marks, work.len()) {
+        return refused(u16::from(refusal));
+    }
     let p = fraction_of(weight);
-    let number = fraction_refusal(p);
-    let mut distance = 0.0;
-    if number == 0 {
-        distance = weigh_table(first, second, marks, work, p);
+    if let Err(refusal) = check_fraction(p) {
+        return refused(u16::from(refusal));
     }
     WeightedDistance {
-        refusal: number,
-        distance,
+        refusal: 0,
+        distance: weigh_table(first, second, marks, work, p),
     }
 }

@@ -3,6 +3,7 @@ ghost use Rattle.std.specs.Prelude.{◌≡◌, ◌+◌, ◌*◌, ◌≤◌};
 ghost use Rattle.weights.specs.Weights.{over256, p_of, numerator_of};
 
 // Nothing, full, or a part with its fraction.
+// An enum of its own: its form is asked for (docs/SPECIFICATION.md, 12).
 #[derive(Clone, Copy)]
 pub enum Weight {
     None,
@@ -25,12 +26,10 @@ pub(crate) fn fraction_of(weight: Weight) -> f64
 pub(crate) fn numerator_of(p: f64) -> u32
     ensures { result ≡ numerator_of p }
 {
-    let mut k = 0u32;
-    while k < 257 {
+    for k in 0..257 {
         if p == (k as f64) / 256.0 {
             return k;
         }
-        k += 1;
     }
     257
 }

@@ -5,7 +5,7 @@ use mathlib.Core.List.{List}
 use Prim.Native.Nat.{ℕ, ◌≤◌, ◌<◌}
 use Rattle.table_words.specs.Sizes.{tips_most, node_room}
 use Rattle.tree_check.specs.Table.{word}
-use Rattle.canonical.specs.Copying.{tip, at, copy_of}
+use Rattle.canonical.specs.Copying.{copy_of}
 use Rattle.canonical.specs.theorems.Branches.{TipRooted}
 use Rattle.canonical_copy.specs.CopyAnswer.{written_over}
 use Rattle.canonical_copy.specs.lemmas.Ranks.{rank_of}

@@ -5,12 +5,9 @@ use Rattle.std.proofs.Common.{◌∙◌, arith, length-set, get_or-set_same, get
 use Rattle.std.proofs.Math.Decide.{ℕ_discrete}
 use Rattle.table_words.specs.Sizes.{node_room, tips_most, cell_most}
 use Rattle.sums.specs.Sum.{sum}
-use Rattle.sums.specs.Bits.{bit}
-use Rattle.sums.specs.theorems.CountLaws.{count-le}
 use Rattle.tree_check.specs.Table.{word}
 use Rattle.marks.specs.Marks.{is_kept}
-use Rattle.walks.specs.theorems.SpanLaws.{in_span}
-use Rattle.kept_triplets.specs.lemmas.Places.{place_of, Prefixed}
+use Rattle.kept_triplets.specs.lemmas.Places.{place_of}
 
 pub place_kept : (b : Bool) (p : ℕ) → b ≡ true → place_of b p ≡ p
 unfolding place_of
@@ -55,23 +52,14 @@ places_next n k marks fn sn fb sb old at x r p l e h = record {
 pub places_fewer : (n k : ℕ) (marks fn sn fb sb at : List ℕ) → n ≤ k → PlacesListed k marks fn sn fb sb at → PlacesListed n marks fn sn fb sb at
 places_fewer n k marks fn sn fb sb at l h = record { long = h.long; at_is = λ y p q. h.at_is y p (omega arith) }
 
--- ---- the sums, place by place
+-- ---- running sums, place by place
 
-pub sums_none : (at : List ℕ) (b e : ℕ) (sums : List ℕ) → length sums ≡ tips_most → Prefixed at b e 0 (set sums 0 0)
-sums_none at b e sums l = record {
-  long = length-set sums 0 0 ∙ l;
-  sum_is = λ k q. let z : k ≡ 0 = omega arith in rw z (get_or-set_same sums 0 0 0 (omega (arith, l)) ∙ (unfold sum in refl));
-}
+pub sums_none : (f : ℕ → ℕ) (sums : List ℕ) → length sums ≡ tips_most → (k : ℕ) → k ≤ 0 → word (set sums 0 0) k ≡ sum k f
+sums_none f sums l k q = let z : k ≡ 0 = omega arith in rw z (get_or-set_same sums 0 0 0 (omega (arith, l)) ∙ (unfold sum in refl))
 
-pub sums_next : (at : List ℕ) (b e k : ℕ) (sums : List ℕ) (x : ℕ) → k + 1 < tips_most
-    → x ≡ sum (k + 1) (λ i. bit (in_span (word at i) b e)) → Prefixed at b e k sums → Prefixed at b e (k + 1) (set sums (k + 1) x)
-sums_next at b e k sums x l q h = record {
-  long = length-set sums (k + 1) x ∙ h.long;
-  sum_is = λ j m. elim (ℕ_discrete j (k + 1)) [
-    | yes d ↦ rw d (get_or-set_same sums (k + 1) x 0 (omega (arith, h.long)) ∙ q)
-    | no d ↦ get_or-set_other sums (k + 1) j x 0 d ∙ h.sum_is j (omega arith)
-  ];
-}
-
-pub sum_low : (at : List ℕ) (b e k : ℕ) → sum k (λ i. bit (in_span (word at i) b e)) ≤ k
-sum_low at b e k = count-le k (λ i. in_span (word at i) b e)
+pub sums_next : (f : ℕ → ℕ) (n : ℕ) (sums : List ℕ) (x : ℕ) → length sums ≡ tips_most → n + 1 < tips_most → x ≡ sum (n + 1) f
+    → ((k : ℕ) → k ≤ n → word sums k ≡ sum k f) → (k : ℕ) → k ≤ n + 1 → word (set sums (n + 1) x) k ≡ sum k f
+sums_next f n sums x l m q h k o = elim (ℕ_discrete k (n + 1)) [
+  | yes d ↦ rw d (get_or-set_same sums (n + 1) x 0 (omega (arith, l)) ∙ q)
+  | no d ↦ get_or-set_other sums (n + 1) k x 0 d ∙ h k (omega arith)
+]

@@ -8,8 +8,7 @@ use Rattle.tree_check.specs.Table.{Table, tips, nodes}
 use Rattle.tree_check.specs.IsTree.{IsTree}
 use Rattle.tree_check.specs.Refusals.{refusal}
 use Rattle.tree_check.specs.theorems.RefusalLaws.{refusal-first, refusal-kept, if_accepted_lem, if_refused}
-use Rattle.marks.specs.declared.marked.CheckedMarks.{CheckedMarks}
-use Rattle.marks.specs.Marks.{marks_order, checked_marks}
+use Rattle.marks.specs.Marks.{marks_order}
 use Rattle.pair_check.specs.PairOrder.{IsPair, tables_order}
 use Rattle.pair_check.specs.theorems.PairCheck.{tables_kept}
 use Rattle.kept_triplets.specs.KeptAnswer.{kept_order, kept_counts, kept_answer}
@@ -64,10 +63,6 @@ module _ (t u : Table) (marks : List ℕ) where
   pub counted : IsPair t u → refusal (marks_order marks (tips t)) ≡ 0 → kept_counts t u marks ≡ kept_answer t u marks
   unfolding kept_order kept_answer
   counted p e = sym (if_accepted_lem _ (kept_counts t u marks) _ (refusal-kept (tables_order t u) _ ((tables_kept t u).1 p) ∙ e))
-
-pub marks-number : (marks : List ℕ) (n : ℕ) (r : CheckedMarks) → r ≡ checked_marks marks n → r.refusal ≡ refusal (marks_order marks n)
-unfolding checked_marks
-marks-number marks n r e = ap (λ (x : CheckedMarks). x.refusal) e
 
 pub sized_of : (t : Table) (n rows m : ℕ) → IsTree t → n ≡ tips t → rows ≡ nodes t - 1 → m ≡ rows + 1 → Sized t n m
 sized_of t n rows m g en er em = record {

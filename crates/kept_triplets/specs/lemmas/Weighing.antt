@@ -111,27 +111,6 @@ pub record Weighed (at weights : List ℕ) (n : ℕ) (sums : List ℕ) : Type 0 
   pub long : length sums ≡ tips_most
   pub sum_is : (k : ℕ) → k ≤ n → word sums k ≡ sum k (λ i. word weights (word at i))
 
-pub weighed_none : (at weights sums : List ℕ) → length sums ≡ tips_most → Weighed at weights 0 (set sums 0 0)
-weighed_none at weights sums l = record {
-  long = length-set sums 0 0 ∙ l;
-  sum_is = λ k q. let z : k ≡ 0 = omega arith in rw z (get_or-set_same sums 0 0 0 (omega (arith, l)) ∙ (unfold sum in refl));
-}
-
-pub weighed_next : (at weights : List ℕ) (k : ℕ) (sums : List ℕ) (x : ℕ) → k + 1 < tips_most
-    → x ≡ sum (k + 1) (λ i. word weights (word at i)) → Weighed at weights k sums → Weighed at weights (k + 1) (set sums (k + 1) x)
-weighed_next at weights k sums x l q h = record {
-  long = length-set sums (k + 1) x ∙ h.long;
-  sum_is = λ j m. elim (ℕ_discrete j (k + 1)) [
-    | yes d ↦ rw d (get_or-set_same sums (k + 1) x 0 (omega (arith, h.long)) ∙ q)
-    | no d ↦ get_or-set_other sums (k + 1) j x 0 d ∙ h.sum_is j (omega arith)
-  ];
-}
-
-pub weighed_low : (at weights : List ℕ) (k : ℕ) → LowWeights weights → sum k (λ i. word weights (word at i)) ≤ k * 65536
-unfolding sum
-weighed_low at weights zero h = omega arith
-weighed_low at weights (suc k) h = omega (arith, weighed_low at weights k h, h.low (word at k))
-
 leaves : (x y : Bool) → bit x ≤ bit y → bit y * (1 - bit x) + bit x ≡ bit y
 unfolding bit
 leaves true true l = omega arith

@@ -1,60 +1,70 @@
 -- The number of marks, as code finds it.
 -- Assumes nothing.
-use Rattle.std.specs.Prelude.{◌≡◌, ◌≢◌, List, ℕ, ◌≤◌, ◌<◌, length}
+use Rattle.std.specs.Prelude.{◌≡◌, ◌≢◌, Bool, true, false, List, [], ◌∷◌, ℕ, Ok, Err, eqb, length}
+use Rattle.std.specs.List.{list_any, count_by}
 use Rattle.std.proofs.Math.Path.{refl}
-use Rattle.std.proofs.Common.{sym, ◌∙◌, ap, arith, eq-eqb, ne_eqb}
+use Rattle.std.proofs.Common.{sym, ◌∙◌, ap, eq-eqb, ne_eqb}
 use Rattle.std.proofs.Math.Bool.{not}
 use Rattle.std.proofs.Math.Dec.{ltb}
-use Rattle.sums.specs.Counts.{count}
-use Rattle.sums.specs.theorems.CountLaws.{count_none}
-use Rattle.sums.specs.theorems.CountSteps.{count_found}
-use Rattle.sums.specs.theorems.TestLaws.{lt_iff}
+use Rattle.sums.specs.Tests.{some}
+use Rattle.sums.specs.theorems.Listed.{some_listed, count_listed}
 use Rattle.tree_check.specs.Table.{word}
 use Rattle.tree_check.specs.Refusals.{refusal}
-use Rattle.tree_check.specs.theorems.RefusalLaws.{refusal_here, refusal_next, if_accepted_lem, if_refused}
-use Rattle.marks.specs.Marks.{kept_of, marks_order, AreMarks, checked_marks}
-use Rattle.marks.specs.declared.marked.CheckedMarks.{CheckedMarks}
+use Rattle.tree_check.specs.theorems.RefusalLaws.{refusal_here, refusal_next, refusal_none}
+use Rattle.marks.specs.Marks.{is_kept, kept_of, marks_order, AreMarks, checked_marks}
+use Rattle.tree_check.specs.declared.refusals.Refusal.{Refusal}
+use Rattle.tree_check.specs.declared.refusals.Refusal.TheVariants.{Marks}
+use Rattle.tree_check.specs.Numbers.{refusal_number, refusal_named}
+use Rattle.tree_check.specs.theorems.NumberLaws.{answer_ok, answer_err, answered_ok, answered_err}
 use Rattle.marks.proofs.theorems.MarksCheck.{marks_check}
 
 module _ (marks : List ℕ) (n : ℕ) where
-  refused_by : refusal (marks_order marks n) ≡ 32 → record { refusal = 32; kept = 0 } ≡ checked_marks marks n
+  refused_by : refusal (marks_order marks n) ≡ 32 → Err Marks ≡ checked_marks marks n
   unfolding checked_marks
-  refused_by e = rw (if_refused {A = ℕ} (refusal (marks_order marks n)) (kept_of marks n) 0 (λ z. omega (arith, e, z)), e) refl
+  refused_by e = answer_err _ Marks _ e
 
-  pub marks_short : length marks ≢ n → record { refusal = 32; kept = 0 } ≡ checked_marks marks n
+  pub marks_short : length marks ≢ n → Err Marks ≡ checked_marks marks n
   unfolding marks_order
   marks_short d = refused_by (refusal_here 32 _ _ (ap not (ne_eqb (length marks) n d)))
 
-  pub marks_wrong : length marks ≡ n → (k : ℕ) → k ≡ count (length marks) (λ x. ltb 1 (word marks x)) → k ≢ 0
-      → record { refusal = 32; kept = 0 } ≡ checked_marks marks n
-  unfolding marks_order
-  marks_wrong e k c d =
-      refused_by (refusal_next 32 _ _ (ap not (eq-eqb (length marks) n e))
-      ∙ refusal_here 32 _ _ (sym (count_found n (λ x. ltb 1 (word marks x)) k (rw e at c) d)))
+  module _ (e : length marks ≡ n) where
+    wrong_is : list_any (ltb 1) marks ≡ some n (λ x. ltb 1 (word marks x))
+    wrong_is = some_listed (ltb 1) marks ∙ ap (λ (k : ℕ). some k (λ x. ltb 1 (word marks x))) e
 
-  pub marks_right : length marks ≡ n → (k j : ℕ) → k ≡ count (length marks) (λ x. ltb 1 (word marks x)) → k ≡ 0
-      → j ≡ kept_of marks (length marks) → record { refusal = 0; kept = j } ≡ checked_marks marks n
-  unfolding checked_marks
-  marks_right e k j c z q =
-      let a = (marks_check marks n).1 (record {
-        long = e;
-        low = λ x l. low x (λ m. (count_none (length marks) (λ y. ltb 1 (word marks y))).0 (sym c ∙ z) x (rw e l) ((lt_iff 1 (word marks x)).1 m));
-      }) in
-      rw (if_accepted_lem {A = ℕ} (refusal (marks_order marks n)) (kept_of marks n) 0 a, a, q, e) refl
-    where
-      low : (x : ℕ) → (1 < word marks x → ⊥) → word marks x ≤ 1
-      low x f = elim (native.Mathlib.Decide.dec_le (word marks x) 1) [ yes l ↦ l | no d ↦ absurd (f (omega (arith, d))) ]
+    pub marks_wrong : list_any (ltb 1) marks ≡ true → Err Marks ≡ checked_marks marks n
+    unfolding marks_order
+    marks_wrong w =
+        refused_by (refusal_next 32 _ _ (ap not (eq-eqb (length marks) n e)) ∙ refusal_here 32 _ _ (sym wrong_is ∙ w))
 
--- what the check of the marks says
-pub marks_say : (marks : List ℕ) (n x : ℕ) → x ≡ n → (r : CheckedMarks) → r ≡ checked_marks marks x
-    → (r.refusal ≡ refusal (marks_order marks n)) × (r.refusal ≡ 0 → AreMarks marks n × (r.kept ≡ kept_of marks n))
+    pub marks_right : list_any (ltb 1) marks ≡ false → (k : ℕ) → k ≡ count_by (λ mark. eqb mark 1) marks
+        → Ok k ≡ checked_marks marks n
+    unfolding checked_marks marks_order is_kept
+    marks_right w k c =
+        answer_ok _ _ _ (refusal_next 32 _ _ (ap not (eq-eqb (length marks) n e)) ∙ refusal_next 32 _ [] (sym wrong_is ∙ w) ∙ refusal_none)
+        (c ∙ count_listed (λ mark. eqb mark 1) marks ∙ ap (λ (m : ℕ). kept_of marks m) e)
+
+-- the marks' order tells 32 and nothing else
+only_32 : (marks : List ℕ) (n : ℕ) → refusal (marks_order marks n) ≢ 0 → refusal (marks_order marks n) ≡ 32
+only_32 marks n = unfold marks_order in go (not (eqb (length marks) n)) (some n (λ x. ltb 1 (word marks x)))
+  where
+    go : (b c : Bool) → refusal ((32, b) ∷ (32, c) ∷ []) ≢ 0 → refusal ((32, b) ∷ (32, c) ∷ []) ≡ 32
+    go true c d = refusal_here 32 true _ refl
+    go false true d = refusal_next 32 false _ refl ∙ refusal_here 32 true _ refl
+    go false false d = absurd (d (refusal_next 32 false _ refl ∙ refusal_next 32 false _ refl ∙ refusal_none))
+
+-- what the check of the marks says: they are marks, and so many labels are kept ..
+pub marks_say : (marks : List ℕ) (n x kept : ℕ) → x ≡ n → Ok kept ≡ checked_marks marks x
+    → AreMarks marks n × (kept ≡ kept_of marks n)
 unfolding checked_marks
-marks_say marks n x e r q =
-    let d : r ≡ checked_marks marks n = rw e at q in
-    let a : r.refusal ≡ refusal (marks_order marks n) = ap (λ (m : CheckedMarks). m.refusal) d in (
-      a,
-      λ z. (
-        (marks_check marks n).0 (sym a ∙ z),
-        ap (λ (m : CheckedMarks). m.kept) d ∙ if_accepted_lem (refusal (marks_order marks n)) (kept_of marks n) 0 (sym a ∙ z),
-      ),
-    )
+marks_say marks n x kept s e =
+    let h = answered_ok _ _ _ (rw s at e) in ((marks_check marks n).0 h.0, h.1)
+
+-- .. or their order tells the refusal's number
+pub marks_refused_by : (marks : List ℕ) (n x : ℕ) (r : Refusal) → x ≡ n → Err r ≡ checked_marks marks x
+    → (refusal (marks_order marks n) ≡ refusal_number r) × (refusal_number r ≢ 0)
+unfolding checked_marks
+marks_refused_by marks n x r s e =
+    answered_err _ r _ (λ d. rw (only_32 marks n d) named) (rw s at e)
+  where
+    named : refusal_number (refusal_named 32) ≡ 32
+    named = unfold refusal_named in refl

@@ -1,6 +1,6 @@
 -- The counts of a call that strikes or restores, as code forms them, and its outcomes.
 -- Assumes nothing.
-use Rattle.std.specs.Prelude.{◌≡◌, Bool, true, false, not, ◌&&◌, ◌||◌, ◌≢◌, List, [], ◌∷◌, ◌++◌, ℕ, ◌≤◌, ◌<◌, T, eqb, ltb, leb, set}
+use Rattle.std.specs.Prelude.{◌≡◌, Bool, true, false, not, ◌&&◌, ◌||◌, ◌≢◌, Ok, List, [], ◌∷◌, ◌++◌, ℕ, ◌≤◌, ◌<◌, T, eqb, ltb, leb, set}
 use Rattle.std.proofs.Math.Path.{refl, sym, fun_ext}
 use Rattle.std.proofs.Common.{◌∙◌, ap, subst, append_assoc}
 use Rattle.std.specs.Bool.{beq}
@@ -131,53 +131,43 @@ module _ (t u : Table) (marks : List ℕ) (counts : FiveCounts) (x : ℕ) (wish 
     sym (if_accepted_lem _ (set marks x (bit (restores wish))) marks e),
   )
 
-  module _ (r : Sizes) (h : LabelTold t u marks x r) where
-    pub label_refused : r.refusal ≢ 0 → Outcome t u marks counts x wish (refused_five r.refusal) marks
-    label_refused d = refused_call r.refusal d
-        (ap refusal (split t u marks counts x wish) ∙ refusal-first (holding_order t u marks x) _ (λ q. d (h.number ∙ q)) ∙ sym h.number)
+  pub label_refused : (number : ℕ) → (refusal (holding_order t u marks x) ≡ number) × (number ≢ 0)
+      → Outcome t u marks counts x wish (refused_five number) marks
+  label_refused number h = refused_call number h.1
+      (ap refusal (split t u marks counts x wish) ∙ refusal-first (holding_order t u marks x) _ (λ q. h.1 (sym h.0 ∙ q)) ∙ h.0)
 
-    module _ (z : r.refusal ≡ 0) where
-      past : refusal (change_order t u marks counts x wish) ≡ refusal (later t u marks counts x wish)
-      past = ap refusal (split t u marks counts x wish)
-          ∙ refusal-kept (holding_order t u marks x) _
-          ((accepted (holding_order t u marks x) (holding_numbered t u marks x)).0 (sym h.number ∙ z))
+  module _ (sizes : Sizes) (h : LabelTold t u marks x (Ok sizes)) where
+    past : refusal (change_order t u marks counts x wish) ≡ refusal (later t u marks counts x wish)
+    past = ap refusal (split t u marks counts x wish)
+        ∙ refusal-kept (holding_order t u marks x) _
+        ((accepted (holding_order t u marks x) (holding_numbered t u marks x)).0 (sym h.number))
 
-      pub mark_refused : beq (is_kept marks x) (restores wish) ≡ true → Outcome t u marks counts x wish (refused_five 33) marks
-      mark_refused e = refused_call 33 (λ q. omega arith) (past ∙ refusal_here 33 _ _ e)
+    pub mark_refused : beq (is_kept marks x) (restores wish) ≡ true → Outcome t u marks counts x wish (refused_five 33) marks
+    mark_refused e = refused_call 33 (λ q. omega arith) (past ∙ refusal_here 33 _ _ e)
 
-      module _ (other : beq (is_kept marks x) (restores wish) ≡ false) where
-        pub total_refused : eqb (total_of (counts_of counts)) (fours (kept_of marks (tips t))) ≡ false → Outcome t u marks counts x wish (refused_five 34) marks
-        total_refused e = refused_call 34 (λ q. omega arith) (past ∙ refusal_next 33 _ _ other ∙ refusal_here 34 _ _ (ap not e))
+    module _ (other : beq (is_kept marks x) (restores wish) ≡ false) where
+      pub total_refused : eqb (total_of (counts_of counts)) (fours (kept_of marks (tips t))) ≡ false → Outcome t u marks counts x wish (refused_five 34) marks
+      total_refused e = refused_call 34 (λ q. omega arith) (past ∙ refusal_next 33 _ _ other ∙ refusal_here 34 _ _ (ap not e))
 
-        module _ (adds : eqb (total_of (counts_of counts)) (fours (kept_of marks (tips t))) ≡ true)
-            (held : FiveCounts) (are : HeldAre t u marks x held) where
-          same_held : counts_of held ≡ holding_kept t u marks x
-          same_held = fun_ext are.held_is
+      module _ (adds : eqb (total_of (counts_of counts)) (fours (kept_of marks (tips t))) ≡ true)
+          (held : FiveCounts) (are : HeldAre t u marks x held) where
+        same_held : counts_of held ≡ holding_kept t u marks x
+        same_held = fun_ext are.held_is
 
-          pub draw_refused : (not (restores wish) && overdrawn (counts_of counts) (counts_of held)) ≡ true → Outcome t u marks counts x wish (refused_five 34) marks
-          draw_refused e = refused_call 34 (λ q. omega arith)
-              (past ∙ refusal_next 33 _ _ other ∙ refusal_next 34 _ _ (ap not adds)
-              ∙ refusal_here 34 _ _ (subst (λ (q : Counts). (not (restores wish) && overdrawn (counts_of counts) q) ≡ true) same_held e))
+        pub draw_refused : (not (restores wish) && overdrawn (counts_of counts) (counts_of held)) ≡ true → Outcome t u marks counts x wish (refused_five 34) marks
+        draw_refused e = refused_call 34 (λ q. omega arith)
+            (past ∙ refusal_next 33 _ _ other ∙ refusal_next 34 _ _ (ap not adds)
+            ∙ refusal_here 34 _ _ (subst (λ (q : Counts). (not (restores wish) && overdrawn (counts_of counts) q) ≡ true) same_held e))
 
-          pub change_accepted : (not (restores wish) && overdrawn (counts_of counts) (counts_of held)) ≡ false
-              → Outcome t u marks counts x wish (five_of (λ k. new_count (restores wish) (counts_of counts k) (counts_of held k))) (set marks x (bit (restores wish)))
-          change_accepted e =
-              subst (λ (q : Counts). Outcome t u marks counts x wish (five_of (λ k. new_count (restores wish) (counts_of counts k) (q k))) (set marks x (bit (restores wish))))
-              (sym same_held)
-              (accepted_call (past ∙ refusal_next 33 _ _ other ∙ refusal_next 34 _ _ (ap not adds)
-              ∙ refusal_next 34 _ _ (subst (λ (q : Counts). (not (restores wish) && overdrawn (counts_of counts) q) ≡ false) same_held e) ∙ refusal_none))
+        pub change_accepted : (not (restores wish) && overdrawn (counts_of counts) (counts_of held)) ≡ false
+            → Outcome t u marks counts x wish (five_of (λ k. new_count (restores wish) (counts_of counts k) (counts_of held k))) (set marks x (bit (restores wish)))
+        change_accepted e =
+            subst (λ (q : Counts). Outcome t u marks counts x wish (five_of (λ k. new_count (restores wish) (counts_of counts k) (q k))) (set marks x (bit (restores wish))))
+            (sym same_held)
+            (accepted_call (past ∙ refusal_next 33 _ _ other ∙ refusal_next 34 _ _ (ap not adds)
+            ∙ refusal_next 34 _ _ (subst (λ (q : Counts). (not (restores wish) && overdrawn (counts_of counts) q) ≡ false) same_held e) ∙ refusal_none))
 
 -- ---- what the code's own calls tell
-
-pub same_if : (x y : Bool) → x ≡ true → y ≡ beq x y
-same_if true true e = refl
-same_if true false e = refl
-same_if false y e = absurd (subst T (sym e) tt)
-
-pub same_unless : (x y : Bool) → x ≡ false → not y ≡ beq x y
-same_unless false true e = refl
-same_unless false false e = refl
-same_unless true y e = absurd (subst T e tt)
 
 pub five_same : (restore : Bool) (c held : FiveCounts) {v w x y z : ℕ} → v ≡ new_count restore c.a held.a
     → w ≡ new_count restore c.b held.b → x ≡ new_count restore c.c held.c → y ≡ new_count restore c.d held.d
@@ -185,14 +175,13 @@ pub five_same : (restore : Bool) (c held : FiveCounts) {v w x y z : ℕ} → v �
     → record { refusal = 0; a = v; b = w; c = x; d = y; e = z } ≡ five_of (λ k. new_count restore (counts_of c k) (counts_of held k))
 five_same restore c held p q r s v = rw (p, q, r, s, v) refl
 
-pub told_same : (marks : List ℕ) (x x' : ℕ) (b b' keeps alike v : Bool) → alike ≡ beq keeps b → keeps ≡ is_kept marks x' → x' ≡ x
-    → b ≡ b' → alike ≡ v → beq (is_kept marks x) b' ≡ v
-told_same marks x x' b b' keeps alike v p q r s e = rw (sym r, sym s, sym q) (sym p ∙ e)
+pub told_same : (marks : List ℕ) (x x' : ℕ) (b b' keeps v : Bool) → keeps ≡ is_kept marks x' → x' ≡ x → b ≡ b' → beq keeps b ≡ v
+    → beq (is_kept marks x) b' ≡ v
+told_same marks x x' b b' keeps v q r s e = rw (sym r, sym s, sym q) e
 
-pub told_total : (t : Table) (marks : List ℕ) (c : FiveCounts) (all some some' : ℕ) (adds v : Bool) → adds ≡ eqb (total_of (counts_of c)) all
-    → all ≡ fours some' → some' ≡ some → some ≡ kept_of marks (tips t) → adds ≡ v → eqb (total_of (counts_of c)) (fours (kept_of marks (tips t))) ≡ v
-told_total t marks c all some some' adds v p q r s e =
-    ap (eqb (total_of (counts_of c))) (sym (q ∙ ap fours (r ∙ s))) ∙ sym p ∙ e
+pub told_total : (t : Table) (marks : List ℕ) (c : FiveCounts) (all some : ℕ) (adds v : Bool) → adds ≡ eqb (total_of (counts_of c)) all
+    → all ≡ fours some → some ≡ kept_of marks (tips t) → adds ≡ v → eqb (total_of (counts_of c)) (fours (kept_of marks (tips t))) ≡ v
+told_total t marks c all some adds v p q s e = ap (eqb (total_of (counts_of c))) (sym (q ∙ ap fours s)) ∙ sym p ∙ e
 
 pub told_draw : (c held : FiveCounts) (b b' drawn v : Bool) → drawn ≡ (not b && overdrawn (counts_of c) (counts_of held)) → b ≡ b' → drawn ≡ v
     → (not b' && overdrawn (counts_of c) (counts_of held)) ≡ v
@@ -201,8 +190,8 @@ told_draw c held b b' drawn v p q e = ap (λ (z : Bool). not z && overdrawn (cou
 pub kept_few_of : (t u : Table) (marks : List ℕ) (x n some m k : ℕ) → LabelFound t u marks x n some m k → kept_of marks (tips t) ≤ 256
 kept_few_of t u marks x n some m k f = omega (arith, kept_few marks (tips t), f.first_sized.tree.tips_range.1)
 
-pub kept_fits : (t u : Table) (marks : List ℕ) (x n some m k wide : ℕ) → LabelFound t u marks x n some m k → wide ≡ some → wide ≤ 256
-kept_fits t u marks x n some m k wide f e = omega (arith, kept_few_of t u marks x n some m k f, f.kept_are)
+pub kept_fits : (t u : Table) (marks : List ℕ) (x n some m k : ℕ) → LabelFound t u marks x n some m k → some ≤ 256
+kept_fits t u marks x n some m k f = omega (arith, kept_few_of t u marks x n some m k f, f.kept_are)
 
 pub total_fits : (t u : Table) (marks : List ℕ) (x n some m k : ℕ) (c : FiveCounts) → LabelFound t u marks x n some m k
     → eqb (total_of (counts_of c)) (fours (kept_of marks (tips t))) ≡ true → total_of (counts_of c) ≤ 174792640

@@ -1,11 +1,11 @@
 -- The marks with two exchanged, and the sets that hold a label from the re-rooted tables.
 -- Assumes nothing.
-use Rattle.std.specs.Prelude.{◌≡◌, List, ℕ, ◌+◌, ◌≤◌, ◌<◌, length, set, replicate}
-use Rattle.std.proofs.Common.{sym, ◌∙◌, length-set, get_or-set_same, get_or-set_other, get_or-take, length-take-le}
+use Rattle.std.specs.Prelude.{◌≡◌, List, ◌++◌, ℕ, ◌≤◌, ◌<◌, length, set, replicate}
+use Rattle.std.proofs.Common.{sym, ◌∙◌, length-append, length-drop, length-set, get_or-set_same, get_or-set_other, get_or-take, length-take-le}
 use Rattle.std.proofs.Math.Path.{ap}
 use Rattle.std.proofs.Math.Decide.{ℕ_discrete}
 use native.Mathlib.Omega.{arith}
-use Rattle.std.proofs.Math.ListN.{take}
+use Rattle.std.proofs.Math.ListN.{take, drop, get_or-append}
 use Rattle.std.proofs.lemmas.List.{length-replicate}
 use Rattle.sums.specs.Counts.{count}
 use Rattle.sums.specs.Swaps.{swapped}
@@ -35,18 +35,14 @@ use Rattle.one_label.specs.FiveAnswers.{counts_of}
 use Rattle.one_label.proofs.theorems.HoldingIsTriplets.{holding_is_triplets}
 use Rattle.one_label.specs.lemmas.HeldCounts.{HeldAre, MarksCopied, MarksExchanged, five_counts}
 
-pub copied_none : (marks : List ℕ) → MarksCopied marks 0 (replicate tips_most 0)
-copied_none marks = record { long = length-replicate {A = ℕ} tips_most 0; mark = λ y l. absurd (omega arith) }
-
-pub copied_next : (marks : List ℕ) (k : ℕ) (out : List ℕ) → k < tips_most → MarksCopied marks k out
-    → MarksCopied marks (k + 1) (set out k (word marks k))
-copied_next marks k out l h = record {
-  long = length-set out k (word marks k) ∙ h.long;
-  mark = λ y m. elim (ℕ_discrete y k) [
-    | yes d ↦ rw d (get_or-set_same out k (word marks k) 0 (omega (arith, h.long)))
-    | no d ↦ get_or-set_other out k y (word marks k) 0 d ∙ h.mark y (omega arith)
-  ];
-}
+-- the marks in front of the zeros that are left
+pub copied_all : (marks out : List ℕ) → out ≡ marks → length marks ≤ tips_most
+    → MarksCopied marks (length marks) (out ++ drop (length marks) (replicate tips_most 0))
+copied_all marks out e l = rw e (record {
+  long = length-append marks (drop (length marks) (replicate tips_most 0))
+      ∙ omega (arith, length-drop (length marks) (replicate {A = ℕ} tips_most 0), length-replicate {A = ℕ} tips_most 0);
+  mark = λ y m. get_or-append marks (drop (length marks) (replicate tips_most 0)) 0 y m;
+})
 
 pub marks-exchanged : (marks : List ℕ) (x : ℕ) (out : List ℕ) → x < tips_most → MarksCopied marks (length marks) out
     → MarksExchanged marks x (set (set out 0 (word marks x)) x (word marks 0))

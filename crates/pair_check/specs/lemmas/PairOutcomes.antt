@@ -2,7 +2,7 @@
 -- Assumes nothing.
 use Rattle.std.proofs.Math.Path.{◌≡◌, refl, sym, ap}
 use Rattle.std.proofs.Common.{◌∙◌, subst, mul-le-mul, lt_of_le_of_lt, arith, lt-ltb, le-ltb, ne_eqb}
-use Rattle.std.specs.Prelude.{true, false, ◌≢◌, List, ltb}
+use Rattle.std.specs.Prelude.{true, false, ◌≢◌, List, ltb, Result, Ok, Err, MatchResult}
 use Rattle.std.proofs.Math.Bool.{not}
 use Prim.Native.Nat.{ℕ, zero, suc, ◌+◌, ◌*◌, ◌-◌, ◌≤◌, ◌<◌}
 use Rattle.std.proofs.Math.Decide.{dec_le}
@@ -12,14 +12,21 @@ use Rattle.tree_check.specs.Refusals.{refusal, if_accepted}
 use Rattle.tree_check.specs.theorems.RefusalLaws.{refusal_here, refusal-first, refusal-kept}
 use Rattle.tree_check.specs.IsTree.{IsTree}
 use Rattle.tree_check.specs.TreeOrder.{tree_order}
+use Rattle.tree_check.specs.declared.table.Tree.{Tree}
+use Rattle.tree_check.specs.Check.{Checked}
+use Rattle.tree_check.specs.Numbers.{refusal_number, answer_by}
+use Rattle.tree_check.specs.theorems.NumberLaws.{refusal_numbered, answer_err, answered_ok, number_is}
 use Rattle.tree_check.specs.theorems.TreeCheck.{tree_kept}
 use Rattle.marks.specs.Marks.{kept_of, marks_order, AreMarks}
-use Rattle.pair_check.specs.declared.pairs.CheckedPair.{CheckedPair}
-use Rattle.pair_check.specs.declared.pairs.CheckedPair.TheVariants.{Pair, Refused}
+use Rattle.tree_check.specs.declared.refusals.TableRefusal.{TableRefusal}
+use Rattle.tree_check.specs.declared.refusals.TableRefusal.TheVariants.{TooFewWords}
+use Rattle.pair_check.specs.declared.pairs.Pair.{Pair}
+use Rattle.tree_check.specs.declared.refusals.Refusal.{Refusal}
+use Rattle.tree_check.specs.declared.refusals.Refusal.TheVariants.{Second, TipsDiffer, Cells}
 use Rattle.pair_check.specs.PairOrder.{plus, tips_order, tables_order, cells_needed, work_order, cells_order, pair_order}
 use Rattle.pair_check.specs.PairOrder.{IsPair, PairWithCells, MarkedPair}
-use Rattle.pair_check.specs.CheckedPair.{pair_verdict, checked_pair, checked_cells, checked_work, PairTold}
-use Rattle.pair_check.specs.CheckedPair.{pair_number, pair_tips, counted_of, rows_of, columns_of}
+use Rattle.pair_check.specs.CheckedPair.{CheckedPair, pair_verdict, checked_pair, checked_cells, checked_work}
+use Rattle.pair_check.specs.CheckedPair.{pair_number, PairTold}
 use Rattle.pair_check.specs.theorems.PairCheck.{plus-kept, plus-refusal, tables_check, tables_kept}
 use Rattle.pair_check.specs.theorems.PairCheck.{cells_check, pair_check, order_kept}
 
@@ -80,146 +87,194 @@ module _ (t u : Table) where
 
 -- ---- the answers
 
+-- the second table's answer, with its refusals as the second's
+abbrev pub told_second : Checked → Result Tree Refusal
+told_second (Ok tree) = Ok tree
+told_second (Err r) = Err (Second r)
+
+kept : Result Tree Refusal → Checked
+kept (Ok tree) = Ok tree
+kept (Err p) = Err TooFewWords
+
+broken : Result Tree Refusal → Refusal
+broken (Ok tree) = TipsDiffer
+broken (Err p) = p
+
+pub second_tree : (answer : Checked) (tree : Tree) → Ok tree ≡ told_second answer → answer ≡ Ok tree
+unfolding kept
+second_tree (Ok t) tree e = ap kept (sym e)
+second_tree (Err r) tree e = absurd (let z : ◌≡◌ {A = ℕ} 0 1 = cc in omega arith)
+
+pub second_refusal : (answer : Checked) (p : Refusal) → Err p ≡ told_second answer
+    → (r : TableRefusal) × (answer ≡ Err r) × (p ≡ Second r)
+unfolding broken
+second_refusal (Ok t) p e = absurd (let z : ◌≡◌ {A = ℕ} 0 1 = cc in omega arith)
+second_refusal (Err r) p e = (r, refl, ap broken e)
+
 -- a pair that needs no more cells than there are, or 9
-unfoldable pub measured_pair : ℕ → ℕ → ℕ → ℕ → ℕ → CheckedPair
-measured_pair n counted rows columns cells =
-    elim (ltb cells (rows * columns)) [ true ↦ Refused 9 | false ↦ Pair n counted rows columns ]
+unfoldable pub measured_pair : Pair → ℕ → CheckedPair
+measured_pair pair cells = elim (ltb cells (pair.rows * pair.columns)) [ true ↦ Err Cells | false ↦ Ok pair ]
 
 -- cells enough, or not
-pub measured_pair_lem : (n j rows columns cells : ℕ) → rows * columns ≤ cells
-    → Pair n j rows columns ≡ measured_pair n j rows columns cells
+pub measured_pair_lem : (pair : Pair) (cells : ℕ) → pair.rows * pair.columns ≤ cells → Ok pair ≡ measured_pair pair cells
 unfolding measured_pair
-measured_pair_lem n j rows columns cells l = rw (measured_pair, le-ltb cells (rows * columns) l) refl
+measured_pair_lem pair cells l = rw (measured_pair, le-ltb cells (pair.rows * pair.columns) l) refl
 
-pub measured_nine : (n j rows columns cells : ℕ) → cells < rows * columns
-    → Refused 9 ≡ measured_pair n j rows columns cells
+pub measured_nine : (pair : Pair) (cells : ℕ) → cells < pair.rows * pair.columns → Err Cells ≡ measured_pair pair cells
 unfolding measured_pair
-measured_nine n j rows columns cells l = rw (measured_pair, lt-ltb cells (rows * columns) l) refl
+measured_nine pair cells l = rw (measured_pair, lt-ltb cells (pair.rows * pair.columns) l) refl
+
+-- a pair tells these numbers
+pub record Tells (pair : Pair) (t u : Table) (k : ℕ) : Type 0 where
+  pub tips : pair.tips ≡ tips t
+  pub counted : pair.counted ≡ k
+  pub rows : pair.rows ≡ nodes t - 1
+  pub columns : pair.columns ≡ nodes u - 1
 
 module _ (t u : Table) where
   module _ (c : ℕ) where
-    verdict_told : (k : ℕ) → PairTold k t u c (pair_verdict k t u c)
-    unfolding pair_verdict if_accepted
-    verdict_told zero =
-        record { number_told = refl; tips_told = refl; counted_told = refl; rows_told = refl; columns_told = refl }
-    verdict_told (suc k) =
-        record { number_told = refl; tips_told = refl; counted_told = refl; rows_told = refl; columns_told = refl }
-
     -- an answer by a number, and what it tells
     abbrev Answered : ℕ → CheckedPair → Type 0
     Answered k r = (r ≡ pair_verdict k t u c) × PairTold k t u c r
 
-    told_of : (k : ℕ) (r : CheckedPair) → r ≡ pair_verdict k t u c → Answered k r
-    told_of k r e = (e, subst (PairTold k t u c) (sym e) (verdict_told k))
+    pair_is : (k : ℕ) (pair : Pair) → k ≡ 0 → Tells pair t u c → Answered k (Ok pair)
+    pair_is k pair z h = rw z (unfold pair_verdict in unfold answer_by in unfold if_accepted in (
+      rw (← h.tips, ← h.counted, ← h.rows, ← h.columns) refl,
+      record {
+        number_told = refl;
+        tips_told = h.tips;
+        counted_told = h.counted;
+        rows_told = h.rows;
+        columns_told = h.columns;
+      },
+    ))
 
-    pair_is : (k n j rows columns : ℕ) → k ≡ 0 → n ≡ tips t → j ≡ c → rows ≡ nodes t - 1 → columns ≡ nodes u - 1
-        → Answered k (Pair n j rows columns)
-    pair_is k n j rows columns z en ej er ec = told_of k _ (unfold pair_verdict in rw (z, en, ej, er, ec) refl)
-
-    refused_is : (k j : ℕ) → k ≡ j → j ≢ 0 → Answered k (Refused j)
-    refused_is k j e d = told_of k _ (go j e d)
+    refused_is : (k : ℕ) (r : Refusal) → k ≡ refusal_number r → Answered k (Err r)
+    unfolding pair_verdict
+    refused_is k r e = (answer_err k r _ e, go k e)
       where
-        go : (j : ℕ) → k ≡ j → j ≢ 0 → Refused j ≡ pair_verdict k t u c
-        go zero e d = absurd (d refl)
-        go (suc j) e d = unfold pair_verdict in rw e refl
+        go : (j : ℕ) → j ≡ refusal_number r → PairTold j t u c (Err r)
+        go zero q = absurd (omega (arith, refusal_numbered r, q))
+        go (suc j) q = unfold if_accepted in record {
+          number_told = sym q;
+          tips_told = refl;
+          counted_told = refl;
+          rows_told = refl;
+          columns_told = refl;
+        }
 
     -- what an accepted answer says
-    pair_says : (k n j rows columns : ℕ) → pair_verdict k t u c ≡ Pair n j rows columns
-        → (k ≡ 0) × (n ≡ tips t) × (j ≡ c) × (rows ≡ nodes t - 1) × (columns ≡ nodes u - 1)
+    pair_says : (k : ℕ) (pair : Pair) → pair_verdict k t u c ≡ Ok pair → (k ≡ 0) × Tells pair t u c
     unfolding pair_verdict
-    pair_says zero n j rows columns e =
-        (refl, sym (ap pair_tips e), sym (ap counted_of e), sym (ap rows_of e), sym (ap columns_of e))
-    pair_says (suc k) n j rows columns e = absurd (let z : ◌≡◌ {A = ℕ} 0 1 = cc in omega arith)
+    pair_says k pair e =
+        let h = answered_ok k pair _ (sym e) in (
+          h.0,
+          record {
+            tips = ap (λ (p : Pair). p.tips) h.1;
+            counted = ap (λ (p : Pair). p.counted) h.1;
+            rows = ap (λ (p : Pair). p.rows) h.1;
+            columns = ap (λ (p : Pair). p.columns) h.1;
+          },
+        )
 
-    -- what a refusal says
-    refused_says : (k j : ℕ) → pair_verdict k t u c ≡ Refused j → (k ≡ j) × (j ≢ 0)
-    unfolding pair_verdict
-    refused_says zero j e = absurd (let z : ◌≡◌ {A = ℕ} 0 1 = cc in omega arith)
-    refused_says (suc k) j e = let q : suc k ≡ j = ap pair_number e in (q, λ z. omega arith)
-
-    -- the number that is passed on from a refused answer
-    refusal_passed : (k j number : ℕ) (answer : CheckedPair) → answer ≡ pair_verdict k t u c → answer ≡ Refused j
-        → number ≡ pair_number answer → (number ≡ k) × (number ≢ 0)
-    refusal_passed k j number answer a r e =
-        let h = refused_says k j (sym a ∙ r) in
-        let q : number ≡ j = e ∙ ap pair_number r in
-        (q ∙ sym h.0, λ z. h.1 (sym q ∙ z))
+    -- what a refused answer says
+    refused_says : (k : ℕ) (r : Refusal) → PairTold k t u c (Err r) → (k ≡ refusal_number r) × (refusal_number r ≢ 0)
+    refused_says k r h = (sym h.number_told, λ z. absurd (omega (arith, refusal_numbered r, z)))
 
   -- what `check_pair` returns, and what it tells
   abbrev pub PairAnswered : CheckedPair → Type 0
   PairAnswered r = (r ≡ checked_pair t u) × PairTold (refusal (tables_order t u)) t u (tips t) r
 
-  pub pair_found : (n rows columns : ℕ) → refusal (tables_order t u) ≡ 0 → n ≡ tips t → rows ≡ nodes t - 1
-      → columns ≡ nodes u - 1 → PairAnswered (Pair n n rows columns)
+  pub pair_found : (pair : Pair) → refusal (tables_order t u) ≡ 0 → Tells pair t u (tips t) → PairAnswered (Ok pair)
   unfolding checked_pair
-  pair_found n rows columns z en er ec = pair_is (tips t) _ n n rows columns z en en er ec
+  pair_found pair z h = pair_is (tips t) _ pair z h
 
-  pub pair_turned_away : (j : ℕ) → refusal (tables_order t u) ≡ j → j ≢ 0 → PairAnswered (Refused j)
+  pub pair_turned_away : (r : Refusal) → refusal (tables_order t u) ≡ refusal_number r → PairAnswered (Err r)
   unfolding checked_pair
-  pair_turned_away j e d = refused_is (tips t) _ j e d
+  pair_turned_away r e = refused_is (tips t) _ r e
 
   -- what `check_cells` returns
   abbrev pub CellsAnswered : ℕ → CheckedPair → Type 0
   CellsAnswered cells r = (r ≡ checked_cells t u cells) × PairTold (refusal (cells_order t u cells)) t u (tips t) r
 
-  pub cells_turned_away : (cells j : ℕ) → refusal (cells_order t u cells) ≡ j → j ≢ 0 → CellsAnswered cells (Refused j)
+  pub cells_turned_away : (cells : ℕ) (r : Refusal) → refusal (cells_order t u cells) ≡ refusal_number r
+      → CellsAnswered cells (Err r)
   unfolding checked_cells
-  cells_turned_away cells j e d = refused_is (tips t) _ j e d
+  cells_turned_away cells r e = refused_is (tips t) _ r e
 
   -- what `check_work` returns
   abbrev pub WorkAnswered : List ℕ → ℕ → CheckedPair → Type 0
   WorkAnswered marks cells r =
       (r ≡ checked_work t u marks cells) × PairTold (refusal (pair_order t u marks cells)) t u (kept_of marks (tips t)) r
 
-  pub work_turned_away : (marks : List ℕ) (cells j : ℕ) → refusal (pair_order t u marks cells) ≡ j → j ≢ 0
-      → WorkAnswered marks cells (Refused j)
+  pub work_turned_away : (marks : List ℕ) (cells : ℕ) (r : Refusal)
+      → refusal (pair_order t u marks cells) ≡ refusal_number r → WorkAnswered marks cells (Err r)
   unfolding checked_work
-  work_turned_away marks cells j e d = refused_is (kept_of marks (tips t)) _ j e d
+  work_turned_away marks cells r e = refused_is (kept_of marks (tips t)) _ r e
 
   -- a measured pair: 9, or the pair
-  measured_answer : (cells c number : ℕ) → IsPair t u → number ≡ refusal (cells_order t u cells) → (n j rows columns : ℕ)
-      → n ≡ tips t → j ≡ c → rows ≡ nodes t - 1 → columns ≡ nodes u - 1
-      → Answered c number (measured_pair n j rows columns cells)
-  measured_answer cells c number p e n j rows columns en ej er ec = go (dec_le (rows * columns) cells)
+  measured_answer : (cells c number : ℕ) → IsPair t u → number ≡ refusal (cells_order t u cells) → (pair : Pair)
+      → Tells pair t u c → Answered c number (measured_pair pair cells)
+  measured_answer cells c number p e pair h = go (dec_le (pair.rows * pair.columns) cells)
     where
-      go : Dec (rows * columns ≤ cells) → Answered c number (measured_pair n j rows columns cells)
+      go : Dec (pair.rows * pair.columns ≤ cells) → Answered c number (measured_pair pair cells)
       go (yes l) =
-          let z = e ∙ (cells_check t u cells).1 (record { pair = p; room = rw (← er, ← ec) l }) in
-          subst (Answered c number) (measured_pair_lem n j rows columns cells l) (pair_is c number n j rows columns z en ej er ec)
+          let z = e ∙ (cells_check t u cells).1 (record { pair = p; room = rw (← h.rows, ← h.columns) l }) in
+          subst (Answered c number) (measured_pair_lem pair cells l) (pair_is c number pair z h)
       go (no d) =
-          let l : cells < rows * columns = omega (arith, d) in
-          subst (Answered c number) (measured_nine n j rows columns cells l)
-          (refused_is c number 9 (e ∙ cells_short t u cells p (rw (← er, ← ec) l)) (λ z. omega arith))
+          let l : cells < pair.rows * pair.columns = omega (arith, d) in
+          subst (Answered c number) (measured_nine pair cells l)
+          (refused_is c number Cells (e ∙ cells_short t u cells p (rw (← h.rows, ← h.columns) l)))
 
-  pub cells_measured : (cells : ℕ) → IsPair t u → (n j rows columns : ℕ)
-      → n ≡ tips t → j ≡ tips t → rows ≡ nodes t - 1 → columns ≡ nodes u - 1
-      → (r : CheckedPair) → r ≡ measured_pair n j rows columns cells → CellsAnswered cells r
+  pub cells_measured : (cells : ℕ) → IsPair t u → (pair : Pair) → Tells pair t u (tips t)
+      → (r : CheckedPair) → r ≡ measured_pair pair cells → CellsAnswered cells r
   unfolding checked_cells
-  cells_measured cells p n j rows columns en ej er ec r q =
-      rw q (measured_answer cells (tips t) _ p refl n j rows columns en ej er ec)
+  cells_measured cells p pair h r q = rw q (measured_answer cells (tips t) _ p refl pair h)
 
-  pub work_measured : (marks : List ℕ) (cells : ℕ) → IsPair t u → AreMarks marks (tips t) → (n j rows columns : ℕ)
-      → n ≡ tips t → j ≡ kept_of marks (tips t) → rows ≡ nodes t - 1 → columns ≡ nodes u - 1
-      → (r : CheckedPair) → r ≡ measured_pair n j rows columns cells → WorkAnswered marks cells r
+  pub work_measured : (marks : List ℕ) (cells : ℕ) → IsPair t u → AreMarks marks (tips t) → (pair : Pair)
+      → Tells pair t u (kept_of marks (tips t)) → (r : CheckedPair) → r ≡ measured_pair pair cells → WorkAnswered marks cells r
   unfolding checked_work
-  work_measured marks cells p h n j rows columns en ej er ec r q =
-      rw q (measured_answer cells (kept_of marks (tips t)) _ p (order_kept t u marks cells h) n j rows columns en ej er ec)
+  work_measured marks cells p h pair w r q =
+      rw q (measured_answer cells (kept_of marks (tips t)) _ p (order_kept t u marks cells h) pair w)
+
+  -- what a refused answer says
+  pub pair_refused : (r : Refusal) → PairAnswered (Err r)
+      → (refusal (tables_order t u) ≡ refusal_number r) × (refusal_number r ≢ 0)
+  pair_refused r a = refused_says (tips t) _ r a.1
+
+  pub cells_refused : (cells : ℕ) (r : Refusal) → CellsAnswered cells (Err r)
+      → (refusal (cells_order t u cells) ≡ refusal_number r) × (refusal_number r ≢ 0)
+  cells_refused cells r a = refused_says (tips t) _ r a.1
+
+  pub work_refused : (marks : List ℕ) (cells : ℕ) (r : Refusal) → WorkAnswered marks cells (Err r)
+      → (refusal (pair_order t u marks cells) ≡ refusal_number r) × (refusal_number r ≢ 0)
+  work_refused marks cells r a = refused_says (kept_of marks (tips t)) _ r a.1
 
   -- the number that is passed on from a refused answer
-  pub pair_passed : (j number : ℕ) (answer : CheckedPair) → answer ≡ checked_pair t u → answer ≡ Refused j
-      → number ≡ pair_number answer → (number ≡ refusal (tables_order t u)) × (number ≢ 0)
-  unfolding checked_pair
-  pair_passed j number answer a r e = refusal_passed (tips t) _ j number answer a r e
+  pub pair_passed : (r : Refusal) (number : ℕ) → PairAnswered (Err r) → number ≡ refusal_number r
+      → (number ≡ refusal (tables_order t u)) × (number ≢ 0)
+  pair_passed r number a n = let h = pair_refused r a in (n ∙ sym h.0, λ z. h.1 (sym n ∙ z))
 
-  pub cells_passed : (cells j number : ℕ) (answer : CheckedPair) → answer ≡ checked_cells t u cells → answer ≡ Refused j
-      → number ≡ pair_number answer → (number ≡ refusal (cells_order t u cells)) × (number ≢ 0)
-  unfolding checked_cells
-  cells_passed cells j number answer a r e = refusal_passed (tips t) _ j number answer a r e
+  pub cells_passed : (cells : ℕ) (r : Refusal) (number : ℕ) → CellsAnswered cells (Err r) → number ≡ refusal_number r
+      → (number ≡ refusal (cells_order t u cells)) × (number ≢ 0)
+  cells_passed cells r number a n = let h = cells_refused cells r a in (n ∙ sym h.0, λ z. h.1 (sym n ∙ z))
 
-  pub work_passed : (marks : List ℕ) (cells j number : ℕ) (answer : CheckedPair) → answer ≡ checked_work t u marks cells
-      → answer ≡ Refused j → number ≡ pair_number answer → (number ≡ refusal (pair_order t u marks cells)) × (number ≢ 0)
-  unfolding checked_work
-  work_passed marks cells j number answer a r e = refusal_passed (kept_of marks (tips t)) _ j number answer a r e
+  pub work_passed : (marks : List ℕ) (cells : ℕ) (r : Refusal) (number : ℕ) → WorkAnswered marks cells (Err r)
+      → number ≡ refusal_number r → (number ≡ refusal (pair_order t u marks cells)) × (number ≢ 0)
+  work_passed marks cells r number a n = let h = work_refused marks cells r a in (n ∙ sym h.0, λ z. h.1 (sym n ∙ z))
+
+  -- .. as `refusal_of` tells it
+  pub cells_told : (cells : ℕ) (answer : CheckedPair) (r : Refusal) (number : ℕ) → CellsAnswered cells answer → answer ≡ Err r
+      → MatchResult answer (λ _. number ≡ 0) (λ e. number ≡ refusal_number e)
+      → (number ≡ refusal (cells_order t u cells)) × (number ≢ 0)
+  cells_told cells answer r number a e m =
+      cells_passed cells r number (rw e at a) (number_is answer number m ∙ ap pair_number e)
+
+  pub work_told : (marks : List ℕ) (cells : ℕ) (answer : CheckedPair) (r : Refusal) (number : ℕ) → WorkAnswered marks cells answer
+      → answer ≡ Err r → MatchResult answer (λ _. number ≡ 0) (λ e. number ≡ refusal_number e)
+      → (number ≡ refusal (pair_order t u marks cells)) × (number ≢ 0)
+  work_told marks cells answer r number a e m =
+      work_passed marks cells r number (rw e at a) (number_is answer number m ∙ ap pair_number e)
 
 -- a tree table has an edge, and at most `nodes_most` nodes
 pub edges_some : (t : Table) → IsTree t → (2 ≤ nodes t) × (nodes t ≤ nodes_most)
@@ -235,25 +290,19 @@ product_fits t u rows columns p er ec =
     lt_of_le_of_lt l (omega arith)
 
 -- what `check_pair` says of two tables that it accepts
-pub check_says : (t u : Table) (n c rows columns : ℕ) → checked_pair t u ≡ Pair n c rows columns
-    → IsPair t u × (n ≡ tips t) × (c ≡ tips t) × (rows ≡ nodes t - 1) × (columns ≡ nodes u - 1)
+pub check_says : (t u : Table) (pair : Pair) → checked_pair t u ≡ Ok pair → IsPair t u × Tells pair t u (tips t)
 unfolding checked_pair
-check_says t u n c rows columns e =
-    let s = pair_says t u (tips t) _ n c rows columns e in
-    ((tables_check t u).0 s.0, s.1, s.2, s.3, s.4)
+check_says t u pair e = let s = pair_says t u (tips t) _ pair e in ((tables_check t u).0 s.0, s.1)
 
 -- .. `check_cells` of a pair call without marks
-pub cells_says : (t u : Table) (cells n c rows columns : ℕ) → checked_cells t u cells ≡ Pair n c rows columns
-    → PairWithCells t u cells × (n ≡ tips t) × (c ≡ tips t) × (rows ≡ nodes t - 1) × (columns ≡ nodes u - 1)
+pub cells_says : (t u : Table) (cells : ℕ) (pair : Pair) → checked_cells t u cells ≡ Ok pair
+    → PairWithCells t u cells × Tells pair t u (tips t)
 unfolding checked_cells
-cells_says t u cells n c rows columns e =
-    let s = pair_says t u (tips t) _ n c rows columns e in
-    ((cells_check t u cells).0 s.0, s.1, s.2, s.3, s.4)
+cells_says t u cells pair e = let s = pair_says t u (tips t) _ pair e in ((cells_check t u cells).0 s.0, s.1)
 
 -- .. and `check_work` of one with marks
-pub work_says : (t u : Table) (marks : List ℕ) (cells n c rows columns : ℕ) → checked_work t u marks cells ≡ Pair n c rows columns
-    → MarkedPair t u marks cells × (n ≡ tips t) × (c ≡ kept_of marks (tips t)) × (rows ≡ nodes t - 1) × (columns ≡ nodes u - 1)
+pub work_says : (t u : Table) (marks : List ℕ) (cells : ℕ) (pair : Pair) → checked_work t u marks cells ≡ Ok pair
+    → MarkedPair t u marks cells × Tells pair t u (kept_of marks (tips t))
 unfolding checked_work
-work_says t u marks cells n c rows columns e =
-    let s = pair_says t u (kept_of marks (tips t)) _ n c rows columns e in
-    ((pair_check t u marks cells).0 s.0, s.1, s.2, s.3, s.4)
+work_says t u marks cells pair e =
+    let s = pair_says t u (kept_of marks (tips t)) _ pair e in ((pair_check t u marks cells).0 s.0, s.1)

@@ -3,7 +3,6 @@
 use Rattle.std.specs.Prelude.{ℕ, ◌+◌, ◌-◌, ◌/◌, ◌≤◌}
 use Rattle.table_words.specs.Sizes.{tips_most}
 use Rattle.sums.specs.Fours.{fours}
-use Rattle.tree_check.specs.Refusals.{refusal}
 use Rattle.counting.specs.QuartetTable.{formula_a, formula_b, formula_c, formula_d, formula_e}
 use Rattle.counting.specs.theorems.QuartetTheorem.{formula_distance}
 use Rattle.quartets.specs.declared.tables.QuartetTable.{QuartetTable}

@@ -3,11 +3,9 @@
 -- Assumes nothing.
 use Rattle.std.specs.Prelude.{◌≡◌, ℕ}
 use mathlib.Core.List.{List, [], ◌∷◌}
-use Rattle.tree_check.specs.Table.{Table, tips, labels, label}
-use Rattle.tree_check.specs.Refusals.{refusal}
+use Rattle.tree_check.specs.Table.{Table, tips}
 use Rattle.marks.proofs.theorems.Ones.{ones}
 use Rattle.counting.specs.Labels.{all}
-use Rattle.counting.specs.theorems.ReferencePairs.{figures}
 use Rattle.tree_pairs.specs.Crossings.{after_crossings, after_all}
 use Rattle.splits.specs.SplitAnswer.{splits_among, split_answer}
 use Rattle.triplets.specs.TripletAnswer.{triplet_answer}

@@ -2,23 +2,17 @@
 -- Assumes nothing.
 use Rattle.std.specs.Prelude.{◌≡◌, refl, Bool, true, false, not, ◌&&◌, ◌≢◌, List, ℕ, ◌+◌, ◌*◌, ◌-◌, ◌≤◌, ◌<◌, eqb, length}
 use Rattle.std.proofs.Common.{sym, ◌∙◌, mul-le-mul_right, arith, eq-eqb, ne_eqb}
+use Rattle.std.proofs.Math.Decide.{ℕ_discrete}
 use Rattle.table_words.specs.Sizes.{node_room}
-use Rattle.table_words.specs.lemmas.Rooms.{work_room}
 use Rattle.sums.specs.Tests.{some}
+use Rattle.sums.specs.Counts.{count}
+use Rattle.sums.specs.theorems.CountSteps.{count_found, count-not_found}
 use Rattle.sums.specs.theorems.Products.{product_le}
 use Rattle.tree_pairs.specs.lemmas.EdgeRows.{EdgeRoom, above_in, row_size}
 use Rattle.splits.specs.lemmas.SplitCells.{new_size, half_row, new_row, new_edge}
 use Rattle.splits.specs.lemmas.SplitLoops.{RowsRoom, SplitRowRoom}
 
 -- ---- room
-
--- the size of row i stands where there are cells
-pub size_room : (cells step : ℕ) (ps : List ℕ) → EdgeRoom cells step ps → (i : ℕ) → i < length ps - 1
-    → (i * step ≤ work_room) × (i * step < cells)
-size_room cells step ps a i l = (
-  omega (arith, product_le node_room node_room i step (omega (arith, a.parents.few)) a.narrow),
-  a.inside i l,
-)
 
 pub row_room : (cells width : ℕ) (ps : List ℕ) → EdgeRoom cells width ps → RowsRoom cells width ps → (i : ℕ)
     → i < length ps - 2 → SplitRowRoom cells ((i + 1) * width) width
@@ -30,6 +24,14 @@ row_room cells width ps a b i l = record {
   where
     ends : (i + 1 + 1) * width ≤ (length ps - 1) * width
     ends = mul-le-mul_right width (omega arith)
+
+-- ---- some index passes exactly if the count is not 0
+
+pub some_counted : (k : ℕ) (q : ℕ → Bool) (total : ℕ) → total ≡ count k q → not (eqb total 0) ≡ some k q
+some_counted k q total h = elim (ℕ_discrete total 0) [
+  | yes e ↦ rw (eq-eqb total 0 e) (count-not_found k q total h e)
+  | no d ↦ rw (ne_eqb total 0 d) (count_found k q total h d)
+]
 
 -- ---- `new_edge`, test by test: `new` by the sizes, with `above` labels beyond the edge above
 

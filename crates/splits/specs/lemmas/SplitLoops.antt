@@ -3,7 +3,6 @@
 use Rattle.std.specs.Prelude.{List, ℕ, ◌+◌, ◌*◌, ◌-◌, ◌≤◌, length}
 use Rattle.table_words.specs.Sizes.{node_room}
 use Rattle.table_words.specs.lemmas.Rooms.{work_room}
-use Rattle.sums.specs.Tests.{some}
 
 -- `cells` cells hold the rows
 pub record RowsRoom (cells width : ℕ) (ps : List ℕ) : Type 0 where

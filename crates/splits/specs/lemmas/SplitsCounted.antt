@@ -1,7 +1,6 @@
 -- The split counts as they are counted in the cells.
 -- Assumes nothing.
 use Rattle.std.specs.Prelude.{List, ℕ, ◌+◌, ◌*◌, ◌-◌, ◌≤◌, length}
-use Rattle.tree_check.specs.Refusals.{refusal}
 use Rattle.splits.specs.declared.counts.SplitCounts.{SplitCounts}
 use Rattle.tree_pairs.specs.lemmas.EdgeRows.{EdgeRoom}
 use Rattle.splits.specs.lemmas.SplitCells.{edge_splits, common_rows}

@@ -1,6 +1,6 @@
 -- Which number the tree check gives, as its code finds it.
 -- Assumes nothing.
-use Rattle.std.specs.Prelude.{◌≡◌, Bool, true, false, List, [], ◌∷◌, ℕ, ◌+◌, ◌*◌, ◌≤◌, ◌<◌, T, eqb, length}
+use Rattle.std.specs.Prelude.{◌≡◌, Bool, true, false, List, [], ◌∷◌, ℕ, zero, suc, Result, Ok, Err, ◌+◌, ◌*◌, ◌≤◌, ◌<◌, T, eqb, length}
 use Rattle.std.proofs.Common.{sym, ◌∙◌, subst, arith, lt-ltb, le-ltb, eq-eqb, ne_eqb}
 use Rattle.std.proofs.Math.Path.{ap}
 use Rattle.std.proofs.Math.Bool.{not}
@@ -9,12 +9,21 @@ use Rattle.sums.specs.theorems.TestLaws.{some_ext}
 use Rattle.tree_check.specs.Table.{Table, word, tips, nodes, parents, labels, parent, label}
 use Rattle.tree_check.specs.lemmas.TableParts.{rest}
 use Rattle.tree_check.specs.lemmas.TableParts.{parents-length, labels_length}
+use Rattle.tree_check.specs.declared.refusals.TableRefusal.{TableRefusal}
+use Rattle.tree_check.specs.Numbers.{table_named}
 use Rattle.tree_check.specs.Refusals.{refusal}
 use Rattle.tree_check.specs.theorems.RefusalLaws.{refusal_none, refusal_here, refusal_next}
 use Rattle.tree_check.specs.TreeOrder.{tips_fit, nodes_fit, parent_fits, labels_fit, labels_once, misplaced, arrays_order}
 use Rattle.tree_check.specs.TreeOrder.{tree_order}
 use Rattle.tree_check.specs.theorems.TreeCheck.{ArraysFit, tips-iff, nodes-iff}
 use Rattle.tree_check.specs.lemmas.Tally.{Tallied, tallied-children}
+
+-- ---- the outcome of a check
+
+-- a number as an outcome: 0 for accepted, and else the rule with that number
+unfoldable pub outcome : ℕ → Result (Unit {0}) TableRefusal
+outcome zero = Ok tt
+outcome (suc k) = Err (table_named (suc k))
 
 -- ---- 5, 6, 31 and 7, over the arrays ps and ls
 

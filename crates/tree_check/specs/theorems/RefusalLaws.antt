@@ -53,6 +53,28 @@ accepted (r ∷ rs) p = go r.1 refl (accepted rs p.1)
     )
     go false e ih = (λ z. (rw e tt, ih.0 z), λ k. ih.1 k.1)
 
+-- ---- numbers that name rules
+
+-- each number is what f makes of it, where f reads it as a rule and tells that rule's number
+abbrev pub Named : (ℕ → ℕ) → List Rule → Type 0
+Named f [] = Unit {0}
+Named f (r ∷ rs) = (f r.0 ≡ r.0) × Named f rs
+
+pub named_refusal : (f : ℕ → ℕ) (rs : List Rule) → Named f rs → refusal rs ≢ 0 → f (refusal rs) ≡ refusal rs
+unfolding refusal
+named_refusal f [] n d = absurd (d refl)
+named_refusal f (r ∷ rs) n d = go r.1 d (λ e. named_refusal f rs n.1 e)
+  where
+    go : (b : Bool) → (◌≡◌ {A = ℕ} (elim b as (λ x. ℕ) [ true ↦ r.0 | false ↦ refusal rs ]) 0 → ⊥)
+        → (refusal rs ≢ 0 → f (refusal rs) ≡ refusal rs)
+        → f (elim b as (λ x. ℕ) [ true ↦ r.0 | false ↦ refusal rs ]) ≡ elim b as (λ x. ℕ) [ true ↦ r.0 | false ↦ refusal rs ]
+    go true e ih = n.0
+    go false e ih = ih e
+
+pub named_append : (f : ℕ → ℕ) (rs ss : List Rule) → Named f rs → Named f ss → Named f (rs ++ ss)
+named_append f [] ss p q = q
+named_append f (r ∷ rs) ss p q = (p.0, named_append f rs ss p.1 q)
+
 -- ---- one paragraph after another
 
 pub kept_append : (rs ss : List Rule) → Kept (rs ++ ss) ↔ Kept rs × Kept ss

@@ -1,59 +1,18 @@
 -- The rows of the first tree's nodes: a tip's has 1 at the second tree's nodes in whose spans the tip with the same label is.
 -- Assumes nothing.
-use Rattle.std.specs.Prelude.{◌≡◌, refl, true, false, List, ℕ, ◌+◌, ◌*◌, ◌-◌, ◌≤◌, ◌<◌, T, ltb, length, set}
-use Rattle.std.proofs.Common.{sym, ◌∙◌, ap, subst, zero-mul, mul-le-mul_right, arith, length-set, get_or-set_same, get_or-set_other}
+use Rattle.std.specs.Prelude.{◌≡◌, true, false, List, ℕ, ◌+◌, ◌*◌, ◌-◌, ◌≤◌, ◌<◌, T, ltb, length}
+use Rattle.std.proofs.Common.{sym, ◌∙◌, ap, subst, zero-mul, mul-le-mul_right, arith}
 use Rattle.std.proofs.Math.Decide.{ℕ_discrete}
-use Rattle.table_words.specs.Sizes.{node_room}
-use Rattle.table_words.specs.lemmas.Rooms.{work_room}
-use Rattle.sums.specs.theorems.Products.{product_le}
 use Rattle.sums.specs.Bits.{bit}
 use Rattle.sums.specs.theorems.BitLaws.{bit-T, bit_no}
 use Rattle.sums.specs.theorems.TestLaws.{and-iff, lt_iff}
 use Rattle.tree_check.specs.Table.{word}
 use Rattle.marks.specs.Marks.{is_kept}
-use Rattle.tree_pairs.specs.lemmas.TipRows.{RowFilled, RowRoom, TipRoom, TipRows, counted_label, in_spans, nothing}
-
--- ---- one row
-
-module _ (f : ℕ → ℕ) (base : ℕ) where
-  pub filled_none : (old : List ℕ) → RowFilled f base 0 old old
-  filled_none old = record {
-    long = refl;
-    cells = λ j l. absurd (omega arith);
-    before = λ c l. refl;
-    after = λ c l. refl;
-  }
-
-  pub filled_next : (k : ℕ) (old new : List ℕ) (x : ℕ) → base + k < length old → x ≡ f k → RowFilled f base k old new
-      → RowFilled f base (k + 1) old (set new (base + k) x)
-  filled_next k old new x l e h = record {
-    long = length-set new (base + k) x ∙ h.long;
-    cells = λ j m. elim (ℕ_discrete j k) [
-      | yes d ↦ rw d (get_or-set_same new (base + k) x 0 (omega (arith, h.long)) ∙ e)
-      | no d ↦ get_or-set_other new (base + k) (base + j) x 0 (λ q. d (omega arith)) ∙ h.cells j (omega arith)
-    ];
-    before = λ c m. get_or-set_other new (base + k) c x 0 (λ q. omega arith) ∙ h.before c m;
-    after = λ c m. get_or-set_other new (base + k) c x 0 (λ q. omega arith) ∙ h.after c (omega arith);
-  }
-
-  pub filled-all : (k w : ℕ) (old new : List ℕ) → k ≤ w → w ≤ k → RowFilled f base k old new → RowFilled f base w old new
-  filled-all k w old new l m h =
-      let e : k ≡ w = omega arith in
-      subst (λ (i : ℕ). RowFilled f base i old new) e h
-
--- ---- all rows
+use Rattle.tree_pairs.specs.lemmas.TipRows.{RowFilled, TipRoom, TipRows, counted_label, in_spans, nothing}
 
 pub counted_inside : (ks : List ℕ) (n x : ℕ) → true ≡ counted_label ks n x → x < n
 unfolding counted_label
 counted_inside ks n x e = (lt_iff x n).0 ((and-iff (is_kept ks x) (ltb x n)).0 (subst T e tt)).1
-
-pub rows_none : (ls ks : List ℕ) (n w : ℕ) (labelled begin end old : List ℕ)
-    → TipRows ls ks n w labelled begin end 1 old old
-rows_none ls ks n w labelled begin end old = record {
-  long = refl;
-  rows = λ v j o l p. absurd (omega arith);
-  rest = λ c l. refl;
-}
 
 -- a row ends where the next one begins
 row_end : (v w : ℕ) → 1 ≤ v → (v - 1) * w + w ≡ v * w
@@ -72,19 +31,6 @@ row_before u v w l = mul-le-mul_right w l
 
 module _ (ls ks : List ℕ) (n w : ℕ) (labelled begin end old : List ℕ) (a : TipRoom ls n w labelled old)
     (new : List ℕ) (v : ℕ) (o : 1 ≤ v) (l : v < length ls) (h : TipRows ls ks n w labelled begin end v old new) where
-  pub base_low : (v - 1) * w ≤ work_room
-  base_low = omega (
-    arith,
-    product_le node_room node_room (v - 1) w (omega (arith, a.rows)) (omega (arith, a.narrow)),
-  )
-
-  pub row_room : RowRoom new ((v - 1) * w) w
-  row_room = record {
-    low = base_low;
-    narrow = a.narrow;
-    inside = omega (arith, row_end v w o, row_before v (length ls - 1) w (omega arith), a.inside, h.long);
-  }
-
   -- no row before node v's is touched
   earlier : (u j : ℕ) → 1 ≤ u → u < v → j < w → (u - 1) * w + j < (v - 1) * w
   earlier u j p q s = omega (arith, row_end u w p, row_before u (v - 1) w (omega arith))
@@ -125,9 +71,3 @@ module _ (ls ks : List ℕ) (n w : ℕ) (labelled begin end old : List ℕ) (a :
       sym (ap (λ (b : ℕ). b * in_spans begin end (word begin (word labelled (word ls v))) j)
       (bit_no (counted_label ks n (word ls v)) (λ y. subst T (sym m) y))
       ∙ zero-mul (in_spans begin end (word begin (word labelled (word ls v))) j)))
-
-pub rows_all : (ls ks : List ℕ) (n w : ℕ) (labelled begin end old new : List ℕ) (v : ℕ) → v ≤ length ls → length ls ≤ v
-    → TipRows ls ks n w labelled begin end v old new → TipRows ls ks n w labelled begin end (length ls) old new
-rows_all ls ks n w labelled begin end old new v l m h =
-    let e : v ≡ length ls = omega arith in
-    subst (λ (k : ℕ). TipRows ls ks n w labelled begin end k old new) e h

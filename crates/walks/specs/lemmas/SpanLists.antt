@@ -1,6 +1,6 @@
 -- The lists of spans as code writes them: the node of each label, and the places of each node's labels.
 -- Assumes nothing.
-use Rattle.std.specs.Prelude.{◌≡◌, ℕ, ◌+◌, ◌-◌, ◌%◌, ◌<◌, ◌≤◌, ◌≢◌, List, [], length, slice_set, refl}
+use Rattle.std.specs.Prelude.{◌≡◌, ℕ, ◌+◌, ◌-◌, ◌%◌, ◌<◌, ◌≤◌, ◌≢◌, List, [], length, slice_set, refl, Err}
 use Rattle.std.proofs.Math.Path.{sym, ap₂}
 use Rattle.std.proofs.Common.{◌∙◌, ap, mod-eq_of_lt, add-one, arith, eq-eqb, ne_eqb, lt-ltb, le-ltb, length-set, get_or-set_same, get_or-set_other}
 use Rattle.std.proofs.Math.Decide.{ℕ_discrete}
@@ -12,11 +12,13 @@ use Rattle.tree_check.specs.IsTree.{IsTree}
 use Rattle.tree_check.specs.lemmas.TableParts.{table_of, tips_of_lem, nodes_of_lem}
 use Rattle.tree_check.specs.Refusals.{refusal}
 use Rattle.tree_check.specs.theorems.RefusalLaws.{refusal_none, refusal_here, refusal_next, if_accepted_lem, if_refused}
+use Rattle.tree_check.specs.declared.refusals.Refusal.{Refusal}
+use Rattle.tree_check.specs.Numbers.{refusal_number, refusal_named, answer_by}
 use Rattle.tree_check.specs.TreeOrder.{tree_order}
 use Rattle.walks.specs.Spans.{lists_order, spans_order, span_begin, span_end, filled}
 use Rattle.walks.specs.theorems.NodeLabels.{node_at}
 use Rattle.walks.specs.theorems.SpanLaws.{SpansOf}
-use Rattle.walks.specs.theorems.WalkOrderLaws.{tree_refused, tree_accepted, lists_check, spans_check}
+use Rattle.walks.specs.theorems.WalkOrderLaws.{rules_passed, tree_refused, tree_accepted, lists_check, spans_check}
 use Rattle.walks.specs.lemmas.TreeArrays.{TreeArrays, label_is, few_tips}
 use Rattle.walks.specs.lemmas.Positions.{Sizes, Ends, part_bounds}
 
@@ -119,6 +121,13 @@ module _ (labelled begins ends n m : ℕ) where
       pub rooms_enough : m ≤ ends → 0 ≡ refusal (lists_order labelled begins ends n m)
       rooms_enough e = sym (refusal_next 12 _ _ (le-ltb labelled n l) ∙ refusal_next 12 _ _ (le-ltb begins m b)
           ∙ refusal_next 12 _ [] (le-ltb ends m e) ∙ refusal_none)
+
+-- .. as code tests it
+pub lists_passed : (labelled begins ends n m : ℕ) (r : Refusal) (number : ℕ)
+    → Err r ≡ answer_by (refusal (lists_order labelled begins ends n m)) (tt {0})
+    → number ≡ refusal_number r → (refusal (lists_order labelled begins ends n m) ≡ number) × (number ≢ 0)
+lists_passed labelled begins ends n m =
+    rules_passed (lists_order labelled begins ends n m) (unfold refusal_named in (refl, (refl, (refl, tt))))
 
 -- ---- the number, and the lists afterwards
 

@@ -1,6 +1,6 @@
 -- What the walk and the part beyond an edge give, as their code finds it.
 -- Assumes nothing.
-use Rattle.std.specs.Prelude.{◌≡◌, ℕ, zero, suc, ◌+◌, ◌-◌, ◌<◌, ◌≤◌, true, false, ◌||◌, ◌≢◌, List, [], ◌∷◌, length, take, drop, ◌==◌, nat_le, nat_lt}
+use Rattle.std.specs.Prelude.{◌≡◌, ℕ, zero, suc, ◌+◌, ◌-◌, ◌<◌, ◌≤◌, true, false, ◌||◌, ◌≢◌, List, [], ◌∷◌, length, take, drop, Ok, Err, ◌==◌, nat_le, nat_lt}
 use Rattle.std.proofs.Math.Path.{refl, sym, ap}
 use Rattle.std.proofs.Common.{◌∙◌, lt-ltb, le-ltb}
 use native.Mathlib.Omega.{arith}
@@ -8,14 +8,27 @@ use Rattle.tree_check.specs.Table.{Table, tips, nodes}
 use Rattle.tree_check.specs.Refusals.{refusal, if_accepted}
 use Rattle.tree_check.specs.theorems.RefusalLaws.{refusal_none, refusal_here, refusal_next, if_accepted_lem}
 use Rattle.tree_check.specs.theorems.RefusalLaws.{if_refused}
+use Rattle.tree_check.specs.declared.refusals.Refusal.{Refusal}
+use Rattle.tree_check.specs.Numbers.{refusal_number, refusal_named, answer_by}
+use Rattle.tree_check.specs.theorems.NumberLaws.{answered_ok}
 use Rattle.tree_check.specs.IsTree.{IsTree}
 use Rattle.tree_check.specs.TreeOrder.{tree_order}
 use Rattle.walks.specs.WalkOrders.{room_order, walk_order, edge_order}
 use Rattle.walks.specs.Walk.{walked, after_walk, below, start, part, place_beyond, part_beyond}
-use Rattle.walks.specs.theorems.WalkOrderLaws.{edge_check, tree_refused, tree_accepted}
+use Rattle.walks.specs.theorems.WalkOrderLaws.{room_check, rules_passed, edge_check, tree_refused, tree_accepted}
 use Rattle.walks.specs.theorems.WalkLaws.{part_fits}
 use Rattle.walks.specs.lemmas.Positions.{placed}
 use Rattle.walks.specs.declared.edges.PartBeyond.{PartBeyond}
+
+-- ---- room for a walk, as code tests it
+
+module _ (cells n : ℕ) where
+  pub room_kept : Ok tt ≡ answer_by (refusal (room_order cells n)) (tt {0}) → n ≤ cells
+  room_kept e = (room_check cells n).0 (answered_ok _ _ _ e).0
+
+  pub room_passed : (r : Refusal) (number : ℕ) → Err r ≡ answer_by (refusal (room_order cells n)) (tt {0})
+      → number ≡ refusal_number r → (refusal (room_order cells n) ≡ number) × (number ≢ 0)
+  room_passed = rules_passed (room_order cells n) (unfold refusal_named in (refl, tt))
 
 -- ---- the walk: its number, and the cells afterwards
 

@@ -1,12 +1,15 @@
 -- What the orders of the walk and of the part beyond an edge accept, and rules that follow the tree check.
 -- Assumes nothing.
-use Rattle.std.specs.Prelude.{◌≡◌, ℕ, ◌<◌, ◌≤◌, ◌||◌, ◌≢◌, ◌↔◌, List, [], ◌∷◌, ◌++◌, ◌==◌, nat_le, nat_lt}
+use Rattle.std.specs.Prelude.{◌≡◌, ℕ, ◌<◌, ◌≤◌, ◌||◌, ◌≢◌, ◌↔◌, List, [], ◌∷◌, ◌++◌, ◌==◌, nat_le, nat_lt, Err}
 use Rattle.std.proofs.Common.{sym, ◌∙◌, arith}
 use Rattle.sums.specs.theorems.TestLaws.{nor_iff, not_eq_iff, not-le-iff, not-lt-iff}
 use Rattle.tree_check.specs.Table.{Table, tips, nodes}
 use Rattle.tree_check.specs.Refusals.{Rule, refusal}
-use Rattle.tree_check.specs.theorems.RefusalLaws.{Kept, Numbered, accepted, kept_append, numbered_append}
+use Rattle.tree_check.specs.theorems.RefusalLaws.{Kept, Numbered, Named, named_refusal, accepted, kept_append, numbered_append}
 use Rattle.tree_check.specs.theorems.RefusalLaws.{refusal-first, refusal-kept}
+use Rattle.tree_check.specs.declared.refusals.Refusal.{Refusal}
+use Rattle.tree_check.specs.Numbers.{refusal_number, refusal_named, answer_by}
+use Rattle.tree_check.specs.theorems.NumberLaws.{answered_err, passed_on}
 use Rattle.tree_check.specs.IsTree.{IsTree}
 use Rattle.tree_check.specs.TreeOrder.{tree_order}
 use Rattle.tree_check.specs.theorems.TreeCheck.{tree_numbered, tree_kept, kept_tree}
@@ -28,6 +31,12 @@ module _ (t : Table) (rs : List Rule) where
   -- an accepted tree goes on to the rules that follow
   pub tree_accepted : IsTree t → refusal (tree_order t ++ rs) ≡ refusal rs
   tree_accepted g = refusal-kept (tree_order t) rs (tree_kept t g)
+
+-- the first broken rule's number, from an answer by it
+pub rules_passed : (rs : List Rule) → Named (λ k. refusal_number (refusal_named k)) rs → (r : Refusal) (number : ℕ)
+    → Err r ≡ answer_by (refusal rs) (tt {0}) → number ≡ refusal_number r → (refusal rs ≡ number) × (number ≢ 0)
+rules_passed rs named r number e =
+    passed_on (answered_err _ r _ (named_refusal (λ k. refusal_number (refusal_named k)) rs named) e)
 
 -- ---- what each accepts
 

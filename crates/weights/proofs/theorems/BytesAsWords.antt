@@ -4,7 +4,7 @@
 use Rattle.std.specs.Prelude.{◌≡◌, List, ℕ, ◌≤◌, length}
 use Rattle.std.proofs.Common.{sym, ◌∙◌, ap, subst, mod-eq_of_lt, arith}
 use Rattle.sums.specs.theorems.ListLaws.{in_front-length, in_front_at, in_front_later}
-use Rattle.tree_check.specs.Table.{Table, word, tips}
+use Rattle.tree_check.specs.Table.{Table, tips}
 use Rattle.tree_check.specs.IsTree.{IsTree}
 use Rattle.tree_check.specs.Refusals.{refusal}
 use Rattle.tree_check.specs.theorems.RefusalLaws.{if_accepted_lem}

@@ -7,7 +7,7 @@ use Rattle.tree_check.specs.Refusals.{refusal}
 use Rattle.counting.specs.Labels.{Labels, all}
 use Rattle.counting.specs.Kept.{kept}
 use Rattle.pair_check.specs.PairOrder.{cells_needed, pair_order}
-use Rattle.tree_pairs.specs.Crossings.{cell_of, crossed, after_crossings, after_all}
+use Rattle.tree_pairs.specs.Crossings.{cell_of, after_crossings, after_all}
 use Rattle.splits.specs.SplitAnswer.{split_answer}
 use Rattle.triplets.specs.TripletAnswer.{triplet_answer}
 use Rattle.claims.specs.ClaimAnswer.{claim_answer}

@@ -7,9 +7,6 @@ use Rattle.sums.specs.theorems.TestLaws.{some-true, some-false}
 use Rattle.asked_labels.specs.LabelOrder.{two_equal}
 use Rattle.asked_labels.proofs.asked.two_equal.Goals as goal
 
-pub loop-i-init : goal.loop-i-init
-loop-i-init c = (omega arith, λ k l. absurd (omega arith))
-
 pub returns-then-is_among : goal.returns-then-is_among
 unfolding two_equal
 returns-then-is_among c =
@@ -19,10 +16,10 @@ returns-then-is_among c =
 pub loop-i-preserved : goal.loop-i-preserved
 loop-i-preserved c =
     let l = c.loop-i in
-    (omega arith, below_more _ _ l.invariant.1 (sym c.is_among.ensures ∙ c.if-is_among.false))
+    below_more _ _ l.invariant (sym c.is_among.ensures ∙ c.if-is_among.false)
 
 pub returns : goal.returns
 unfolding two_equal
 returns c =
     let l = c.loop-i in
-    sym (some-false _ _ (λ k m. l.invariant.1 k (omega arith)))
+    sym (some-false _ _ (λ k m. l.invariant k (omega arith)))

@@ -1,11 +1,7 @@
 -- The invariant: the nodes below `v` have their bits.
 -- Assumes nothing.
-use Prim.Native.Nat.{◌-◌, ◌≤◌}
 use Rattle.canonical_copy.specs.lemmas.Staying.{StayBits}
 use Rattle.canonical_copy.proofs.branches.stay_bits.Given as goal
 
 abbrev pub invariant-loop-v : goal.invariant-loop-v
-invariant-loop-v l = (l.v ≤ l.m) × StayBits l.ranks l.branches l.k l.v l.bits
-
-abbrev pub decreases-loop-v : goal.decreases-loop-v
-decreases-loop-v l = l.m - l.v
+invariant-loop-v l = StayBits l.ranks l.branches l.k l.v l.bits

@@ -6,14 +6,14 @@ use native.Mathlib.Omega.{arith}
 use lib.ListN.{length, replicate, length-replicate, get_or-replicate}
 use Rattle.table_words.specs.Sizes.{node_room}
 use Rattle.canonical_copy.proofs.lemmas.RootedCopy.{parents_are, some-nodes, bits_small, count_few, too_short, chainable, ranks_ready, writable, copied_into}
-use Rattle.canonical_copy.proofs.copies.rooted_copy.Goals.{After-as_index-count}
+use Rattle.canonical_copy.proofs.copies.rooted_copy.Goals.{After-from-count}
 use Rattle.canonical_copy.proofs.copies.rooted_copy.Goals as goal
 
 -- ---- what is known there
 
-few : (c : After-as_index-count) → c.as_index-count.result ≤ node_room
+few : (c : After-from-count) → c.from-count.result ≤ node_room
 few c = count_few _ _ _ _ c.requires _ c.node_ranks-at.ensures _ c.lower.ensures _ _ c.branch_counts-branches.ensures
-    c.stay_bits-bits.ensures _ c.add_sizes.ensures _ c.as_index-count.ensures.0
+    c.stay_bits-bits.ensures _ c.add_sizes.ensures _ c.from-count.ensures
 
 pub node_ranks-at-requires : goal.node_ranks-at-requires
 node_ranks-at-requires c = omega (arith, some-nodes _ _ _ _ c.requires)
@@ -45,7 +45,7 @@ pub returns-then-copy-count : goal.returns-then-copy-count
 returns-then-copy-count c =
     record {
       into = λ y. too_short _ _ _ _ y _ c.node_ranks-at.ensures _ c.lower.ensures _ _ c.branch_counts-branches.ensures
-          c.stay_bits-bits.ensures _ c.add_sizes.ensures _ c.as_index-count.ensures.0 _ (omega (arith, c.if-copy-count.true));
+          c.stay_bits-bits.ensures _ c.add_sizes.ensures _ c.from-count.ensures _ (omega (arith, c.if-copy-count.true));
     }
 
 pub chain-requires : goal.chain-requires
@@ -53,15 +53,15 @@ chain-requires c =
     let y = c.requires in
     let e : c.as_word-heads.result ≡ length c.args.parents.now = omega (arith, c.as_word-heads.ensures, some-nodes _ _ _ _ y) in
     chainable _ _ _ _ y _ c.node_ranks-at.ensures _ c.lower.ensures _ _ c.branch_counts-branches.ensures
-    c.stay_bits-bits.ensures _ c.add_sizes.ensures _ c.as_index-count.ensures.0
+    c.stay_bits-bits.ensures _ c.add_sizes.ensures _ c.from-count.ensures
     (replicate node_room c.as_word-heads.result) (replicate node_room 0) (length-replicate {A = ℕ} node_room c.as_word-heads.result) (length-replicate {A = ℕ} node_room 0)
     (λ x l. get_or-replicate {A = ℕ} node_room x c.as_word-heads.result 0 l ∙ e)
 
 pub numbers-news-requires : goal.numbers-news-requires
 numbers-news-requires c =
     ranks_ready _ _ _ _ c.requires _ c.node_ranks-at.ensures _ c.lower.ensures _ _ c.branch_counts-branches.ensures
-    c.stay_bits-bits.ensures _ c.add_sizes.ensures _ c.as_index-count.ensures.0
-    _ _ c.chain.ensures _ c.as_index.ensures.0
+    c.stay_bits-bits.ensures _ c.add_sizes.ensures _ c.from-count.ensures
+    _ _ c.chain.ensures _ c.from.ensures
 
 pub parent_numbers-above-requires : goal.parent_numbers-above-requires
 parent_numbers-above-requires c = parents_are _ _ _ _ c.requires
@@ -69,21 +69,21 @@ parent_numbers-above-requires c = parents_are _ _ _ _ c.requires
 pub write_words-requires : goal.write_words-requires
 write_words-requires c =
     writable _ _ _ _ c.requires _ c.node_ranks-at.ensures _ c.lower.ensures _ _ c.branch_counts-branches.ensures
-    c.stay_bits-bits.ensures _ c.add_sizes.ensures _ c.as_index-count.ensures.0
-    _ _ c.chain.ensures _ c.as_index.ensures.0 _ _ c.numbers-news.ensures
+    c.stay_bits-bits.ensures _ c.add_sizes.ensures _ c.from-count.ensures
+    _ _ c.chain.ensures _ c.from.ensures _ _ c.numbers-news.ensures
     c.parent_numbers-above.ensures _ (omega (arith, c.if-copy-count.false))
 
 pub overflow_mul-result : goal.overflow_mul-result
-overflow_mul-result c = omega (arith, few (goal.at.overflow_mul-result c).After-as_index-count)
+overflow_mul-result c = omega (arith, few (goal.at.overflow_mul-result c).After-from-count)
 
 pub overflow_add-result : goal.overflow_add-result
-overflow_add-result c = omega (arith, few (goal.at.overflow_add-result c).After-as_index-count)
+overflow_add-result c = omega (arith, few (goal.at.overflow_add-result c).After-from-count)
 
 pub returns : goal.returns
 returns c =
     record {
       into = λ y. copied_into _ _ _ _ y _ c.node_ranks-at.ensures _ c.lower.ensures _ _ c.branch_counts-branches.ensures
-          c.stay_bits-bits.ensures _ c.add_sizes.ensures _ c.as_index-count.ensures.0
-          _ _ c.chain.ensures _ c.as_index.ensures.0 _ _ c.numbers-news.ensures
+          c.stay_bits-bits.ensures _ c.add_sizes.ensures _ c.from-count.ensures
+          _ _ c.chain.ensures _ c.from.ensures _ _ c.numbers-news.ensures
           c.parent_numbers-above.ensures _ _ (omega (arith, c.if-copy-count.false)) c.write_words.ensures _ (omega arith);
     }

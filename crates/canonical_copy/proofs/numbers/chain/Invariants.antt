@@ -5,7 +5,4 @@ use Rattle.canonical_copy.specs.lemmas.Chains.{Chainable, ChainsAre}
 use Rattle.canonical_copy.proofs.numbers.chain.Given as goal
 
 abbrev pub invariant-loop-v : goal.invariant-loop-v
-invariant-loop-v l = (1 ≤ l.v) × (l.v ≤ l.m) × Chainable l.lows l.m l.initial.heads l.initial.nexts × ChainsAre l.lows l.m l.v l.heads l.nexts
-
-abbrev pub decreases-loop-v : goal.decreases-loop-v
-decreases-loop-v l = l.v
+invariant-loop-v l = (1 ≤ l.v) × Chainable l.lows l.m l.initial.heads l.initial.nexts × ChainsAre l.lows l.m l.v l.heads l.nexts

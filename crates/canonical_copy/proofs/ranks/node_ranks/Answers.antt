@@ -8,22 +8,20 @@ use Rattle.canonical_copy.proofs.ranks.node_ranks.Goals.{else-y-lt-TIPS, then-y-
 use Rattle.canonical_copy.proofs.ranks.node_ranks.Goals as goal
 
 pub loop-v-init : goal.loop-v-init
-loop-v-init c = (omega arith, nodes_none _ _ _)
+loop-v-init c = nodes_none _ _ _
 
 pub loop-v-preserved : goal.loop-v-preserved
 loop-v-preserved c =
-    let w = c.as_index-y in
-    let l = c.loop-v in (
-      omega (arith, c.loop-v-test.true),
-      elim c.if-y-lt-TIPS.branch [
-        | then-y-lt-TIPS h ↦ rw h.at-is (nodes-take _ _ _ l.v _ (omega (arith, c.loop-v-test.true, c.requires)) l.invariant.1 w.result w.ensures.0 h.if-y-lt-TIPS.true)
-        | else-y-lt-TIPS h ↦ rw h.at-is (nodes_skip _ _ _ l.v _ (omega (arith, c.loop-v-test.true, c.requires)) l.invariant.1 w.result w.ensures.0
-            (omega (arith, h.if-y-lt-TIPS.false)))
-      ],
-    )
+    let w = c.from-y in
+    let l = c.loop-v in
+    elim c.if-y-lt-TIPS.branch [
+      | then-y-lt-TIPS h ↦ rw h.at-is (nodes-take _ _ _ l.v _ (omega (arith, c.loop-v-test.true, c.requires)) l.invariant w.result w.ensures h.if-y-lt-TIPS.true)
+      | else-y-lt-TIPS h ↦ rw h.at-is (nodes_skip _ _ _ l.v _ (omega (arith, c.loop-v-test.true, c.requires)) l.invariant w.result w.ensures
+          (omega (arith, h.if-y-lt-TIPS.false)))
+    ]
 
 pub returns : goal.returns
 returns c =
     let l = c.loop-v in
-    let e : l.v ≡ length c.args.labels.now = omega (arith, l.invariant.0, c.loop-v-test.false) in
-    rw e at l.invariant.1
+    let e : l.v ≡ length c.args.labels.now = omega (arith, c.loop-v-test.false) in
+    rw e at l.invariant

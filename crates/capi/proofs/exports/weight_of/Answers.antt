@@ -1,7 +1,7 @@
 -- Each kind has its weight.
 -- Assumes nothing.
 use lib.Ieee.{of_bits}
-use Rattle.capi.specs.lemmas.PlainLaws.{no_weight, full_weight, part-weight, other_weight}
+use Rattle.capi.specs.lemmas.WeightLaws.{no_weight, full_weight, part-weight, other_weight}
 use Rattle.capi.proofs.exports.weight_of.Goals as goal
 
 pub returns-then-kind-eq0 : goal.returns-then-kind-eq0

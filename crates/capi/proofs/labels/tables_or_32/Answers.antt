@@ -1,11 +1,12 @@
 -- The number of the tables, or what follows it.
 -- Assumes nothing.
-use mathlib.Core.Path.{◌∙◌, sym}
+use mathlib.Core.Path.{sym}
+use Rattle.pair_check.specs.lemmas.PairOutcomes.{pair_passed}
 use Rattle.capi.specs.lemmas.MarkLaws.{tables_first, tables_or_32}
 use Rattle.capi.proofs.labels.tables_or_32.Goals as goal
 
-pub returns-then-number-ne0 : goal.returns-then-number-ne0
-returns-then-number-ne0 c = tables_first _ _ _ _ (c.pair_refusal-number.ensures ∙ c.check_pair.ensures.1.number_told) c.if-number-ne0.true
+pub returns-in-Ok : goal.returns-in-Ok
+returns-in-Ok c = tables_or_32 _ _ (sym c.in-Ok.ensures.1.number_told)
 
-pub returns : goal.returns
-returns c = tables_or_32 _ _ (sym (c.pair_refusal-number.ensures ∙ c.check_pair.ensures.1.number_told) ∙ c.if-number-ne0.false)
+pub returns-in-Err : goal.returns-in-Err
+returns-in-Err c = let h = pair_passed _ _ _ _ c.in-Err.ensures c.from.ensures in tables_first _ _ _ _ h.0 h.1

@@ -44,7 +44,7 @@ pub overflow_add-base : goal.overflow_add-base
 overflow_add-base c = omega (arith, (sums c).base_is, base_le _ _ _ _ _ _ _ c.requires)
 
 pub loop-i-init : goal.loop-i-init
-loop-i-init c = (omega arith, rows_none _ _ _)
+loop-i-init c = rows_none _ _ _
 
 pub row_terms-row-requires : goal.row_terms-row-requires
 row_terms-row-requires c =
@@ -53,29 +53,24 @@ row_terms-row-requires c =
 pub overflow_add-pairs : goal.overflow_add-pairs
 overflow_add-pairs c =
     let b = c.requires.block in
-    omega (arith, b.rows_few, b.columns_few, c.loop-i.invariant.1.pairs_le, c.row_terms-row.ensures.pairs_le)
+    omega (arith, b.rows_few, b.columns_few, c.loop-i.invariant.pairs_le, c.row_terms-row.ensures.pairs_le)
 
 pub overflow_add-plus : goal.overflow_add-plus
 overflow_add-plus c =
     let b = c.requires.block in
-    omega (arith, b.rows_few, b.columns_few, c.loop-i.invariant.1.plus_le, c.row_terms-row.ensures.plus_le)
+    omega (arith, b.rows_few, b.columns_few, c.loop-i.invariant.plus_le, c.row_terms-row.ensures.plus_le)
 
 pub overflow_add-minus : goal.overflow_add-minus
 overflow_add-minus c =
     let b = c.requires.block in
-    omega (arith, b.rows_few, b.columns_few, c.loop-i.invariant.1.minus_le, c.row_terms-row.ensures.minus_le)
-
-pub overflow_add-i : goal.overflow_add-i
-overflow_add-i c =
-    omega (arith, c.requires.block.rows_few, c.loop-i-test.true)
+    omega (arith, b.rows_few, b.columns_few, c.loop-i.invariant.minus_le, c.row_terms-row.ensures.minus_le)
 
 pub loop-i-preserved : goal.loop-i-preserved
 loop-i-preserved c =
-    let b = c.requires.block in
-    (omega arith, rows_next _ _ _ _ _ _ _ _ _ _ b.columns_few c.loop-i.invariant.1 c.row_terms-row.ensures)
+    rows_next _ _ _ _ _ _ _ _ _ _ c.requires.block.columns_few c.loop-i.invariant c.row_terms-row.ensures
 
 pub returns : goal.returns
 returns c =
     let l = c.loop-i in
     let e : l.i ≡ c.args.rows = omega arith in
-    rw e at l.invariant.1
+    rw e at l.invariant

@@ -10,7 +10,7 @@ use Rattle.sums.specs.theorems.Products.{product_le}
 use Rattle.claims.specs.lemmas.Block.{block_cell}
 use Rattle.claims.specs.lemmas.CellSums.{row_none, row_next, row_skip, row_same}
 use Rattle.claims.specs.lemmas.BlockCells.{row_inside, cell_room, cell_gives}
-use Rattle.claims.proofs.cells.row_terms.Goals.{else-t-ne0, then-t-ne0, After-as_count-t, In-loop-j}
+use Rattle.claims.proofs.cells.row_terms.Goals.{else-t-ne0, then-t-ne0, After-from-t, In-loop-j}
 use Rattle.claims.proofs.cells.row_terms.Goals as goal
 
 -- ---- what is known there
@@ -21,11 +21,11 @@ in_cells c =
     omega (arith, c.requires.summed.0.block.inside, q)
 
 -- the cell that was read
-cell : (c : After-as_count-t)
+cell : (c : After-from-t)
     → let p = c.args in
-    c.as_count-t.result ≡ block_cell p.cells.now p.columns p.i c.loop-j.j
+    c.from-t.result ≡ block_cell p.cells.now p.columns p.i c.loop-j.j
 cell c =
-    c.as_count-t.ensures.0 ∙ ap (λ (k : ℕ). word c.args.cells.now k) c.loop-j.invariant.1
+    c.from-t.ensures ∙ ap (λ (k : ℕ). word c.args.cells.now k) c.loop-j.invariant.0
 
 -- ---- the needs
 
@@ -49,7 +49,7 @@ overflow_mul-k c =
     omega (arith, product_le tips_most tips_most c.args.i c.args.columns (omega (arith, b.rows_few)) b.columns_few)
 
 pub loop-j-init : goal.loop-j-init
-loop-j-init c = (omega arith, omega arith, row_none _ _ _ _)
+loop-j-init c = (omega arith, row_none _ _ _ _)
 
 pub offset_bounds-cells-k : goal.offset_bounds-cells-k
 offset_bounds-cells-k c = omega (arith, in_cells c)
@@ -72,7 +72,7 @@ bounds-down-j c = omega (arith, c.requires.summed.0.downs_long)
 pub cell_terms-cell-requires : goal.cell_terms-cell-requires
 cell_terms-cell-requires c =
     let p = c.requires in
-    cell_room _ _ _ _ _ _ _ p.summed.0 _ _ p.summed.1 c.loop-j-test.true _ _ _ _ (cell (goal.at.cell_terms-cell-requires c).After-as_count-t) p.overall
+    cell_room _ _ _ _ _ _ _ p.summed.0 _ _ p.summed.1 c.loop-j-test.true _ _ _ _ (cell (goal.at.cell_terms-cell-requires c).After-from-t) p.overall
     (omega arith)
 
 pub overflow_add-pairs : goal.overflow_add-pairs
@@ -80,7 +80,7 @@ overflow_add-pairs c =
     omega (
       arith,
       c.requires.summed.0.block.columns_few,
-      c.loop-j.invariant.2.pairs_le,
+      c.loop-j.invariant.1.pairs_le,
       c.cell_terms-cell.ensures.pairs_le,
     )
 
@@ -89,7 +89,7 @@ overflow_add-plus c =
     omega (
       arith,
       c.requires.summed.0.block.columns_few,
-      c.loop-j.invariant.2.plus_le,
+      c.loop-j.invariant.1.plus_le,
       c.cell_terms-cell.ensures.plus_le,
     )
 
@@ -98,7 +98,7 @@ overflow_add-minus c =
     omega (
       arith,
       c.requires.summed.0.block.columns_few,
-      c.loop-j.invariant.2.minus_le,
+      c.loop-j.invariant.1.minus_le,
       c.cell_terms-cell.ensures.minus_le,
     )
 
@@ -117,15 +117,14 @@ loop-j-preserved c =
     let p = c.requires in
     let j = c.loop-j-test.true in (
       omega arith,
-      omega arith,
       elim c.if-t-ne0.branch [
         | then-t-ne0 w ↦
             let gives =
-            cell_gives _ _ _ _ _ _ _ p.summed.0 _ _ p.summed.1 j _ _ _ _ (cell (goal.at.loop-j-preserved c).After-as_count-t) p.overall _ _ _ w.cell_terms-cell.ensures in
-            row_same _ _ _ _ _ _ _ _ (row_next _ _ _ _ _ _ _ _ l.invariant.2 _ _ _ gives) _ _ _ w.pairs-is w.plus-is w.minus-is
+            cell_gives _ _ _ _ _ _ _ p.summed.0 _ _ p.summed.1 j _ _ _ _ (cell (goal.at.loop-j-preserved c).After-from-t) p.overall _ _ _ w.cell_terms-cell.ensures in
+            row_same _ _ _ _ _ _ _ _ (row_next _ _ _ _ _ _ _ _ l.invariant.1 _ _ _ gives) _ _ _ w.pairs-is w.plus-is w.minus-is
         | else-t-ne0 w ↦
-            let none = sym (cell (goal.at.loop-j-preserved c).After-as_count-t) ∙ w.if-t-ne0.false in
-            row_same _ _ _ _ _ _ _ _ (row_skip _ _ _ _ _ _ _ _ l.invariant.2 none) _ _ _ w.pairs-is w.plus-is w.minus-is
+            let none = sym (cell (goal.at.loop-j-preserved c).After-from-t) ∙ w.if-t-ne0.false in
+            row_same _ _ _ _ _ _ _ _ (row_skip _ _ _ _ _ _ _ _ l.invariant.1 none) _ _ _ w.pairs-is w.plus-is w.minus-is
       ],
     )
 
@@ -133,4 +132,4 @@ pub returns : goal.returns
 returns c =
     let l = c.loop-j in
     let e : l.j ≡ c.args.columns = omega arith in
-    rw e at l.invariant.2
+    rw e at l.invariant.1

@@ -2,15 +2,10 @@
 -- cell in that column.
 -- Assumes nothing.
 use mathlib.Core.Path.{◌≡◌}
-use Prim.Native.Nat.{◌+◌, ◌*◌, ◌-◌, ◌≤◌}
+use Prim.Native.Nat.{◌+◌, ◌*◌}
 use Rattle.claims.specs.lemmas.Block.{block_cell}
 use Rattle.claims.specs.lemmas.CellSums.{RowTerms}
 use Rattle.claims.proofs.cells.row_terms.Given as goal
 
 abbrev pub invariant-loop-j : goal.invariant-loop-j
-invariant-loop-j l = (l.j ≤ l.columns)
-    × (l.k ≡ l.i * l.columns + l.j)
-    × RowTerms l.rows l.columns (block_cell l.cells l.columns) l.i l.j l.pairs l.plus l.minus
-
-abbrev pub decreases-loop-j : goal.decreases-loop-j
-decreases-loop-j l = l.columns - l.j
+invariant-loop-j l = (l.k ≡ l.i * l.columns + l.j) × RowTerms l.rows l.columns (block_cell l.cells l.columns) l.i l.j l.pairs l.plus l.minus

@@ -11,32 +11,32 @@ use Rattle.sums.specs.theorems.Products.{product_le}
 use Rattle.claims.specs.lemmas.Filled.{length-filled}
 use Rattle.claims.specs.lemmas.LineDots.{line_of, Dotted, dotted_none, add_room, dotted_next}
 use Rattle.claims.specs.lemmas.LineDots.{dotted_skip, terms_next, terms_skip, dot_squares-le, dots_low, dot_squares_at}
-use Rattle.claims.proofs.dots.line_dots.Goals.{else-t-ne0, then-t-ne0, After-as_count-t, After-loop-a, At-loop-a}
+use Rattle.claims.proofs.dots.line_dots.Goals.{else-t-ne0, then-t-ne0, After-from-t, After-loop, At-loop}
 use Rattle.claims.proofs.dots.line_dots.Goals as goal
 
-long : (c : At-loop-a) → c.args.i ≤ length c.loop-a.dots
+long : (c : At-loop) → c.args.i ≤ length c.loop.dots
 long c = omega (
   arith,
-  c.loop-a.invariant.3,
+  c.loop.auto.dots,
   c.requires.1,
   length-filled _ _ c.args.dots.now _ c.clear.ensures,
 )
 
 -- the cell that was read
-cell : (c : After-as_count-t)
+cell : (c : After-from-t)
     → let p = c.args in
-    c.as_count-t.result ≡ line_of p.cells.now p.gap p.step p.i c.loop-a.a
+    c.from-t.result ≡ line_of p.cells.now p.gap p.step p.i c.loop.counter
 cell c =
-    c.as_count-t.ensures.0 ∙ ap (λ (k : ℕ). word c.args.cells.now k) c.loop-a.invariant.1
+    c.from-t.ensures ∙ ap (λ (k : ℕ). word c.args.cells.now k) c.loop.invariant.0
 
 -- the dot products over all cells
-dotted : (c : After-loop-a)
+dotted : (c : After-loop)
     → let p = c.args in
-    Dotted p.cells.now c.loop-a.dots p.gap p.step p.i p.len
+    Dotted p.cells.now c.loop.dots p.gap p.step p.i p.len
 dotted c =
-    let l = c.loop-a in
-    let e : l.a ≡ c.args.len = omega arith in
-    rw e at l.invariant.4
+    let l = c.loop in
+    let e : l.counter ≡ c.args.len = omega arith in
+    rw e at l.invariant.2
 
 pub clear-requires : goal.clear-requires
 clear-requires c = c.requires.1
@@ -46,13 +46,11 @@ overflow_mul-k c =
     let h = c.requires.0 in
     omega (arith, product_le tips_most tips_most c.args.i c.args.gap (omega (arith, h.count_few)) h.gap_few)
 
-pub loop-a-init : goal.loop-a-init
+pub loop-init : goal.loop-init
 unfolding sum
-loop-a-init c = (
+loop-init c = (
   omega arith,
   omega arith,
-  omega arith,
-  refl,
   dotted_none _ c.args.dots.now _ _ _ _ c.requires.1 c.clear.ensures,
   refl,
   omega arith,
@@ -60,23 +58,23 @@ loop-a-init c = (
 
 pub offset_bounds-cells-k : goal.offset_bounds-cells-k
 offset_bounds-cells-k c =
-    omega (arith, c.requires.0.inside c.args.i c.loop-a.a (omega arith) c.loop-a-test.true)
+    omega (arith, c.requires.0.inside c.args.i c.loop.counter (omega arith) c.loop-test.true)
 
 pub bounds-cells-k : goal.bounds-cells-k
 bounds-cells-k c =
-    omega (arith, c.requires.0.inside c.args.i c.loop-a.a (omega arith) c.loop-a-test.true)
+    omega (arith, c.requires.0.inside c.args.i c.loop.counter (omega arith) c.loop-test.true)
 
 pub add_line-terms-requires : goal.add_line-terms-requires
 add_line-terms-requires c =
-    let a = c.loop-a-test.true in
+    let a = c.loop-test.true in
     let h = c.requires.0 in
-    rw c.loop-a.invariant.2
-    (add_room _ _ _ _ _ h _ _ (omega arith) a _ (cell (goal.at.add_line-terms-requires c).After-as_count-t) _ (long (goal.at.add_line-terms-requires c).At-loop-a) c.loop-a.invariant.4)
+    rw c.loop.invariant.1
+    (add_room _ _ _ _ _ h _ _ (omega arith) a _ (cell (goal.at.add_line-terms-requires c).After-from-t) _ (long (goal.at.add_line-terms-requires c).At-loop) c.loop.invariant.2)
 
 pub overflow_add-terms : goal.overflow_add-terms
 overflow_add-terms c =
     let h = c.requires.0 in
-    omega (arith, h.count_few, h.len_few, c.loop-a.invariant.6, c.add_line-terms.ensures.squares.1)
+    omega (arith, h.count_few, h.len_few, c.loop.invariant.4, c.add_line-terms.ensures.squares.1)
 
 pub overflow_add-k : goal.overflow_add-k
 overflow_add-k c =
@@ -85,7 +83,7 @@ overflow_add-k c =
       arith,
       h.step_few,
       product_le tips_most tips_most c.args.i c.args.gap (omega (arith, h.count_few)) h.gap_few,
-      product_le tips_most tips_most c.loop-a.a c.args.step (omega (arith, h.len_few)) h.step_few,
+      product_le tips_most tips_most c.loop.counter c.args.step (omega (arith, h.len_few)) h.step_few,
     )
 
 pub overflow_add-at : goal.overflow_add-at
@@ -94,48 +92,44 @@ overflow_add-at c =
     omega (
       arith,
       h.step_few,
-      product_le tips_most tips_most c.loop-a.a c.args.step (omega (arith, h.len_few)) h.step_few,
+      product_le tips_most tips_most c.loop.counter c.args.step (omega (arith, h.len_few)) h.step_few,
     )
 
-pub loop-a-preserved : goal.loop-a-preserved
-loop-a-preserved c =
-    let v = c.loop-a.invariant in
+pub loop-preserved : goal.loop-preserved
+loop-preserved c =
+    let v = c.loop.invariant in
     let h = c.requires.0 in
-    let a = c.loop-a-test.true in
+    let a = c.loop-test.true in
     let i : c.args.i < c.args.i + 1 = omega arith in
     elim c.if-t-ne0.branch [
-      | then-t-ne0 w ↦ let e = w.dots-is ∙ rw v.2 at w.add_line-terms.ensures.dots_added in (
+      | then-t-ne0 w ↦ let e = w.dots-is ∙ rw v.1 at w.add_line-terms.ensures.dots_added in (
         omega arith,
         omega arith,
-        omega arith,
-        length-filled _ _ c.loop-a.dots _ e ∙ v.3,
-        dotted_next _ _ _ _ _ h _ _ i a _ (cell (goal.at.loop-a-preserved c).After-as_count-t) _ (long (goal.at.loop-a-preserved c).At-loop-a) v.4 _ e,
-        w.terms-is ∙ terms_next _ _ _ _ _ h _ _ i a _ (cell (goal.at.loop-a-preserved c).After-as_count-t) _ _ v.5 (rw v.2 at w.add_line-terms.ensures.squares.0),
-        omega (arith, w.terms-is, w.add_line-terms.ensures.squares.1, v.6, h.count_few),
+        dotted_next _ _ _ _ _ h _ _ i a _ (cell (goal.at.loop-preserved c).After-from-t) _ (long (goal.at.loop-preserved c).At-loop) v.2 _ e,
+        w.terms-is ∙ terms_next _ _ _ _ _ h _ _ i a _ (cell (goal.at.loop-preserved c).After-from-t) _ _ v.3 (rw v.1 at w.add_line-terms.ensures.squares.0),
+        omega (arith, w.terms-is, w.add_line-terms.ensures.squares.1, v.4, h.count_few),
       )
       | else-t-ne0 w ↦ (
         omega arith,
         omega arith,
-        omega arith,
-        ap length w.dots-is ∙ v.3,
-        rw w.dots-is (dotted_skip _ _ _ _ _ h _ _ i a _ (cell (goal.at.loop-a-preserved c).After-as_count-t) _ (long (goal.at.loop-a-preserved c).At-loop-a) v.4 w.if-t-ne0.false),
-        w.terms-is ∙ terms_skip _ _ _ _ _ h _ _ i a _ (cell (goal.at.loop-a-preserved c).After-as_count-t) _ w.if-t-ne0.false v.5,
-        omega (arith, w.terms-is, v.6),
+        rw w.dots-is (dotted_skip _ _ _ _ _ h _ _ i a _ (cell (goal.at.loop-preserved c).After-from-t) _ (long (goal.at.loop-preserved c).At-loop) v.2 w.if-t-ne0.false),
+        w.terms-is ∙ terms_skip _ _ _ _ _ h _ _ i a _ (cell (goal.at.loop-preserved c).After-from-t) _ w.if-t-ne0.false v.3,
+        omega (arith, w.terms-is, v.4),
       )
     ]
 
 pub total_squares-squares-requires : goal.total_squares-squares-requires
 total_squares-squares-requires c =
-    dots_low _ _ _ _ _ c.requires.0 _ (dotted c) (long (goal.at.total_squares-squares-requires c).At-loop-a)
+    dots_low _ _ _ _ _ c.requires.0 _ (dotted c) (long (goal.at.total_squares-squares-requires c).At-loop)
 
 pub returns : goal.returns
 returns c =
-    let l = c.loop-a in
+    let l = c.loop in
     let h = c.requires.0 in
-    let n : l.a ≡ c.args.len = omega arith in
-    let squares = c.total_squares-squares.ensures ∙ dot_squares_at _ _ _ _ _ h _ (dotted (goal.at.returns c).After-loop-a) in (
+    let n : l.counter ≡ c.args.len = omega arith in
+    let squares = c.total_squares-squares.ensures ∙ dot_squares_at _ _ _ _ _ h _ (dotted (goal.at.returns c).After-loop) in (
       squares,
-      rw n at l.invariant.5,
+      rw n at l.invariant.3,
       omega (arith, squares, dot_squares-le _ _ _ _ _ h),
-      omega (arith, l.invariant.6, h.len_few),
+      omega (arith, l.invariant.4, h.len_few),
     )

@@ -1,6 +1,6 @@
 -- What is known where the search needs a hint.
 -- Assumes nothing.
-use mathlib.Core.Path.{◌≡◌, refl, ◌∙◌}
+use mathlib.Core.Path.{◌≡◌}
 use native.Mathlib.Omega.{arith}
 use lib.ListN.{length}
 use Rattle.claims.specs.lemmas.NodeCodes.{part_inside}
@@ -9,7 +9,7 @@ use Rattle.claims.proofs.node_sums.tree_sum.Goals as goal
 
 pub loop-v-init : goal.loop-v-init
 loop-v-init c =
-    (omega arith, refl, no_node _ _ _ _ _ _ _ c.requires, omega arith)
+    (no_node _ _ _ _ _ _ _ c.requires, omega arith)
 
 pub offset_bounds-starts-v : goal.offset_bounds-starts-v
 offset_bounds-starts-v c =
@@ -49,35 +49,21 @@ slice_bounds-node_sum-end c =
 
 pub node_sum-total-requires : goal.node_sum-total-requires
 node_sum-total-requires c =
-    rw c.loop-v.invariant.1 (node_sizes _ _ _ _ _ _ _ c.requires _ c.loop-v-test.true)
+    rw c.loop-v.auto.sizes (node_sizes _ _ _ _ _ _ _ c.requires _ c.loop-v-test.true)
 
 pub overflow_add-total : goal.overflow_add-total
 overflow_add-total c =
     omega (
       arith,
       (next_node _ _ _ _ _ _ _ c.requires _ c.loop-v-test.true _ _
-          c.loop-v.invariant.2 c.node_sum-total.ensures).1,
+          c.loop-v.invariant.0 c.node_sum-total.ensures).1,
     )
-
-pub overflow_add-v : goal.overflow_add-v
-overflow_add-v c =
-    omega (arith, c.requires.lists.parents.few, c.loop-v-test.true)
-
-pub loop-v-smaller : goal.loop-v-smaller
-loop-v-smaller c =
-    omega (arith, c.loop-v-test.true)
 
 pub loop-v-preserved : goal.loop-v-preserved
 loop-v-preserved c =
-    let q = next_node _ _ _ _ _ _ _ c.requires _ c.loop-v-test.true _ _
-    c.loop-v.invariant.2 c.node_sum-total.ensures in (
-      omega (arith, c.loop-v-test.true),
-      c.node_sum-total.auto.sizes ∙ c.loop-v.invariant.1,
-      q.0,
-      q.1,
-    )
+    next_node _ _ _ _ _ _ _ c.requires _ c.loop-v-test.true _ _ c.loop-v.invariant.0 c.node_sum-total.ensures
 
 pub returns : goal.returns
 returns c =
-    let e : c.loop-v.v ≡ length c.args.parents.now = omega (arith, c.loop-v.invariant.0, c.loop-v-test.false) in
-    (rw e at c.loop-v.invariant.2, c.loop-v.invariant.3)
+    let e : c.loop-v.v ≡ length c.args.parents.now = omega (arith, c.loop-v.auto.v-end, c.loop-v-test.false) in
+    (rw e at c.loop-v.invariant.0, c.loop-v.invariant.1)

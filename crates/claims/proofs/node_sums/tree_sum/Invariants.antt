@@ -1,15 +1,10 @@
 -- The invariant: the nodes before `v` are summed.
 -- Assumes nothing.
-use Prim.Native.Nat.{◌-◌, ◌≤◌}
+use Prim.Native.Nat.{◌≤◌}
 use mathlib.Core.Path.{◌≡◌}
-use lib.ListN.{length}
 use Rattle.sums.specs.Sum.{sum}
 use Rattle.claims.specs.lemmas.SumsByNode.{node_sum}
 use Rattle.claims.proofs.node_sums.tree_sum.Given as goal
 
 abbrev pub invariant-loop-v : goal.invariant-loop-v
-invariant-loop-v l = (l.v ≤ length l.parents) × (length l.sizes ≡ length l.initial.sizes) × (l.total ≡ sum l.v (node_sum l.work l.step l.n l.parents))
-    × (l.total ≤ 699170560)
-
-abbrev pub decreases-loop-v : goal.decreases-loop-v
-decreases-loop-v l = length l.parents - l.v
+invariant-loop-v l = (l.total ≡ sum l.v (node_sum l.work l.step l.n l.parents)) × (l.total ≤ 699170560)

@@ -31,7 +31,7 @@ module _ (c : After-struct_known-1) where
       (c.loop-v.s2 + c.node_row-row.result.s2) (c.loop-v.s3 + c.node_row-row.result.s3))
   summed =
       let h = c.requires.pairs in
-      summed_next _ _ _ _ _ c.loop-v.invariant.1 _ _
+      summed_next _ _ _ _ _ c.loop-v.invariant.0 _ _
       (node_s2_lem _ _ _ _ _ _ _ _ _ _ h _ c.loop-v-test.true _ c.node_row-row.ensures.0)
       (node_s3_lem _ _ _ _ _ _ _ _ _ _ h _ c.loop-v-test.true _ c.node_row-row.ensures.1)
 
@@ -58,7 +58,7 @@ pub slice_bounds-inner_nodes-end-2 : goal.slice_bounds-inner_nodes-end-2
 slice_bounds-inner_nodes-end-2 c = refl
 
 pub loop-v-init : goal.loop-v-init
-loop-v-init c = (omega arith, summed_none _ _, refl, refl, refl, refl, refl, refl)
+loop-v-init c = (summed_none _ _, refl, refl, refl, refl, refl)
 
 pub offset_bounds-first_starts-v : goal.offset_bounds-first_starts-v
 offset_bounds-first_starts-v c =
@@ -105,25 +105,25 @@ pub slice_bounds-node_row-end-in-loop-v : goal.slice_bounds-node_row-end-in-loop
 slice_bounds-node_row-end-in-loop-v c = sym c.inner_nodes-count.auto.inner
 
 pub slice_bounds-node_row-end-in-loop-v-2 : goal.slice_bounds-node_row-end-in-loop-v-2
-slice_bounds-node_row-end-in-loop-v-2 c = sym c.loop-v.invariant.3
+slice_bounds-node_row-end-in-loop-v-2 c = sym c.loop-v.invariant.1
 
 pub slice_bounds-node_row-end-in-loop-v-3 : goal.slice_bounds-node_row-end-in-loop-v-3
-slice_bounds-node_row-end-in-loop-v-3 c = sym c.loop-v.invariant.4
+slice_bounds-node_row-end-in-loop-v-3 c = sym c.loop-v.invariant.2
 
 pub slice_bounds-node_row-end-in-loop-v-4 : goal.slice_bounds-node_row-end-in-loop-v-4
-slice_bounds-node_row-end-in-loop-v-4 c = sym c.loop-v.invariant.5
+slice_bounds-node_row-end-in-loop-v-4 c = sym c.loop-v.invariant.3
 
 pub slice_bounds-node_row-end-in-loop-v-5 : goal.slice_bounds-node_row-end-in-loop-v-5
-slice_bounds-node_row-end-in-loop-v-5 c = sym c.loop-v.invariant.6
+slice_bounds-node_row-end-in-loop-v-5 c = sym c.loop-v.invariant.4
 
 pub slice_bounds-node_row-end-in-loop-v-6 : goal.slice_bounds-node_row-end-in-loop-v-6
-slice_bounds-node_row-end-in-loop-v-6 c = sym c.loop-v.invariant.7
+slice_bounds-node_row-end-in-loop-v-6 c = sym c.loop-v.invariant.5
 
 pub node_row-row-requires : goal.node_row-row-requires
 node_row-row-requires c =
     let h = c.requires.pairs in
     let n = inner (goal.at.node_row-row-requires c).After-inner-2-1 in
-    let i = c.loop-v.invariant in record { node_row_room = node_room_lem _ _ _ _ _ _ _ _ _ _ h _ c.loop-v-test.true _ (omega (arith, i.2, c.requires.room)); scratch = record { sums_long = omega (arith, i.3); totals_long = omega (arith, i.4); down_long = omega (arith, i.5); along_long = omega (arith, i.6); dots_long = omega (arith, i.7) }; inner_nodes = (n, omega (arith, n.few, h.second.parents.few, c.inner_nodes-count.auto.inner)) }
+    let i = c.loop-v.invariant in record { node_row_room = node_room_lem _ _ _ _ _ _ _ _ _ _ h _ c.loop-v-test.true _ (omega (arith, c.loop-v.auto.block, c.requires.room)); scratch = record { sums_long = omega (arith, i.1); totals_long = omega (arith, i.2); down_long = omega (arith, i.3); along_long = omega (arith, i.4); dots_long = omega (arith, i.5) }; inner_nodes = (n, omega (arith, n.few, h.second.parents.few, c.inner_nodes-count.auto.inner)) }
 
 pub overflow_add-s2 : goal.overflow_add-s2
 overflow_add-s2 c = omega (arith, low c)
@@ -131,28 +131,18 @@ overflow_add-s2 c = omega (arith, low c)
 pub overflow_add-s3 : goal.overflow_add-s3
 overflow_add-s3 c = omega (arith, low (goal.at.overflow_add-s3 c).After-struct_known-1)
 
-pub overflow_add-v : goal.overflow_add-v
-overflow_add-v c =
-    omega (arith, c.requires.pairs.first.parents.few, c.loop-v-test.true)
-
-pub loop-v-smaller : goal.loop-v-smaller
-loop-v-smaller c = omega (arith, c.loop-v-test.true)
-
 pub loop-v-preserved : goal.loop-v-preserved
 loop-v-preserved c =
     let i = c.loop-v.invariant in
     let kept = c.node_row-row.auto in (
-      omega (arith, c.loop-v-test.true),
       summed (goal.at.loop-v-preserved c).After-struct_known-1,
-      kept.block ∙ i.2,
-      kept.sums ∙ i.3,
-      kept.totals ∙ i.4,
-      kept.down ∙ i.5,
-      kept.along ∙ i.6,
-      kept.dots ∙ i.7,
+      kept.sums ∙ i.1,
+      kept.totals ∙ i.2,
+      kept.down ∙ i.3,
+      kept.along ∙ i.4,
+      kept.dots ∙ i.5,
     )
 
 pub returns : goal.returns
 returns c =
-    let i = c.loop-v.invariant in
-    summed-all _ _ _ _ _ i.1 _ i.0 (omega (arith, c.loop-v-test.false))
+    summed-all _ _ _ _ _ c.loop-v.invariant.0 _ c.loop-v.auto.v-end (omega (arith, c.loop-v-test.false))

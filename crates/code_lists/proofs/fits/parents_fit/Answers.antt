@@ -12,25 +12,18 @@ returns-then-parents-lt1 c = sym (none_unfit _ c.if-parents-lt1.true)
 pub returns-then-parents-gt-MOST_NODES : goal.returns-then-parents-gt-MOST_NODES
 returns-then-parents-gt-MOST_NODES c = sym (many_unfit _ c.if-parents-gt-MOST_NODES.true)
 
-pub loop-i-init : goal.loop-i-init
-loop-i-init c = (omega arith, omega (arith, c.if-parents-lt1.false), λ k l m. absurd (omega arith))
-
-pub returns-then-i-as_index : goal.returns-then-i-as_index
-returns-then-i-as_index c =
-    sym (late_unfit _ c.loop-i.i c.loop-i.invariant.0 c.loop-i-test.true
-    (omega (arith, c.as_index.ensures.0, c.if-i-as_index.true)))
+pub returns-then-i-from : goal.returns-then-i-from
+returns-then-i-from c =
+    sym (late_unfit _ c.loop-i.i c.loop-i.auto.i c.loop-i-test.true
+    (omega (arith, c.from.ensures, c.if-i-from.true)))
 
 pub loop-i-preserved : goal.loop-i-preserved
 loop-i-preserved c =
-    let l = c.loop-i in (
-      omega (arith, l.invariant.0),
-      omega (arith, c.loop-i-test.true),
-      λ k a b.
-          elim (ℕ_discrete k l.i) [
-            | yes e ↦ rw e (omega (arith, c.as_index.ensures.0, c.if-i-as_index.false))
-            | no d ↦ l.invariant.2 k a (omega (arith, d))
-          ],
-    )
+    λ k a b.
+    elim (ℕ_discrete k c.loop-i.i) [
+      | yes e ↦ rw e (omega (arith, c.from.ensures, c.if-i-from.false))
+      | no d ↦ c.loop-i.invariant k a (omega (arith, d))
+    ]
 
 pub returns : goal.returns
 returns c =
@@ -38,5 +31,5 @@ returns c =
     sym (parents_fit_lem _ (record {
       some = omega (arith, c.if-parents-lt1.false);
       few = omega (arith, c.if-parents-gt-MOST_NODES.false);
-      before = λ k a b. l.invariant.2 k a (omega (arith, c.loop-i-test.false));
+      before = λ k a b. l.invariant k a (omega (arith, c.loop-i-test.false));
     }))

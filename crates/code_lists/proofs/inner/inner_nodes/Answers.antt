@@ -19,14 +19,14 @@ codes : (c : After-codes_between-is_inner)
     c.codes_between-is_inner.result ≡ word starts (suc (v - 1)) - word starts (v - 1))
 codes c =
     let v = c.loop-v.v in
-    let e : suc (v - 1) ≡ v = omega (arith, c.loop-v.invariant.0) in
+    let e : suc (v - 1) ≡ v = omega arith in
     rw e c.codes_between-is_inner.ensures
 
 -- there is a cell for it
 room : (c : After-codes_between-is_inner)
     → (let l = c.loop-v in l.count < length l.inner)
 room c =
-    let h = c.loop-v.invariant.2 in
+    let h = c.loop-v.invariant.1 in
     omega (
       arith,
       h.long,
@@ -34,14 +34,14 @@ room c =
       inner_le c.args.starts.now (c.loop-v.v - 1),
       c.if-inner-starts.false,
       c.loop-v-test.true,
-      c.loop-v.invariant.0,
+      c.loop-v.auto.v,
     )
 
 pub returns-then-inner-starts : goal.returns-then-inner-starts
 returns-then-inner-starts c = inner_none _ _ c.if-inner-starts.true
 
 pub loop-v-init : goal.loop-v-init
-loop-v-init c = (omega arith, omega arith, no_inner _ _)
+loop-v-init c = (omega arith, no_inner _ _)
 
 pub offset_bounds-inner-count : goal.offset_bounds-inner-count
 offset_bounds-inner-count c = omega (arith, room (goal.at.offset_bounds-inner-count c).After-codes_between-is_inner)
@@ -55,17 +55,15 @@ overflow_add-count c = omega (arith, room (goal.at.overflow_add-count c).After-c
 pub loop-v-preserved : goal.loop-v-preserved
 loop-v-preserved c =
     let l = c.loop-v in
-    let h = l.invariant.2 in
-    let m = c.loop-v-test.true in
+    let h = l.invariant.1 in
     let d = codes (goal.at.loop-v-preserved c).After-codes_between-is_inner in
-    let e : l.v + 1 - 1 ≡ suc (l.v - 1) = omega (arith, l.invariant.0) in (
-      omega arith,
-      omega (arith, l.invariant.0, m),
+    let e : l.v + 1 - 1 ≡ suc (l.v - 1) = omega arith in (
+      omega (arith, c.loop-v-test.true),
       rw e (elim c.if-is_inner.branch [ then-is_inner w ↦ rw (w.inner-is, w.count-is) (inner_next _ _ _ _ _ h (omega (arith, d, w.if-is_inner.true)) (room (goal.at.loop-v-preserved c).After-codes_between-is_inner)) | else-is_inner w ↦ rw (w.inner-is, w.count-is) (inner_skip _ _ _ _ _ h (omega (arith, d, w.if-is_inner.false))) ]),
     )
 
 pub returns : goal.returns
 returns c =
     let l = c.loop-v in
-    inner_cells _ _ (l.v - 1) _ _ c.if-inner-starts.false (omega (arith, l.invariant.0, l.invariant.1, c.loop-v-test.false))
-    l.invariant.2
+    inner_cells _ _ (l.v - 1) _ _ c.if-inner-starts.false (omega (arith, l.invariant.0, c.loop-v-test.false))
+    l.invariant.1

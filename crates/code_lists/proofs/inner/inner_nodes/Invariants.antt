@@ -6,7 +6,4 @@ use Rattle.code_lists.specs.lemmas.InnerNodes.{InnerIn}
 use Rattle.code_lists.proofs.inner.inner_nodes.Given as goal
 
 abbrev pub invariant-loop-v : goal.invariant-loop-v
-invariant-loop-v l = (1 ≤ l.v) × (l.v - 1 ≤ length l.starts - 1) × InnerIn l.starts l.initial.inner (l.v - 1) l.inner l.count
-
-abbrev pub decreases-loop-v : goal.decreases-loop-v
-decreases-loop-v l = length l.starts - l.v
+invariant-loop-v l = (l.v - 1 ≤ length l.starts - 1) × InnerIn l.starts l.initial.inner (l.v - 1) l.inner l.count

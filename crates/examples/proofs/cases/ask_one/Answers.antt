@@ -5,5 +5,5 @@ use Prim.Native.Nat.{ℕ}
 use lib.ListN.{length-replicate}
 use Rattle.examples.proofs.cases.ask_one.Goals as goal
 
-pub slice_bounds-lend_words-end : goal.slice_bounds-lend_words-end
-slice_bounds-lend_words-end c = sym (length-replicate {A = ℕ} 1046529 0)
+pub slice_bounds-ask_words-end : goal.slice_bounds-ask_words-end
+slice_bounds-ask_words-end c = sym (length-replicate {A = ℕ} 1046529 0)

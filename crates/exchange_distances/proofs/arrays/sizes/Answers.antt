@@ -7,7 +7,7 @@ use Rattle.exchange_distances.specs.lemmas.SpanSizes.{sizes_first, sizes_next}
 use Rattle.exchange_distances.proofs.arrays.sizes.Goals as goal
 
 pub loop-v-init : goal.loop-v-init
-loop-v-init c = (omega arith, c.requires.few.0, sizes_first c.args.n c.args.begin.now c.args.end.now c.args.size.now c.requires.long)
+loop-v-init c = sizes_first c.args.n c.args.begin.now c.args.end.now c.args.size.now c.requires.long
 
 pub bounds-end-v : goal.bounds-end-v
 bounds-end-v c = omega (arith, c.loop-v-test.true, c.requires.few.1)
@@ -21,7 +21,7 @@ overflow_sub-size c =
       arith,
       c.cell_index.ensures.0,
       c.cell_index-in-loop-v.ensures.0,
-      c.requires.rising _ c.loop-v.invariant.0 c.loop-v-test.true,
+      c.requires.rising _ c.loop-v.auto.v c.loop-v-test.true,
     )
 
 pub offset_bounds-size-v : goal.offset_bounds-size-v
@@ -32,15 +32,12 @@ bounds-size-v c = omega (arith, c.loop-v-test.true, c.requires.few.1)
 
 pub loop-v-preserved : goal.loop-v-preserved
 loop-v-preserved c =
-    let l = c.loop-v in (
-      omega arith,
-      omega (arith, c.loop-v-test.true),
-      sizes_next _ l.v _ _ _ _ l.invariant.0 (omega (arith, c.loop-v-test.true, c.requires.few.1))
-          (ap₂ ◌-◌ c.cell_index.ensures.0 c.cell_index-in-loop-v.ensures.0) l.invariant.2,
-    )
+    let l = c.loop-v in
+    sizes_next _ l.v _ _ _ _ l.auto.v (omega (arith, c.loop-v-test.true, c.requires.few.1))
+    (ap₂ ◌-◌ c.cell_index.ensures.0 c.cell_index-in-loop-v.ensures.0) l.invariant
 
 pub returns : goal.returns
 returns c =
     let l = c.loop-v in
-    let e : l.v ≡ c.args.m = omega (arith, l.invariant.1, c.loop-v-test.false) in
-    rw e at l.invariant.2
+    let e : l.v ≡ c.args.m = omega (arith, c.loop-v-test.false, c.requires.few.0) in
+    rw e at l.invariant

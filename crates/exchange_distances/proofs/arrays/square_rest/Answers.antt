@@ -7,7 +7,7 @@ use Rattle.exchange_distances.specs.lemmas.SquareLoops.{rest_none, rest_next, si
 use Rattle.exchange_distances.proofs.arrays.square_rest.Goals as goal
 
 pub loop-v-init : goal.loop-v-init
-loop-v-init c = (omega arith, rest_none _ _ _ c.requires.1)
+loop-v-init c = rest_none _ _ _ c.requires.1
 
 pub offset_bounds-size-v : goal.offset_bounds-size-v
 offset_bounds-size-v c = omega (arith, c.requires.0.nodes)
@@ -31,10 +31,10 @@ bounds-square-v c = omega (arith, c.requires.0.nodes)
 pub loop-v-preserved : goal.loop-v-preserved
 loop-v-preserved c =
     let l = c.loop-v in
-    (omega arith, rest_next _ _ l.v _ _ (omega (arith, c.requires.0.nodes)) refl l.invariant.1)
+    rest_next _ _ l.v _ _ (omega (arith, c.requires.0.nodes)) refl l.invariant
 
 pub returns : goal.returns
 returns c =
     let l = c.loop-v in
     let e : l.v ≡ length c.args.parents.now = omega arith in
-    rw e at l.invariant.1
+    rw e at l.invariant

@@ -11,14 +11,22 @@ use Rattle.exchange_distances.proofs.distances.distance_of.Goals as goal
 
 pub costs_from-requires : goal.costs_from-requires
 costs_from-requires c = (
-  walk_from _ _ _ _ _ (lent_walked _ _ _ c.requires.0 _ _ _ c.arrays_of.ensures) _ _ c.requires.1.lx c.as_index.ensures.0,
+  walk_from _ _ _ _ _ (lent_walked _ _ _ c.requires.0 _ _ _ c.arrays_of.ensures) _ _ c.requires.1.lx c.from.ensures,
   search rules,
   search rules,
 )
 
-pub bounds-costs-as_index : goal.bounds-costs-as_index
-bounds-costs-as_index c =
-    lent_node _ _ _ c.requires.0 _ _ _ c.arrays_of.ensures _ _ c.requires.1 _ _ c.as_index.ensures.0 c.as_index-2.ensures.0 _
+pub offset_bounds-costs-from : goal.offset_bounds-costs-from
+offset_bounds-costs-from c =
+    omega (
+      arith,
+      lent_node _ _ _ c.requires.0 _ _ _ c.arrays_of.ensures _ _ c.requires.1 _ _
+          c.from.ensures c.from-2.ensures _ c.costs_from.ensures.0,
+    )
+
+pub bounds-costs-from : goal.bounds-costs-from
+bounds-costs-from c =
+    lent_node _ _ _ c.requires.0 _ _ _ c.arrays_of.ensures _ _ c.requires.1 _ _ c.from.ensures c.from-2.ensures _
     c.costs_from.ensures.0
 
 pub overflow_sub-result : goal.overflow_sub-result
@@ -27,11 +35,11 @@ overflow_sub-result c =
       arith,
       c.whole_of.ensures,
       lent_least _ _ _ c.requires.0 _ _ _ c.arrays_of.ensures _ _ c.requires.1 _ _
-          c.as_index.ensures.0 c.as_index-2.ensures.0 _ c.costs_from.ensures.0,
+          c.from.ensures c.from-2.ensures _ c.costs_from.ensures.0,
     )
 
 pub returns : goal.returns
 returns c =
-    ap (λ (w : ℕ). (w - word c.costs_from.new.costs c.as_index-2.result) / 6) c.whole_of.ensures
+    ap (λ (w : ℕ). (w - word c.costs_from.new.costs c.from-2.result) / 6) c.whole_of.ensures
     ∙ lent_distance _ _ _ c.requires.0 _ _ _ c.arrays_of.ensures _ _ c.requires.1 _ _
-    c.as_index.ensures.0 c.as_index-2.ensures.0 _ c.costs_from.ensures.0
+    c.from.ensures c.from-2.ensures _ c.costs_from.ensures.0

@@ -78,7 +78,7 @@ next_cost-c-requires c =
     λ d. climb_room _ _ _ _ _ c.requires.0 _ _ _ c.loop-v.v c.loop-v-test.true d c.loop-v.invariant.0
 
 pub bounds-marks-u : goal.bounds-marks-u
-bounds-marks-u c = let k = known (goal.at.bounds-marks-u c).In-loop-v in omega (arith, k.few, k.rises, c.as_index-u.ensures.0)
+bounds-marks-u c = let k = known (goal.at.bounds-marks-u c).In-loop-v in omega (arith, k.few, k.rises, c.from-u.ensures)
 
 pub offset_bounds-size-v-in-loop-v : goal.offset_bounds-size-v-in-loop-v
 offset_bounds-size-v-in-loop-v c = omega (arith, (known (goal.at.offset_bounds-size-v-in-loop-v c).In-loop-v).few)
@@ -87,25 +87,25 @@ pub bounds-size-v-in-loop-v : goal.bounds-size-v-in-loop-v
 bounds-size-v-in-loop-v c = omega (arith, (known (goal.at.bounds-size-v-in-loop-v c).In-loop-v).few)
 
 pub offset_bounds-toward-u : goal.offset_bounds-toward-u
-offset_bounds-toward-u c = let k = known (goal.at.offset_bounds-toward-u c).In-loop-v in omega (arith, k.few, k.rises, c.as_index-u.ensures.0)
+offset_bounds-toward-u c = let k = known (goal.at.offset_bounds-toward-u c).In-loop-v in omega (arith, k.few, k.rises, c.from-u.ensures)
 
 pub bounds-toward-u : goal.bounds-toward-u
-bounds-toward-u c = let k = known (goal.at.bounds-toward-u c).In-loop-v in omega (arith, k.few, k.rises, c.as_index-u.ensures.0)
+bounds-toward-u c = let k = known (goal.at.bounds-toward-u c).In-loop-v in omega (arith, k.few, k.rises, c.from-u.ensures)
 
 pub offset_bounds-costs-u : goal.offset_bounds-costs-u
-offset_bounds-costs-u c = let k = known (goal.at.offset_bounds-costs-u c).In-loop-v in omega (arith, k.few, k.rises, c.as_index-u.ensures.0)
+offset_bounds-costs-u c = let k = known (goal.at.offset_bounds-costs-u c).In-loop-v in omega (arith, k.few, k.rises, c.from-u.ensures)
 
 pub bounds-costs-u : goal.bounds-costs-u
-bounds-costs-u c = let k = known (goal.at.bounds-costs-u c).In-loop-v in omega (arith, k.few, k.rises, c.as_index-u.ensures.0)
+bounds-costs-u c = let k = known (goal.at.bounds-costs-u c).In-loop-v in omega (arith, k.few, k.rises, c.from-u.ensures)
 
 pub loop-v-smaller : goal.loop-v-smaller
-loop-v-smaller c = let k = known (goal.at.loop-v-smaller c).In-loop-v in omega (arith, k.rises, c.as_index-u.ensures.0)
+loop-v-smaller c = let k = known (goal.at.loop-v-smaller c).In-loop-v in omega (arith, k.rises, c.from-u.ensures)
 
 pub loop-v-preserved : goal.loop-v-preserved
 loop-v-preserved c =
     let l = c.loop-v in
     let o = l.invariant.1 in (
-      climb_step _ _ _ _ _ c.requires.0 _ _ _ l.v _ _ c.loop-v-test.true l.invariant.0 c.as_index-u.ensures.0
+      climb_step _ _ _ _ _ c.requires.0 _ _ _ l.v _ _ c.loop-v-test.true l.invariant.0 c.from-u.ensures
           c.next_cost-c.ensures.0 c.next_cost-c.ensures.1,
       roomy_next _ _ _ (roomy_mark _ _ _ o _ 1) _ _ _,
     )

@@ -16,7 +16,7 @@ low : (c : In-loop-y) → c.loop-y.y < 256
 low c = omega (arith, c.loop-y-test.true, c.requires.few)
 
 pub loop-y-init : goal.loop-y-init
-loop-y-init c = (omega arith, places_none _ _ _ _ _ _ c.requires.long)
+loop-y-init c = places_none _ _ _ _ _ _ c.requires.long
 
 pub offset_bounds-first_nodes-y : goal.offset_bounds-first_nodes-y
 offset_bounds-first_nodes-y c = omega (arith, low c)
@@ -32,32 +32,24 @@ bounds-second_nodes-y c = low (goal.at.bounds-second_nodes-y c).In-loop-y
 
 pub bounds-first_begin-node : goal.bounds-first_begin-node
 bounds-first_begin-node c =
-    subst (λ (v : ℕ). v < 1024) (sym c.as_index-node.ensures.0)
-    (c.requires.first_node _ c.loop-y.invariant.0 c.loop-y-test.true)
+    subst (λ (v : ℕ). v < 1024) (sym c.from-node.ensures)
+    (c.requires.first_node _ c.loop-y.auto.y c.loop-y-test.true)
 
 pub bounds-second_begin-other : goal.bounds-second_begin-other
 bounds-second_begin-other c =
-    subst (λ (v : ℕ). v < 1024) (sym c.as_index-other.ensures.0)
-    (c.requires.second_node _ c.loop-y.invariant.0 c.loop-y-test.true)
+    subst (λ (v : ℕ). v < 1024) (sym c.from-other.ensures)
+    (c.requires.second_node _ c.loop-y.auto.y c.loop-y-test.true)
 
 pub bounds-at-cell_index : goal.bounds-at-cell_index
 bounds-at-cell_index c = omega (arith, c.cell_index.ensures.1)
 
-pub overflow_add-y : goal.overflow_add-y
-overflow_add-y c = omega (arith, low (goal.at.overflow_add-y c).In-loop-y)
-
-pub loop-y-smaller : goal.loop-y-smaller
-loop-y-smaller c = omega (arith, c.loop-y-test.true)
-
 pub loop-y-preserved : goal.loop-y-preserved
 loop-y-preserved c =
     let e : c.cell_index.result ≡ word c.args.second_begin.now (word c.args.second_nodes.now c.loop-y.y) =
-    c.cell_index.ensures.0 ∙ ap (word c.args.second_begin.now) c.as_index-other.ensures.0 in (
-      omega (arith, c.loop-y.invariant.0),
-      rw e (places_next _ _ _ _ _ _ _ _ _ _ c.requires c.loop-y.invariant.0 c.loop-y-test.true
-          (c.place_of.ensures ∙ ap₂ (λ (b : Bool) (v : ℕ). place_of b (word c.args.first_begin.now v)) c.is_kept.ensures c.as_index-node.ensures.0)
-          c.loop-y.invariant.1),
-    )
+    c.cell_index.ensures.0 ∙ ap (word c.args.second_begin.now) c.from-other.ensures in
+    rw e (places_next _ _ _ _ _ _ _ _ _ _ c.requires c.loop-y.auto.y c.loop-y-test.true
+    (c.place_of.ensures ∙ ap₂ (λ (b : Bool) (v : ℕ). place_of b (word c.args.first_begin.now v)) c.is_kept.ensures c.from-node.ensures)
+    c.loop-y.invariant)
 
 pub returns : goal.returns
-returns c = places_fewer _ _ _ _ _ _ _ _ (omega (arith, c.loop-y-test.false)) c.loop-y.invariant.1
+returns c = places_fewer _ _ _ _ _ _ _ _ (omega (arith, c.loop-y-test.false)) c.loop-y.invariant

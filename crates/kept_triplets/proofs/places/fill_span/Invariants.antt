@@ -2,12 +2,9 @@
 -- Assumes nothing.
 use mathlib.Core.Path.{◌≡◌}
 use mathlib.Core.Logic.{◌⊎◌}
-use Prim.Native.Nat.{◌-◌, ◌≤◌}
+use Prim.Native.Nat.{◌≤◌}
 use Rattle.kept_triplets.specs.lemmas.Weighing.{SpanFilled}
 use Rattle.kept_triplets.proofs.places.fill_span.Given as goal
 
 abbrev pub invariant-loop-k : goal.invariant-loop-k
-invariant-loop-k l = (l.begin ≤ l.k) × ((l.k ≤ l.end) ⊎ (l.k ≡ l.begin)) × SpanFilled l.begin l.end l.k l.value l.initial.weights l.weights × (l.last ≡ l.end)
-
-abbrev pub decreases-loop-k : goal.decreases-loop-k
-decreases-loop-k l = l.last - l.k
+invariant-loop-k l = ((l.k ≤ l.end) ⊎ (l.k ≡ l.begin)) × SpanFilled l.begin l.end l.k l.value l.initial.weights l.weights

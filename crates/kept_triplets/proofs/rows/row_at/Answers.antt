@@ -17,10 +17,10 @@ use Rattle.kept_triplets.proofs.rows.row_at.Goals as goal
 
 known : (c : After-way_told-1) → let a = c.args in
     RowAt a.first.now a.second.now a.marks.now a.n a.first_begin.now a.first_end.now
-    a.second_begin.now a.second_end.now a.at.now a.columns.now a.count c.requires.0 a.v c.as_index-p.result
-known c = row_at _ _ _ _ _ _ _ _ _ _ _ c.requires.0 _ _ c.requires.1 c.requires.2 c.as_index-p.ensures.0
+    a.second_begin.now a.second_end.now a.at.now a.columns.now a.count c.requires.0 a.v c.from-p.result
+known c = row_at _ _ _ _ _ _ _ _ _ _ _ c.requires.0 _ _ c.requires.1 c.requires.2 c.from-p.ensures
 
-weights : (c : After-fill_span-2) → let a = c.args in let p = c.as_index-p.result in (q : ℕ) →
+weights : (c : After-fill_span-2) → let a = c.args in let p = c.from-p.result in (q : ℕ) →
     word c.fill_span-2.new.weights q ≡ bit (in_span q (word a.first_begin.now a.v) (word a.first_end.now a.v))
     + 65536 * leaving (word a.first_begin.now a.v) (word a.first_end.now a.v) (word a.first_begin.now p) (word a.first_end.now p) q
 weights c = weights_are _ _ _ _ _ _ c.fill_span.ensures c.fill_span-2.ensures

@@ -5,6 +5,8 @@ use Prim.Native.Nat.{ℕ}
 use native.Mathlib.Omega.{arith}
 use lib.ListN.{length-replicate}
 use Rattle.table_words.specs.Sizes.{node_room}
+use Rattle.tree_check.specs.Table.{tips}
+use Rattle.kept_triplets.specs.lemmas.AllRows.{others_few}
 use Rattle.kept_triplets.specs.lemmas.Prepare.{sizes_fit, first-nodes, first-listed, rows_listed, first_edges, second_nodes, second_listed, others_are, prepared, second_edges, sums_are}
 use Rattle.kept_triplets.proofs.totals.sums_of.Goals as goal
 
@@ -36,6 +38,16 @@ offset_bounds-second_all-n c = omega (arith, sizes_fit _ _ _ _ _ _ _ _ _ _ _ _ c
 
 pub bounds-second_all-n : goal.bounds-second_all-n
 bounds-second_all-n c = omega (arith, sizes_fit _ _ _ _ _ _ _ _ _ _ _ _ c.requires)
+
+pub overflow_cast-result : goal.overflow_cast-result
+overflow_cast-result c =
+    let h = c.requires in
+    let r = h.tree.tips_range in
+    omega (
+      arith,
+      others_are _ _ _ _ _ _ _ _ _ _ _ _ h _ c.prefix-2.ensures,
+      others_few c.args.marks.now (tips c.args.first.now) (omega arith),
+    )
 
 pub returns : goal.returns
 returns c =

@@ -10,8 +10,8 @@ pub returns : goal.returns
 returns c =
     let p = c.put_line in
     let m = c.put_line-end in
-    let w = c.as_count in (
+    let w = c.from in (
       first_lines-written c.args.figures 0 c.args.out.now m.result m.new.out
-          p.result p.new.out w.result w.ensures.0 m.ensures.0 p.ensures.0,
+          p.result p.new.out w.result w.ensures m.ensures.0 p.ensures.0,
       omega arith,
     )

@@ -11,8 +11,8 @@ returns c =
     let p = c.put_line in
     let m = c.put_line-end in (
       last_lines-written c.args.figures c.args.at c.args.out.now m.result m.new.out
-          p.result p.new.out _ _ _ _ c.as_count.ensures.0
-          c.as_count-2.ensures.0 c.as_count-3.ensures.0 c.as_count-4.ensures.0
+          p.result p.new.out _ _ _ _ c.from.ensures
+          c.from-2.ensures c.from-3.ensures c.from-4.ensures
           m.ensures.0 p.ensures.0,
       omega arith,
     )

@@ -17,8 +17,8 @@ returns-then-figures-eq0 c =
 pub returns : goal.returns
 returns c =
     let p = c.put_line in
-    let w = c.as_count in (
-      listed_refused c.args.figures c.args.out.now p.result p.new.out w.result w.ensures.0
+    let w = c.from in (
+      listed_refused c.args.figures c.args.out.now p.result p.new.out w.result w.ensures
           c.if-figures-eq0.false p.ensures.0,
       omega arith,
     )

@@ -1,15 +1,11 @@
--- The invariant: the first `i` numbers are written.
+-- The invariant: the numbers before `number` are written.
 -- Assumes nothing.
-use Prim.Native.Nat.{◌+◌, ◌*◌, ◌≤◌, ◌-◌}
-use mathlib.Core.Path.{◌≡◌}
-use lib.ListN.{length, take}
+use Prim.Native.Nat.{◌+◌, ◌*◌, ◌≤◌}
+use lib.ListN.{take}
 use Rattle.listings.specs.lemmas.Written.{TextWritten}
 use Rattle.listings.specs.Lines.{spaced_all}
 use Rattle.listings.proofs.text.put_numbers.Given as goal
 
-abbrev pub invariant-loop-i : goal.invariant-loop-i
-invariant-loop-i l = (l.i ≤ length l.numbers) × (length l.out ≡ length l.initial.out) × (l.end ≤ l.at + 21 * l.i)
-    × TextWritten l.at l.initial.out (spaced_all (take l.i l.numbers)) l.end l.out
-
-abbrev pub decreases-loop-i : goal.decreases-loop-i
-decreases-loop-i l = length l.numbers - l.i
+abbrev pub invariant-loop-number : goal.invariant-loop-number
+invariant-loop-number l = (l.end ≤ l.at + 21 * l.number-index)
+    × TextWritten l.at l.initial.out (spaced_all (take l.number-index l.numbers)) l.end l.out

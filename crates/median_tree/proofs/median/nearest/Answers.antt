@@ -1,8 +1,10 @@
 -- Each return is an outcome of the order, or the tree that is told.
 -- Assumes nothing.
+use mathlib.Core.Path.{◌∙◌, ap}
 use Prim.Native.Nat.{◌≤◌}
 use native.Mathlib.Omega.{arith}
 use Rattle.sums.specs.theorems.Products.{product_le}
+use Rattle.median_tree.specs.Nearest.{refused_nearest}
 use Rattle.median_tree.proofs.lemmas.Outcomes.{refused_list_lem, trees_told, trees_few, edges_few, short_work, ready, nearest_found}
 use Rattle.median_tree.proofs.median.nearest.Goals.{After-clear-arg-1}
 use Rattle.median_tree.proofs.median.nearest.Goals as goal
@@ -19,7 +21,8 @@ overflow_mul-cells c =
 
 pub returns-then-work-cells : goal.returns-then-work-cells
 returns-then-work-cells c =
-    short_work c.args.list.now c.args.work.now c.check_list-trees.result c.check_list-trees.ensures c.if-trees-ne0.false c.if-work-cells.true _ c.refused-then-work-cells.ensures
+    short_work c.args.list.now c.args.work.now c.check_list-trees.result c.check_list-trees.ensures c.if-trees-ne0.false c.if-work-cells.true _
+    (c.refused-then-work-cells.ensures ∙ ap refused_nearest c.from.ensures)
 
 pub all_sums-sums-requires : goal.all_sums-sums-requires
 all_sums-sums-requires c = (

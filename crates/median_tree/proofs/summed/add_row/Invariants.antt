@@ -1,6 +1,5 @@
 -- The invariant: tree `i` is summed against the trees before `j`, on both sides.
 -- Assumes nothing.
-use Prim.Native.Nat.{◌-◌, ◌≤◌}
 use Rattle.median_tree.specs.Nearest.{list_cells}
 use Rattle.median_tree.specs.Nearest.{distance_of}
 use Rattle.median_tree.specs.lemmas.SameCells.{SameFrom}
@@ -8,7 +7,4 @@ use Rattle.median_tree.specs.lemmas.RowSums.{Sums}
 use Rattle.median_tree.proofs.summed.add_row.Given as goal
 
 abbrev pub invariant-loop-j : goal.invariant-loop-j
-invariant-loop-j l = (l.j ≤ l.i) × Sums (distance_of l.list) l.i l.j l.sums × SameFrom (list_cells l.list) l.initial.work l.work
-
-abbrev pub decreases-loop-j : goal.decreases-loop-j
-decreases-loop-j l = l.i - l.j
+invariant-loop-j l = Sums (distance_of l.list) l.i l.j l.sums × SameFrom (list_cells l.list) l.initial.work l.work

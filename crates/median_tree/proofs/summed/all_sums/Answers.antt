@@ -8,21 +8,21 @@ use Rattle.median_tree.proofs.lemmas.Distances.{ready_still}
 use Rattle.median_tree.proofs.summed.all_sums.Goals as goal
 
 pub loop-i-init : goal.loop-i-init
-loop-i-init c = (omega arith, sums_none _, same_now _ _)
+loop-i-init c = (sums_none _, same_now _ _)
 
 pub add_row-requires : goal.add_row-requires
 add_row-requires c =
     let l = c.loop-i in
-    (ready_still c.requires.0 l.invariant.2, omega (arith, c.loop-i-test.true, c.requires.1), l.invariant.1)
+    (ready_still c.requires.0 l.invariant.1, omega (arith, c.loop-i-test.true, c.requires.1), l.invariant.0)
 
 pub loop-i-preserved : goal.loop-i-preserved
 loop-i-preserved c =
     let l = c.loop-i in
     let r = c.add_row in
-    (omega (arith, c.loop-i-test.true), r.ensures.0, same_then _ _ _ _ l.invariant.2 r.ensures.1)
+    (r.ensures.0, same_then _ _ _ _ l.invariant.1 r.ensures.1)
 
 pub returns : goal.returns
 returns c =
     let l = c.loop-i in
-    let e : l.i ≡ c.args.k = omega (arith, l.invariant.0, c.loop-i-test.false) in
-    (rw e at l.invariant.1, l.invariant.2)
+    let e : l.i ≡ c.args.k = omega (arith, c.loop-i-test.false) in
+    (rw e at l.invariant.0, l.invariant.1)

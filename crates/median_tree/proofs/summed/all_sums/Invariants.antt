@@ -1,6 +1,5 @@
 -- The invariant: the trees before `i` are summed among one another.
 -- Assumes nothing.
-use Prim.Native.Nat.{◌-◌, ◌≤◌}
 use Rattle.median_tree.specs.Nearest.{list_cells}
 use Rattle.median_tree.specs.Nearest.{distance_of}
 use Rattle.median_tree.specs.lemmas.SameCells.{SameFrom}
@@ -8,7 +7,4 @@ use Rattle.median_tree.specs.lemmas.RowSums.{Sums}
 use Rattle.median_tree.proofs.summed.all_sums.Given as goal
 
 abbrev pub invariant-loop-i : goal.invariant-loop-i
-invariant-loop-i l = (l.i ≤ l.k) × Sums (distance_of l.list) l.i 0 l.sums × SameFrom (list_cells l.list) l.initial.work l.work
-
-abbrev pub decreases-loop-i : goal.decreases-loop-i
-decreases-loop-i l = l.k - l.i
+invariant-loop-i l = Sums (distance_of l.list) l.i 0 l.sums × SameFrom (list_cells l.list) l.initial.work l.work

@@ -7,30 +7,17 @@ use Rattle.median_tree.proofs.summed.first_least.Goals.{else-is_less, then-is_le
 use Rattle.median_tree.proofs.summed.first_least.Goals as goal
 
 pub loop-i-init : goal.loop-i-init
-loop-i-init c = (omega arith, least_none _, omega (arith, c.requires.0))
-
-pub offset_bounds-sums-i : goal.offset_bounds-sums-i
-offset_bounds-sums-i c = omega (arith, c.loop-i-test.true, c.requires.1)
-
-pub bounds-sums-i : goal.bounds-sums-i
-bounds-sums-i c = omega (arith, c.loop-i-test.true, c.requires.1)
-
-pub offset_bounds-sums-p : goal.offset_bounds-sums-p
-offset_bounds-sums-p c = omega (arith, c.loop-i.invariant.2, c.requires.1)
-
-pub bounds-sums-p : goal.bounds-sums-p
-bounds-sums-p c = omega (arith, c.loop-i.invariant.2, c.requires.1)
+loop-i-init c = (least_none _, omega (arith, c.requires.0))
 
 pub loop-i-preserved : goal.loop-i-preserved
 loop-i-preserved c =
     let l = c.loop-i in (
-      omega (arith, c.loop-i-test.true),
-      elim c.if-is_less.branch [ then-is_less h ↦ rw h.p-is (least_takes _ _ _ l.invariant.1 h.if-is_less.true) | else-is_less h ↦ rw h.p-is (least_keeps _ _ _ l.invariant.1 h.if-is_less.false) ],
-      elim c.if-is_less.branch [ then-is_less h ↦ rw h.p-is c.loop-i-test.true | else-is_less h ↦ rw h.p-is l.invariant.2 ],
+      elim c.if-is_less.branch [ then-is_less h ↦ rw h.p-is (least_takes _ _ _ l.invariant.0 h.if-is_less.true) | else-is_less h ↦ rw h.p-is (least_keeps _ _ _ l.invariant.0 h.if-is_less.false) ],
+      elim c.if-is_less.branch [ then-is_less h ↦ rw h.p-is c.loop-i-test.true | else-is_less h ↦ rw h.p-is l.invariant.1 ],
     )
 
 pub returns : goal.returns
 returns c =
     let l = c.loop-i in
-    let e : l.i ≡ c.args.k = omega (arith, l.invariant.0, c.loop-i-test.false) in
-    (rw e at l.invariant.1, l.invariant.2)
+    let e : l.i ≡ c.args.k = omega (arith, c.loop-i-test.false) in
+    (rw e at l.invariant.0, l.invariant.1)

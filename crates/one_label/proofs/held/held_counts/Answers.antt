@@ -24,6 +24,6 @@ slice_bounds-kept_triplets-end-3 c = sym (length-take-le c.args.n c.exchanged_ma
 pub returns : goal.returns
 returns c =
     let out = c.exchanged_marks-turned.result in
-    let ex = subst (λ (z : ℕ). MarksExchanged c.args.marks.now z out) c.as_index.ensures.0 c.exchanged_marks-turned.ensures in
+    let ex = subst (λ (z : ℕ). MarksExchanged c.args.marks.now z out) c.from.ensures c.exchanged_marks-turned.ensures in
     held_are _ _ _ _ _ _ _ out c.requires.0 c.requires.1 c.requires.2 c.requires.3 ex _
     (c.kept_triplets-table.ensures ∙ ap₂ (λ (a b : Table). kept_answer a b (take c.args.n out)) (front_is _ c.args.n c.args.m c.args.x (replicate 2050 0) _ c.requires.0 c.requires.3 (words_fit _ _ _ c.requires.0).0 c.reroot.ensures.1) (front_is _ c.args.n c.args.k c.args.x (replicate 2050 0) _ c.requires.1 c.requires.3 (words_fit _ _ _ c.requires.1).0 c.reroot-2.ensures.1))

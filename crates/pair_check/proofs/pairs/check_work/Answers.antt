@@ -1,49 +1,41 @@
 -- The tables, then the marks, then the number of cells.
 -- Assumes nothing.
-use mathlib.Core.Path.{◌≡◌, sym, ◌∙◌}
-use Prim.Native.Nat.{◌-◌}
-use Rattle.tree_check.specs.Table.{tips, nodes}
-use Rattle.tree_check.specs.Refusals.{refusal}
-use Rattle.marks.specs.Marks.{kept_of, marks_order, AreMarks}
+use mathlib.Core.Path.{sym}
+use Rattle.std.proofs.lemmas.Result.{err_from_is_err_and}
+use Rattle.tree_check.specs.Table.{tips}
 use Rattle.pair_check.specs.PairOrder.{IsPair}
-use Rattle.marks.proofs.lemmas.MarkOutcomes.{marks_say}
-use Rattle.pair_check.specs.lemmas.PairOutcomes.{pair_passed, check_says, tables_refused_first, marks_refused}
+use Rattle.marks.proofs.lemmas.MarkOutcomes.{marks_say, marks_refused_by}
+use Rattle.pair_check.specs.lemmas.PairOutcomes.{Tells, pair_refused, check_says, tables_refused_first, marks_refused}
 use Rattle.pair_check.specs.lemmas.PairOutcomes.{work_turned_away, work_measured, product_fits}
-use Rattle.pair_check.proofs.pairs.check_work.Goals.{After-check_marks-told, In-Pair}
+use Rattle.pair_check.proofs.pairs.check_work.Goals.{In_ok-pair, In_ok-kept, In_err-kept}
 use Rattle.pair_check.proofs.pairs.check_work.Goals as goal
 
 -- ---- what is known there
 
 -- the tables are a pair, with n, all labels, rows and columns as told
-tables : (c : In-Pair)
+tables : (c : In_ok-pair)
     → let s = c.args in
-    IsPair s.first.now s.second.now × (c.in-Pair.tips ≡ tips s.first.now) × (c.in-Pair.counted ≡ tips s.first.now)
-    × (c.in-Pair.rows ≡ nodes s.first.now - 1) × (c.in-Pair.columns ≡ nodes s.second.now - 1)
-tables c = check_says _ _ _ _ _ _ (sym c.check_pair-answer.ensures.0 ∙ c.in-Pair.is)
+    IsPair s.first.now s.second.now × Tells c.in_ok-pair.pair s.first.now s.second.now (tips s.first.now)
+tables c = check_says _ _ _ (sym c.in_ok-pair.ensures.0)
 
--- the marks are told
-marked : (c : After-check_marks-told)
-    → let s = c.args in
-    (c.check_marks-told.result.refusal ≡ refusal (marks_order s.marks.now (tips s.first.now)))
-    × (c.check_marks-told.result.refusal ≡ 0
-    → AreMarks s.marks.now (tips s.first.now) × (c.check_marks-told.result.kept ≡ kept_of s.marks.now (tips s.first.now)))
-marked c = marks_say _ _ _ (tables (goal.at.After-check_marks-told c).In-Pair).1 _ c.check_marks-told.ensures
+pub returns-in_err-pair : goal.returns-in_err-pair
+returns-in_err-pair c =
+    let p = err_from_is_err_and c.from_residual.result c.from_residual.ensures.1 in
+    let h = pair_refused _ _ _ c.in_err-pair.ensures in
+    rw (p.1, p.2) (work_turned_away _ _ _ _ _ (tables_refused_first _ _ _ _ _ h.0 h.1))
 
-pub returns-in_default : goal.returns-in_default
-returns-in_default c =
-    let h = pair_passed _ _ _ _ _ c.check_pair-answer.ensures.0 c.in_default.is
-    c.pair_refusal.ensures in
-    work_turned_away _ _ _ _ _ (tables_refused_first _ _ _ _ _ (sym h.0) h.1) h.1
-
-pub returns-then-told-ne0 : goal.returns-then-told-ne0
-returns-then-told-ne0 c =
-    work_turned_away _ _ _ _ _ (marks_refused _ _ _ _ (tables (goal.at.returns-then-told-ne0 c).In-Pair).0 _ (marked (goal.at.returns-then-told-ne0 c).After-check_marks-told).0 c.if-told-ne0.true) c.if-told-ne0.true
+pub returns-in_err-kept : goal.returns-in_err-kept
+returns-in_err-kept c =
+    let p = err_from_is_err_and c.from_residual-in_err-kept.result c.from_residual-in_err-kept.ensures.1 in
+    let t = tables (goal.at.returns-in_err-kept c).In_ok-pair in
+    let h = marks_refused_by _ _ _ _ t.1.tips c.in_err-kept.ensures in
+    rw (p.1, p.2) (work_turned_away _ _ _ _ _ (marks_refused _ _ _ _ t.0 _ (sym h.0) h.1))
 
 pub measured-requires : goal.measured-requires
-measured-requires c = let p = tables (goal.at.measured-requires c).In-Pair in product_fits _ _ _ _ p.0 p.3 p.4
+measured-requires c = let p = tables (goal.at.measured-requires c).In_ok-pair in product_fits _ _ _ _ p.0 p.1.rows p.1.columns
 
 pub returns : goal.returns
 returns c =
-    let p = tables (goal.at.returns c).In-Pair in
-    let m = (marked (goal.at.returns c).After-check_marks-told).1 c.if-told-ne0.false in
-    work_measured _ _ _ _ p.0 m.0 _ _ _ _ p.1 m.1 p.3 p.4 _ c.measured.ensures
+    let p = tables (goal.at.returns c).In_ok-pair in
+    let m = marks_say _ _ _ _ p.1.tips c.in_ok-kept.ensures in
+    work_measured _ _ _ _ p.0 m.0 _ (record { tips = p.1.tips; counted = m.1; rows = p.1.rows; columns = p.1.columns }) _ c.measured.ensures

@@ -4,11 +4,11 @@ use native.Mathlib.Omega.{arith}
 use Rattle.pair_check.specs.lemmas.PairOutcomes.{measured_pair_lem, measured_nine}
 use Rattle.pair_check.proofs.pairs.measured.Goals as goal
 
-pub overflow_mul-rows : goal.overflow_mul-rows
-overflow_mul-rows c = omega (arith, c.requires)
+pub overflow_mul-pair : goal.overflow_mul-pair
+overflow_mul-pair c = omega (arith, c.requires)
 
-pub returns-then-cells-rows : goal.returns-then-cells-rows
-returns-then-cells-rows c = measured_nine _ _ _ _ _ c.if-cells-rows.true
+pub returns-then-cells-pair : goal.returns-then-cells-pair
+returns-then-cells-pair c = measured_nine _ _ c.if-cells-pair.true
 
 pub returns : goal.returns
-returns c = measured_pair_lem _ _ _ _ _ c.if-cells-rows.false
+returns c = measured_pair_lem _ _ c.if-cells-pair.false

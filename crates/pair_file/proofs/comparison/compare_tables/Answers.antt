@@ -10,31 +10,29 @@ use Rattle.pair_check.specs.PairOrder.{PairWithCells}
 use Rattle.pair_check.specs.lemmas.PairOutcomes.{cells_says, cells_passed}
 use Rattle.pair_file.specs.PairFile.{cells_lent}
 use Rattle.pair_file.specs.lemmas.PairFigures.{marks_lent, pair_refused, pair_accepted}
-use Rattle.pair_file.proofs.comparison.compare_tables.Goals.{After-as_index-n, In-Pair}
+use Rattle.pair_file.proofs.comparison.compare_tables.Goals.{After-from-n, In-Ok}
 use Rattle.pair_file.proofs.comparison.compare_tables.Goals as goal
 
 -- ---- what is known there
 
 -- the tables are a pair, with n as told
-pair : (c : In-Pair)
+pair : (c : In-Ok)
     → let s = c.args in
-    PairWithCells s.first.now s.second.now cells_lent × (c.in-Pair.tips ≡ tips s.first.now)
+    PairWithCells s.first.now s.second.now cells_lent × (c.in-Ok.pair.tips ≡ tips s.first.now)
 pair c =
-    let p = cells_says _ _ _ _ _ _ _ (sym c.check_cells-answer.ensures.0 ∙ c.in-Pair.is) in
-    (p.0, p.1)
+    let p = cells_says _ _ _ _ (sym c.in-Ok.ensures.0) in
+    (p.0, p.1.tips)
 
-tips-few : (c : After-as_index-n) → c.as_index-n.result ≤ tips_most
+tips-few : (c : After-from-n) → c.from-n.result ≤ tips_most
 tips-few c =
-    let p = pair (goal.at.After-as_index-n c).In-Pair in
-    omega (arith, c.as_index-n.ensures.0, p.1, p.0.pair.first.tips_range.1)
+    let p = pair (goal.at.After-from-n c).In-Ok in
+    omega (arith, c.from-n.ensures, p.1, p.0.pair.first.tips_range.1)
 
 -- ---- the needs
 
-pub returns-in_default : goal.returns-in_default
-returns-in_default c =
-    let w = c.check_cells-answer in
-    let h = cells_passed _ _ _ _ _ _ w.ensures.0 c.in_default.is
-    c.pair_refusal.ensures in
+pub returns-in-Err : goal.returns-in-Err
+returns-in-Err c =
+    let h = cells_passed _ _ _ _ _ c.in-Err.ensures c.from.ensures in
     c.refused.ensures ∙ pair_refused _ _ _ h.0 h.1
 
 pub slice_bounds-marks-end : goal.slice_bounds-marks-end
@@ -42,10 +40,10 @@ slice_bounds-marks-end c = tips-few c
 
 pub slice_bounds-figures_of-end : goal.slice_bounds-figures_of-end
 unfolding ones
-slice_bounds-figures_of-end c = marks_lent _ (tips-few (goal.at.slice_bounds-figures_of-end c).After-as_index-n)
+slice_bounds-figures_of-end c = marks_lent _ (tips-few (goal.at.slice_bounds-figures_of-end c).After-from-n)
 
 pub returns : goal.returns
 unfolding ones
 returns c =
-    let p = pair (goal.at.returns c).In-Pair in
-    c.figures_of.ensures ∙ pair_accepted _ _ p.0 _ _ p.1 c.as_index-n.ensures.0
+    let p = pair (goal.at.returns c).In-Ok in
+    c.figures_of.ensures ∙ pair_accepted _ _ p.0 _ _ p.1 c.from-n.ensures

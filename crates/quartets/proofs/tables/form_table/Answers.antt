@@ -1,8 +1,6 @@
 -- The five formulas: no subtraction goes below 0.
 -- Assumes nothing.
-use mathlib.Core.Path.{◌∙◌, ap}
 use native.Mathlib.Omega.{arith}
-use Rattle.sums.specs.Fours.{fours}
 use Rattle.quartets.proofs.lemmas.FormedTable.{rest_fits, table_formed}
 use Rattle.quartets.proofs.tables.form_table.Goals as goal
 
@@ -18,27 +16,24 @@ overflow_sub-d c = omega (arith, c.requires.D_fits)
 pub overflow_sub-d-2 : goal.overflow_sub-d-2
 overflow_sub-d-2 c = omega (arith, c.requires.D_fits)
 
-pub sets_of_four-requires : goal.sets_of_four-requires
-sets_of_four-requires c = omega (arith, c.wide.ensures, c.requires.tips_few)
-
 pub overflow_sub-e : goal.overflow_sub-e
 overflow_sub-e c =
-    let all = c.widened-all.ensures ∙ c.sets_of_four.ensures ∙ ap fours c.wide.ensures in
+    let all = c.sets_of_four-all.ensures in
     omega (arith, all, c.requires.E_fits)
 
 pub overflow_sub-e-2 : goal.overflow_sub-e-2
 overflow_sub-e-2 c =
-    let all = c.widened-all.ensures ∙ c.sets_of_four.ensures ∙ ap fours c.wide.ensures in
+    let all = c.sets_of_four-all.ensures in
     omega (arith, all, c.requires.E_fits)
 
 pub overflow_sub-e-3 : goal.overflow_sub-e-3
 overflow_sub-e-3 c =
-    let all = c.widened-all.ensures ∙ c.sets_of_four.ensures ∙ ap fours c.wide.ensures in
+    let all = c.sets_of_four-all.ensures in
     omega (arith, all, c.requires.E_fits)
 
 pub overflow_sub-e-4 : goal.overflow_sub-e-4
 overflow_sub-e-4 c =
-    let all = c.widened-all.ensures ∙ c.sets_of_four.ensures ∙ ap fours c.wide.ensures in
+    let all = c.sets_of_four-all.ensures in
     rest_fits _ _ _ _ _ _ all c.requires.E_fits
 
 pub overflow_add-distance : goal.overflow_add-distance
@@ -52,4 +47,4 @@ overflow_add-distance-2 c =
 pub returns : goal.returns
 returns c =
     table_formed c.args.n _ _ _ _ _
-    (c.widened-all.ensures ∙ c.sets_of_four.ensures ∙ ap fours c.wide.ensures)
+    (c.sets_of_four-all.ensures)

@@ -5,7 +5,7 @@ use lib.ListN.{length}
 use Rattle.tree_check.specs.Table.{tips}
 use Rattle.marks.specs.Marks.{kept_of}
 use Rattle.pair_check.specs.PairOrder.{MarkedPair}
-use Rattle.pair_check.specs.lemmas.PairOutcomes.{work_says, work_passed}
+use Rattle.pair_check.specs.lemmas.PairOutcomes.{work_says, work_told}
 use Rattle.tree_pairs.proofs.lemmas.LentTables.{crossings_refused}
 use Rattle.quartets.proofs.lemmas.FormedTable.{sums_fit, table_counts_lem, table_refused, answer_has}
 use Rattle.quartets.proofs.tables.quartet_table.Goals.{After-claim_sums-arg-1}
@@ -17,15 +17,14 @@ use Rattle.quartets.proofs.tables.quartet_table.Goals as goal
 pair : (c : After-claim_sums-arg-1)
     → let s = c.args in
     MarkedPair s.first.now s.second.now s.marks.now (length s.work.now)
-    × (c.in-Pair.counted ≡ kept_of s.marks.now (tips s.first.now))
+    × (c.in-Ok.pair.counted ≡ kept_of s.marks.now (tips s.first.now))
 pair c =
-    let p = work_says _ _ _ _ _ _ _ _ (sym c.check_work-answer.ensures.0 ∙ c.in-Pair.is) in
-    (p.0, p.2)
+    let p = work_says _ _ _ _ _ (sym c.check_work-answer.ensures.0 ∙ c.in-Ok.is) in
+    (p.0, p.1.counted)
 
 pub returns-in_default : goal.returns-in_default
 returns-in_default c =
-    let h = work_passed _ _ _ _ _ _ _ c.check_work-answer.ensures.0 c.in_default.is
-    c.pair_refusal.ensures in
+    let h = work_told _ _ _ _ _ _ _ c.check_work-answer.ensures c.in_default.is c.refusal_of.ensures in
     let r = table_refused _ _ _ _ _ h.0 h.1 in
     (r, answer_has _ _ _ _ _ r, crossings_refused _ _ _ _ _ h.0 h.1)
 

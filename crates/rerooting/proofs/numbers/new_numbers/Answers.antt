@@ -28,12 +28,12 @@ bounds-parents-v c = path_in _ _ _ c.requires _ _ _ c.loop-v.invariant
 
 pub loop-v-smaller : goal.loop-v-smaller
 loop-v-smaller c =
-    omega (arith, c.as_index-v.ensures.0, parent-lt _ c.requires.tree c.loop-v.v (omega (arith, c.loop-v-test.true)))
+    omega (arith, c.from-v.ensures, parent-lt _ c.requires.tree c.loop-v.v (omega (arith, c.loop-v-test.true)))
 
 pub loop-v-preserved : goal.loop-v-preserved
 loop-v-preserved c =
     let e : c.loop-v.i + 1 ≡ suc c.loop-v.i = omega arith in
-    rw e (path_next _ _ _ c.requires c.loop-v.v c.loop-v.i _ (omega (arith, c.loop-v-test.true)) c.loop-v.invariant _ c.as_index-v.ensures.0)
+    rw e (path_next _ _ _ c.requires c.loop-v.v c.loop-v.i _ (omega (arith, c.loop-v-test.true)) c.loop-v.invariant _ c.from-v.ensures)
 
 pub overflow_add-i-2 : goal.overflow_add-i-2
 overflow_add-i-2 c = omega (arith, path_low _ _ _ c.requires _ _ _ c.loop-v.invariant)
@@ -42,7 +42,7 @@ pub loop-w-init : goal.loop-w-init
 loop-w-init c =
     let e : c.loop-v.i + 1 ≡ suc c.loop-v.i = omega arith in
     let z : c.loop-v.v ≡ 0 = omega (arith, c.loop-v-test.false) in
-    (omega arith, rw e (path_ends _ _ _ c.requires c.loop-v.i _ (rw z at c.loop-v.invariant)))
+    rw e (path_ends _ _ _ c.requires c.loop-v.i _ (rw z at c.loop-v.invariant))
 
 pub offset_bounds-news-w : goal.offset_bounds-news-w
 offset_bounds-news-w c = omega (arith, c.requires.few, c.loop-w-test.true)
@@ -57,16 +57,14 @@ pub bounds-news-w-then-news-w-eq-NODES : goal.bounds-news-w-then-news-w-eq-NODES
 bounds-news-w-then-news-w-eq-NODES c = omega (arith, c.requires.few, c.loop-w-test.true)
 
 pub overflow_add-i-then-news-w-eq-NODES : goal.overflow_add-i-then-news-w-eq-NODES
-overflow_add-i-then-news-w-eq-NODES c = omega (arith, off_low _ _ _ c.requires c.loop-w.w _ _ c.loop-w-test.true c.loop-w.invariant.1 c.if-news-w-eq-NODES.true)
+overflow_add-i-then-news-w-eq-NODES c = omega (arith, off_low _ _ _ c.requires c.loop-w.w _ _ c.loop-w-test.true c.loop-w.invariant c.if-news-w-eq-NODES.true)
 
 pub loop-w-preserved : goal.loop-w-preserved
 loop-w-preserved c =
     let y = c.requires in
     let e : c.loop-w.w + 1 ≡ suc c.loop-w.w = omega arith in
-    let f : c.loop-w.i + 1 ≡ suc c.loop-w.i = omega arith in (
-      omega (arith, c.loop-w-test.true),
-      rw e (elim c.if-news-w-eq-NODES.branch [ then-news-w-eq-NODES h ↦ rw (h.news-is, h.i-is, f) (off_take _ _ _ y c.loop-w.w c.loop-w.i _ c.loop-w-test.true c.loop-w.invariant.1 h.if-news-w-eq-NODES.true) | else-news-w-eq-NODES h ↦ rw (h.news-is, h.i-is) (off_skip _ _ _ y c.loop-w.w c.loop-w.i _ c.loop-w-test.true c.loop-w.invariant.1 h.if-news-w-eq-NODES.false) ]),
-    )
+    let f : c.loop-w.i + 1 ≡ suc c.loop-w.i = omega arith in
+    rw e (elim c.if-news-w-eq-NODES.branch [ then-news-w-eq-NODES h ↦ rw (h.news-is, h.i-is, f) (off_take _ _ _ y c.loop-w.w c.loop-w.i _ c.loop-w-test.true c.loop-w.invariant h.if-news-w-eq-NODES.true) | else-news-w-eq-NODES h ↦ rw (h.news-is, h.i-is) (off_skip _ _ _ y c.loop-w.w c.loop-w.i _ c.loop-w-test.true c.loop-w.invariant h.if-news-w-eq-NODES.false) ])
 
 pub returns : goal.returns
-returns c = off_all _ _ _ c.requires _ _ _ (omega (arith, c.loop-w-test.false)) c.loop-w.invariant.1
+returns c = off_all _ _ _ c.requires _ _ _ (omega (arith, c.loop-w-test.false)) c.loop-w.invariant

@@ -1,6 +1,5 @@
 -- The path is numbered first, from z on, then the other nodes in their order.
 -- Assumes nothing.
-use Prim.Native.Nat.{◌-◌, ◌≤◌}
 use lib.ListN.{length}
 use Rattle.rerooting.specs.lemmas.Renumbering.{PathNumbered, OffPath}
 use Rattle.rerooting.proofs.numbers.new_numbers.Given as goal
@@ -12,7 +11,4 @@ abbrev pub decreases-loop-v : goal.decreases-loop-v
 decreases-loop-v l = l.v
 
 abbrev pub invariant-loop-w : goal.invariant-loop-w
-invariant-loop-w l = (l.w ≤ length l.parents) × OffPath l.parents (length l.parents) l.z l.w l.i l.news
-
-abbrev pub decreases-loop-w : goal.decreases-loop-w
-decreases-loop-w l = length l.parents - l.w
+invariant-loop-w l = OffPath l.parents (length l.parents) l.z l.w l.i l.news

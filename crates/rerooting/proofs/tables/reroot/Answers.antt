@@ -4,40 +4,39 @@ use mathlib.Core.Path.{◌≡◌, sym, ◌∙◌}
 use native.Mathlib.Omega.{arith}
 use Rattle.tree_check.specs.Table.{tips, nodes}
 use Rattle.tree_check.specs.IsTree.{IsTree}
-use Rattle.tree_check.specs.theorems.CheckLaws.{checked_accepted, refusal_passed}
+use Rattle.tree_check.specs.theorems.CheckLaws.{checked_accepted, number_passed}
 use Rattle.rerooting.specs.lemmas.Writing.{reroot_tree_refused, reroot_no_label, reroot_too_short, reroot_accepted}
-use Rattle.rerooting.proofs.tables.reroot.Goals.{In-Tree}
+use Rattle.rerooting.proofs.tables.reroot.Goals.{In-Ok}
 use Rattle.rerooting.proofs.tables.reroot.Goals as goal
 
 -- ---- what is known there
 
-record Known (c : In-Tree) : Type 0 where
+record Known (c : In-Ok) : Type 0 where
   tree : IsTree c.args.table.now
-  n_is : c.in-Tree.tips ≡ tips c.args.table.now
-  m_is : c.in-Tree.nodes ≡ nodes c.args.table.now
+  n_is : c.in-Ok.tree.tips ≡ tips c.args.table.now
+  m_is : c.in-Ok.tree.nodes ≡ nodes c.args.table.now
 
-known : (c : In-Tree) → Known c
+known : (c : In-Ok) → Known c
 known c =
-    let a = checked_accepted _ _ _ (sym c.check-answer.ensures.0 ∙ c.in-Tree.is) in
+    let a = checked_accepted _ _ (sym c.in-Ok.ensures.0) in
     record { tree = a.0; n_is = a.1; m_is = a.2 }
 
-pub returns-in_default : goal.returns-in_default
-returns-in_default c =
-    let h = refusal_passed _ _ _ _ c.check-answer.ensures.0 c.in_default.is
-    c.refusal_of.ensures in
+pub returns-in-Err : goal.returns-in-Err
+returns-in-Err c =
+    let h = number_passed _ _ _ c.in-Err.ensures.0 c.from.ensures in
     reroot_tree_refused _ _ _ _ h.0 h.1
 
-pub returns-then-tips-label : goal.returns-then-tips-label
-returns-then-tips-label c = let k = known (goal.at.returns-then-tips-label c).In-Tree in reroot_no_label _ _ _ k.tree (omega (arith, c.if-tips-label.true, k.n_is))
+pub returns-then-tree-label : goal.returns-then-tree-label
+returns-then-tree-label c = let k = known (goal.at.returns-then-tree-label c).In-Ok in rw c.from-then-tree-label.ensures (reroot_no_label _ _ _ k.tree (omega (arith, c.if-tree-label.true, k.n_is)))
 
 pub returns-then-out-m : goal.returns-then-out-m
-returns-then-out-m c = let k = known (goal.at.returns-then-out-m c).In-Tree in reroot_too_short _ _ _ k.tree (omega (arith, c.if-tips-label.false, k.n_is)) (omega (arith, c.if-out-m.true, c.as_index-m.ensures.0, k.m_is))
+returns-then-out-m c = let k = known (goal.at.returns-then-out-m c).In-Ok in rw c.from-then-out-m.ensures (reroot_too_short _ _ _ k.tree (omega (arith, c.if-tree-label.false, k.n_is)) (omega (arith, c.if-out-m.true, c.from-m.ensures, k.m_is)))
 
 pub write_table-requires : goal.write_table-requires
-write_table-requires c = let k = known (goal.at.write_table-requires c).In-Tree in (k.tree, c.as_index-m.ensures.0 ∙ k.m_is, omega (arith, c.if-tips-label.false, k.n_is), omega (arith, c.if-out-m.false, c.as_index-m.ensures.0, k.m_is))
+write_table-requires c = let k = known (goal.at.write_table-requires c).In-Ok in (k.tree, c.from-m.ensures ∙ k.m_is, omega (arith, c.if-tree-label.false, k.n_is), omega (arith, c.if-out-m.false, c.from-m.ensures, k.m_is))
 
 pub returns : goal.returns
 returns c =
-    let k = known (goal.at.returns c).In-Tree in
-    let a = reroot_accepted c.args.table.now c.args.label c.args.out.now k.tree (omega (arith, c.if-tips-label.false, k.n_is)) (omega (arith, c.if-out-m.false, c.as_index-m.ensures.0, k.m_is)) in
+    let k = known (goal.at.returns c).In-Ok in
+    let a = reroot_accepted c.args.table.now c.args.label c.args.out.now k.tree (omega (arith, c.if-tree-label.false, k.n_is)) (omega (arith, c.if-out-m.false, c.from-m.ensures, k.m_is)) in
     (a.0, c.write_table.ensures ∙ a.1)

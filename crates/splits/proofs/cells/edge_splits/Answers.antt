@@ -1,39 +1,9 @@
--- What is known where the search needs a hint.
+-- What is counted is whether each edge is the first with its label sets.
 -- Assumes nothing.
-use mathlib.Core.Path.{◌≡◌}
-use Prim.Native.Nat.{◌-◌}
-use native.Mathlib.Omega.{arith}
-use lib.ListN.{length}
+use Rattle.std.proofs.Common.{rules}
 use Rattle.splits.specs.lemmas.SplitCells.{edge_splits}
-use Rattle.sums.specs.theorems.CountSteps.{count-start, count_hit, count_miss, count_few}
-use Rattle.splits.proofs.cells.edge_splits.Goals.{else-is_first, then-is_first}
 use Rattle.splits.proofs.cells.edge_splits.Goals as goal
-
--- ---- the needs
-
-pub loop-i-init : goal.loop-i-init
-loop-i-init c = (omega arith, count-start _)
-
-pub overflow_add-total : goal.overflow_add-total
-overflow_add-total c =
-    omega (
-      arith,
-      c.loop-i.invariant.0,
-      count_few _ _ _ c.loop-i.invariant.1,
-      c.requires.parents.few,
-    )
-
-pub loop-i-preserved : goal.loop-i-preserved
-loop-i-preserved c =
-    let q = c.loop-i.invariant.1 in (
-      omega (arith, c.loop-i-test.true),
-      elim c.if-is_first.branch [ then-is_first h ↦ rw h.total-is (count_hit _ _ _ _ q c.is_first.ensures h.if-is_first.true) | else-is_first h ↦ rw h.total-is (count_miss _ _ _ _ q c.is_first.ensures h.if-is_first.false) ],
-    )
 
 pub returns : goal.returns
 unfolding edge_splits
-returns c =
-    let l = c.loop-i in
-    let e : l.i ≡ length c.args.parents.now - 2 =
-    omega (arith, l.invariant.0, c.loop-i-test.false) in
-    rw e at l.invariant.1
+returns c = c.count_of.ensures _ (λ i b l k. search rules)

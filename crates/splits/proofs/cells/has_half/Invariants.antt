@@ -1,13 +1,10 @@
 -- The invariant: no edge before row `k` is the other half.
 -- Assumes nothing.
-use Prim.Native.Nat.{ℕ, ◌≤◌, ◌<◌, ◌-◌}
+use Prim.Native.Nat.{ℕ, ◌<◌}
 use mathlib.Core.Path.{◌≡◌}
 use mathlib.Core.Bool.{false}
 use Rattle.splits.specs.lemmas.SplitCells.{half_row}
 use Rattle.splits.proofs.cells.has_half.Given as goal
 
 abbrev pub invariant-loop-k : goal.invariant-loop-k
-invariant-loop-k l = (l.k ≤ l.row) × ((j : ℕ) → j < l.k → half_row l.kept l.work l.step l.parents l.row j ≡ false)
-
-abbrev pub decreases-loop-k : goal.decreases-loop-k
-decreases-loop-k l = l.row - l.k
+invariant-loop-k l = (j : ℕ) → j < l.k → half_row l.kept l.work l.step l.parents l.row j ≡ false

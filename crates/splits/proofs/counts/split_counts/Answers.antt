@@ -8,31 +8,31 @@ use Rattle.table_words.specs.Sizes.{nodes_most}
 use Rattle.tree_check.specs.Table.{tips, nodes}
 use Rattle.marks.specs.Marks.{kept_of}
 use Rattle.pair_check.specs.PairOrder.{MarkedPair}
-use Rattle.pair_check.specs.lemmas.PairOutcomes.{work_says, work_passed, edges_some}
+use Rattle.pair_check.specs.lemmas.PairOutcomes.{work_says, work_told, edges_some}
 use Rattle.tree_pairs.proofs.lemmas.LentTables.{nodes_are, lent_words}
 use Rattle.splits.proofs.lemmas.SplitsCounted.{split_refused, lent_countable, lent_splits}
-use Rattle.splits.proofs.counts.split_counts.Goals.{In-Pair}
+use Rattle.splits.proofs.counts.split_counts.Goals.{In-Ok}
 use Rattle.splits.proofs.counts.split_counts.Goals as goal
 
 -- ---- what is asked there
 
 -- a pair with marks and cells enough, with how many labels are kept and the edges of both trees as told
-record Told (c : In-Pair) : Type 0 where
+record Told (c : In-Ok) : Type 0 where
   pair : MarkedPair c.args.first.now c.args.second.now c.args.marks.now
       (length c.args.work.now)
-  n_is : c.in-Pair.counted ≡ kept_of c.args.marks.now (tips c.args.first.now)
-  m_is : c.in-Pair.rows + 1 ≡ nodes c.args.first.now
-  k_is : c.in-Pair.columns + 1 ≡ nodes c.args.second.now
+  n_is : c.in-Ok.pair.counted ≡ kept_of c.args.marks.now (tips c.args.first.now)
+  m_is : c.in-Ok.pair.rows + 1 ≡ nodes c.args.first.now
+  k_is : c.in-Ok.pair.columns + 1 ≡ nodes c.args.second.now
 
-told : (c : In-Pair) → Told c
+told : (c : In-Ok) → Told c
 told c =
-    let p = work_says _ _ _ _ _ _ _ _ (sym c.cross_pair-answer.ensures.0 ∙ c.in-Pair.is) in
-    let q = nodes_are _ _ _ p.0.with_cells _ _ p.3 p.4 in
-    record { pair = p.0; n_is = p.2; m_is = q.0; k_is = q.1 }
+    let p = work_says _ _ _ _ _ (sym c.cross_pair-answer.ensures.0 ∙ c.in-Ok.is) in
+    let q = nodes_are _ _ _ p.0.with_cells _ _ p.1.rows p.1.columns in
+    record { pair = p.0; n_is = p.1.counted; m_is = q.0; k_is = q.1 }
 
 -- each has at most `nodes_most` nodes, and its parents among its words
-few : (c : In-Pair)
-    → (c.in-Pair.rows < nodes_most) × (c.in-Pair.columns < nodes_most)
+few : (c : In-Ok)
+    → (c.in-Ok.pair.rows < nodes_most) × (c.in-Ok.pair.columns < nodes_most)
 few c =
     let t = told c in (
       omega (arith, t.m_is, edges_some _ t.pair.with_cells.pair.first),
@@ -42,38 +42,38 @@ few c =
 pub returns-in_default : goal.returns-in_default
 returns-in_default c =
     let x = c.cross_pair-answer.ensures in
-    let h = work_passed _ _ _ _ _ _ _ x.0 c.in_default.is c.pair_refusal.ensures in
+    let h = work_told _ _ _ _ _ _ _ (x.0, x.1) c.in_default.is c.refusal_of.ensures in
     (split_refused _ _ _ _ _ h.0 h.1, x.2)
 
 pub overflow_add-m : goal.overflow_add-m
-overflow_add-m c = omega (arith, few c)
+overflow_add-m c = omega (arith, few (goal.at.overflow_add-m c).In-Ok)
 
 pub overflow_add-k : goal.overflow_add-k
-overflow_add-k c = omega (arith, few c)
+overflow_add-k c = omega (arith, few (goal.at.overflow_add-k c).In-Ok)
 
 pub overflow_add-m-2 : goal.overflow_add-m-2
-overflow_add-m-2 c = omega (arith, few c)
+overflow_add-m-2 c = omega (arith, few (goal.at.overflow_add-m-2 c).In-Ok)
 
 pub slice_bounds-count_splits-end : goal.slice_bounds-count_splits-end
-slice_bounds-count_splits-end c = let t = told c in (lent_words _ _ _ t.pair.with_cells _ _ t.m_is t.k_is).0
+slice_bounds-count_splits-end c = let t = told (goal.at.slice_bounds-count_splits-end c).In-Ok in (lent_words _ _ _ t.pair.with_cells _ _ t.m_is t.k_is).0
 
 pub overflow_add-k-2 : goal.overflow_add-k-2
-overflow_add-k-2 c = omega (arith, few (goal.at.overflow_add-k-2 c).In-Pair)
+overflow_add-k-2 c = omega (arith, few (goal.at.overflow_add-k-2 c).In-Ok)
 
 pub slice_bounds-count_splits-end-2 : goal.slice_bounds-count_splits-end-2
-slice_bounds-count_splits-end-2 c = let t = told (goal.at.slice_bounds-count_splits-end-2 c).In-Pair in (lent_words _ _ _ t.pair.with_cells _ _ t.m_is t.k_is).1
+slice_bounds-count_splits-end-2 c = let t = told (goal.at.slice_bounds-count_splits-end-2 c).In-Ok in (lent_words _ _ _ t.pair.with_cells _ _ t.m_is t.k_is).1
 
 pub count_splits-requires : goal.count_splits-requires
 count_splits-requires c =
-    let t = told (goal.at.count_splits-requires c).In-Pair in
+    let t = told (goal.at.count_splits-requires c).In-Ok in
     lent_countable _ _ _ _ _ t.pair c.cross_pair-answer.ensures.2
-    _ _ _ (c.as_count.ensures.0 ∙ t.n_is) t.m_is t.k_is
+    _ _ _ (c.from.ensures ∙ t.n_is) t.m_is t.k_is
 
 pub returns : goal.returns
 returns c =
-    let t = told (goal.at.returns c).In-Pair in
+    let t = told (goal.at.returns c).In-Ok in
     let x = c.cross_pair-answer.ensures.2 in (
-      lent_splits _ _ _ _ _ t.pair x _ _ _ (c.as_count.ensures.0 ∙ t.n_is) t.m_is t.k_is _
+      lent_splits _ _ _ _ _ t.pair x _ _ _ (c.from.ensures ∙ t.n_is) t.m_is t.k_is _
           c.count_splits.ensures,
       x,
     )

@@ -11,12 +11,12 @@ returns-then-words-lt2 c =
 
 pub returns-then-words-whole : goal.returns-then-words-whole
 returns-then-words-whole c =
-    let w = c.as_index in
+    let w = c.from in
     let a = c.args in
-    (length_short a.words.now w.result w.ensures.0 (omega arith) c.if-words-whole.true, omega arith)
+    (length_short a.words.now w.result w.ensures (omega arith) c.if-words-whole.true, omega arith)
 
 pub returns : goal.returns
 returns c =
-    let w = c.as_index in
+    let w = c.from in
     let a = c.args in
-    (length_whole a.words.now w.result w.ensures.0 (omega arith) (omega arith), omega arith)
+    (length_whole a.words.now w.result w.ensures (omega arith) (omega arith), omega arith)

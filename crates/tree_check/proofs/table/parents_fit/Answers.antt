@@ -16,7 +16,7 @@ told : (c : After-parent_fits)
     → let i = c.loop-i.i in
     parent_fits i (word c.args.parents.now i) ≡ c.parent_fits.result
 told c =
-    ap (parent_fits c.loop-i.i) (sym c.as_index.ensures.0)
+    ap (parent_fits c.loop-i.i) (sym c.from.ensures)
     ∙ sym c.parent_fits.ensures
 
 pub loop-i-init : goal.loop-i-init

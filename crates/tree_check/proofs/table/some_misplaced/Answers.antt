@@ -18,8 +18,8 @@ told : (c : After-is_misplaced)
     ≡ c.is_misplaced.result
 told c =
     ap₂ (misplaced c.loop-i.i)
-    (sym c.as_index.ensures.0)
-    (sym c.as_index-in-loop-i.ensures.0)
+    (sym c.from.ensures)
+    (sym c.from-in-loop-i.ensures)
     ∙ sym c.is_misplaced.ensures
 
 pub loop-i-init : goal.loop-i-init

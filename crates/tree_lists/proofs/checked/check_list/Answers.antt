@@ -15,8 +15,8 @@ use Rattle.tree_lists.proofs.checked.check_list.Goals as goal
 
 few : (c : After-is_few) → c.is_few.result ≡ true
     → (1 ≤ length c.args.list.now)
-    × (2 ≤ c.as_index-k.result) × (c.as_index-k.result ≤ trees_most)
-few c = number_right _ _ _ c.word_0.ensures c.as_index-k.ensures.0 _ c.is_few.ensures
+    × (2 ≤ c.from-k.result) × (c.from-k.result ≤ trees_most)
+few c = number_right _ _ _ c.word_0.ensures c.from-k.ensures _ c.is_few.ensures
 
 pub starts_of-starts-requires : goal.starts_of-starts-requires
 starts_of-starts-requires c = let f = few (goal.at.starts_of-starts-requires c).After-is_few c.if-is_few.true in (f.0, f.2)
@@ -54,8 +54,8 @@ some_wrong-requires c =
 
 pub returns-then-some_wrong : goal.returns-then-some_wrong
 returns-then-some_wrong c =
-    wrong_trees _ _ _ c.word_0.ensures c.as_index-k.ensures.0 _ c.is_few.ensures
-    c.if-is_few.true _ c.starts_of-starts.ensures _ c.word_0-n.ensures _ c.some_wrong.ensures c.if-some_wrong.true _ c.refused.ensures
+    wrong_trees _ _ _ c.word_0.ensures c.from-k.ensures _ c.is_few.ensures
+    c.if-is_few.true _ c.starts_of-starts.ensures _ c.word_0-n.ensures _ c.some_wrong.ensures c.if-some_wrong.true _ (rw c.from.ensures at c.refused.ensures)
 
 pub bounds-starts-k : goal.bounds-starts-k
 bounds-starts-k c =
@@ -63,9 +63,9 @@ bounds-starts-k c =
 
 pub returns-then-starts-k : goal.returns-then-starts-k
 returns-then-starts-k c =
-    left_over _ _ _ c.word_0.ensures c.as_index-k.ensures.0 _ c.is_few.ensures
+    left_over _ _ _ c.word_0.ensures c.from-k.ensures _ c.is_few.ensures
     c.if-is_few.true _ c.starts_of-starts.ensures _ c.word_0-n.ensures _ c.some_wrong.ensures c.if-some_wrong.false
-    c.if-starts-k.true _ c.refused-then-starts-k.ensures
+    c.if-starts-k.true _ (rw c.from-then-starts-k.ensures at c.refused-then-starts-k.ensures)
 
 pub most_edges-requires : goal.most_edges-requires
 most_edges-requires c =
@@ -74,11 +74,11 @@ most_edges-requires c =
 
 pub returns-then-is_few : goal.returns-then-is_few
 returns-then-is_few c =
-    measured _ _ _ c.word_0.ensures c.as_index-k.ensures.0 _ c.is_few.ensures
+    measured _ _ _ c.word_0.ensures c.from-k.ensures _ c.is_few.ensures
     c.if-is_few.true _ c.starts_of-starts.ensures _ c.word_0-n.ensures _ c.some_wrong.ensures c.if-some_wrong.false
-    c.if-starts-k.false _ _ c.as_index.ensures.0 c.most_edges.ensures.0
+    c.if-starts-k.false _ _ c.from-then-is_few.ensures c.most_edges.ensures.0
 
 pub returns : goal.returns
 returns c =
-    wrong_number _ _ _ c.word_0.ensures c.as_index-k.ensures.0 _ c.is_few.ensures
-    c.if-is_few.false _ c.refused-2.ensures
+    wrong_number _ _ _ c.word_0.ensures c.from-k.ensures _ c.is_few.ensures
+    c.if-is_few.false _ (rw c.from-2.ensures at c.refused-2.ensures)

@@ -26,22 +26,7 @@ lent : (c : In-loop-i) → (let cells = c.args.starts.now in
 lent c = lent_tree c.args.list.now c.requires.0 c.args.k c.args.starts.now c.requires.2 c.loop-i.i c.loop-i-test.true
 
 pub loop-i-init : goal.loop-i-init
-loop-i-init c = (omega arith, largest_none _, omega arith)
-
-pub offset_bounds-starts-i : goal.offset_bounds-starts-i
-offset_bounds-starts-i c = omega (arith, c.loop-i-test.true, c.requires.1)
-
-pub bounds-starts-i : goal.bounds-starts-i
-bounds-starts-i c = omega (arith, c.loop-i-test.true, c.requires.1)
-
-pub overflow_add-to : goal.overflow_add-to
-overflow_add-to c = omega (arith, c.loop-i-test.true, c.requires.1)
-
-pub offset_bounds-starts-i-in-loop-i : goal.offset_bounds-starts-i-in-loop-i
-offset_bounds-starts-i-in-loop-i c = omega (arith, c.loop-i-test.true, c.requires.1)
-
-pub bounds-starts-i-in-loop-i : goal.bounds-starts-i-in-loop-i
-bounds-starts-i-in-loop-i c = omega (arith, c.loop-i-test.true, c.requires.1)
+loop-i-init c = (largest_none _, omega arith)
 
 pub offset_bounds-list-from : goal.offset_bounds-list-from
 offset_bounds-list-from c = omega (arith, from (goal.at.offset_bounds-list-from c).In-loop-i, to (goal.at.offset_bounds-list-from c).In-loop-i)
@@ -59,13 +44,12 @@ pub loop-i-preserved : goal.loop-i-preserved
 loop-i-preserved c =
     let l = c.loop-i in
     let e = told_edges _ _ _ (lent (goal.at.loop-i-preserved c).In-loop-i) _ c.edges_of-edges.ensures.0 in (
-      omega (arith, c.loop-i-test.true),
-      elim c.if-most-edges.branch [ then-most-edges h ↦ rw h.most-is (largest_more _ _ _ _ l.invariant.1 e h.if-most-edges.true) | else-most-edges h ↦ rw h.most-is (largest_same _ _ _ _ l.invariant.1 e h.if-most-edges.false) ],
-      elim c.if-most-edges.branch [ then-most-edges h ↦ rw h.most-is c.edges_of-edges.ensures.1 | else-most-edges h ↦ rw h.most-is l.invariant.2 ],
+      elim c.if-most-edges.branch [ then-most-edges h ↦ rw h.most-is (largest_more _ _ _ _ l.invariant.0 e h.if-most-edges.true) | else-most-edges h ↦ rw h.most-is (largest_same _ _ _ _ l.invariant.0 e h.if-most-edges.false) ],
+      elim c.if-most-edges.branch [ then-most-edges h ↦ rw h.most-is c.edges_of-edges.ensures.1 | else-most-edges h ↦ rw h.most-is l.invariant.1 ],
     )
 
 pub returns : goal.returns
 returns c =
     let l = c.loop-i in
-    let e : l.i ≡ c.args.k = omega (arith, l.invariant.0, c.loop-i-test.false) in
-    (rw e at l.invariant.1, l.invariant.2)
+    let e : l.i ≡ c.args.k = omega (arith, c.loop-i-test.false) in
+    (rw e at l.invariant.0, l.invariant.1)

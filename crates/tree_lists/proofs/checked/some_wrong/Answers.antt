@@ -27,24 +27,6 @@ lent : (c : In-loop-i) → (let cells = c.args.starts.now in
     take (word cells (i + 1) - word cells i) (drop (word cells i) c.args.list.now) ≡ tree_at c.args.list.now i)
 lent c = lent_tree c.args.list.now c.requires.0 c.args.k c.args.starts.now c.requires.2 c.loop-i.i c.loop-i-test.true
 
-pub loop-i-init : goal.loop-i-init
-loop-i-init c = (omega arith, λ j l. absurd (omega arith))
-
-pub offset_bounds-starts-i : goal.offset_bounds-starts-i
-offset_bounds-starts-i c = omega (arith, c.loop-i-test.true, c.requires.1)
-
-pub bounds-starts-i : goal.bounds-starts-i
-bounds-starts-i c = omega (arith, c.loop-i-test.true, c.requires.1)
-
-pub overflow_add-to : goal.overflow_add-to
-overflow_add-to c = omega (arith, c.loop-i-test.true, c.requires.1)
-
-pub offset_bounds-starts-i-in-loop-i : goal.offset_bounds-starts-i-in-loop-i
-offset_bounds-starts-i-in-loop-i c = omega (arith, c.loop-i-test.true, c.requires.1)
-
-pub bounds-starts-i-in-loop-i : goal.bounds-starts-i-in-loop-i
-bounds-starts-i-in-loop-i c = omega (arith, c.loop-i-test.true, c.requires.1)
-
 pub offset_bounds-list-from : goal.offset_bounds-list-from
 offset_bounds-list-from c = omega (arith, from (goal.at.offset_bounds-list-from c).In-loop-i, to (goal.at.offset_bounds-list-from c).In-loop-i)
 
@@ -63,11 +45,9 @@ returns-then-is_wrong c =
     (told_wrong _ _ _ _ (lent (goal.at.returns-then-is_wrong c).In-loop-i) _ c.is_wrong.ensures ∙ c.if-is_wrong.true))
 
 pub loop-i-preserved : goal.loop-i-preserved
-loop-i-preserved c = (
-  omega (arith, c.loop-i-test.true),
-  below_more _ _ c.loop-i.invariant.1
-      (told_wrong _ _ _ _ (lent (goal.at.loop-i-preserved c).In-loop-i) _ c.is_wrong.ensures ∙ c.if-is_wrong.false),
-)
+loop-i-preserved c =
+    below_more _ _ c.loop-i.invariant
+    (told_wrong _ _ _ _ (lent (goal.at.loop-i-preserved c).In-loop-i) _ c.is_wrong.ensures ∙ c.if-is_wrong.false)
 
 pub returns : goal.returns
-returns c = let l = c.loop-i in sym (some-false _ _ (λ j m. l.invariant.1 j (omega (arith, m, l.invariant.0, c.loop-i-test.false))))
+returns c = sym (some-false _ _ (λ j m. c.loop-i.invariant j (omega (arith, m, c.loop-i-test.false))))

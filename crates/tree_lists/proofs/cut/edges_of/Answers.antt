@@ -12,8 +12,8 @@ returns-then-words-lt2 c = (omega (arith, get_or-eq_default {A = ℕ} c.args.wor
 
 pub returns-then-m-eq0 : goal.returns-then-m-eq0
 unfolding nodes
-returns-then-m-eq0 c = (omega (arith, c.if-m-eq0.true, c.as_index-m.ensures.0), omega arith)
+returns-then-m-eq0 c = (omega (arith, c.if-m-eq0.true, c.from-m.ensures), omega arith)
 
 pub returns : goal.returns
 unfolding nodes
-returns c = (omega (arith, c.as_index-m.ensures.0), omega (arith, c.as_index-m.ensures.1))
+returns c = (omega (arith, c.from-m.ensures), omega (arith, c.type_inv.words 1))

@@ -10,10 +10,10 @@ use Rattle.tree_lists.proofs.cut.starts_of.Goals.{At-loop-i}
 use Rattle.tree_lists.proofs.cut.starts_of.Goals as goal
 
 pub loop-i-init : goal.loop-i-init
-loop-i-init c = (omega arith, first-start _, starts_first _)
+loop-i-init c = (first-start _, starts_first _)
 
 inside : (c : At-loop-i) → c.loop-i.at ≤ length c.args.list.now
-inside c = omega (arith, c.loop-i.invariant.1, start_inside c.args.list.now c.requires.0 c.loop-i.i)
+inside c = omega (arith, c.loop-i.invariant.0, start_inside c.args.list.now c.requires.0 c.loop-i.i)
 
 pub offset_bounds-list-at : goal.offset_bounds-list-at
 offset_bounds-list-at c = omega (arith, inside (goal.at.offset_bounds-list-at c).At-loop-i)
@@ -24,20 +24,14 @@ slice_bounds-table_length-count c = omega (arith, inside (goal.at.slice_bounds-t
 pub slice_bounds-table_length-start : goal.slice_bounds-table_length-start
 slice_bounds-table_length-start c = omega (arith, inside (goal.at.slice_bounds-table_length-start c).At-loop-i)
 
-pub overflow_add-at : goal.overflow_add-at
-overflow_add-at c = omega (arith, c.table_length-at.ensures.1, inside (goal.at.overflow_add-at c).At-loop-i)
-
-pub bounds-starts-i : goal.bounds-starts-i
-bounds-starts-i c = omega (arith, c.loop-i-test.true, c.requires.1)
-
 pub loop-i-preserved : goal.loop-i-preserved
 loop-i-preserved c =
     let t = c.loop-i-test.true in
-    let e = start_after c.args.list.now c.loop-i.i c.loop-i.at c.table_length-at.result c.loop-i.invariant.1 c.table_length-at.ensures.0 in
-    (omega (arith, t), e, starts_next _ c.loop-i.i _ _ (omega (arith, t, c.requires.1)) e c.loop-i.invariant.2)
+    let e = start_after c.args.list.now c.loop-i.i c.loop-i.at c.table_length-at.result c.loop-i.invariant.0 c.table_length-at.ensures.0 in
+    (e, starts_next _ c.loop-i.i _ _ (omega (arith, t, c.requires.1)) e c.loop-i.invariant.1)
 
 pub returns : goal.returns
 returns c =
     let l = c.loop-i in
-    let e : l.i ≡ c.args.k = omega (arith, l.invariant.0, c.loop-i-test.false) in
-    rw e at l.invariant.2
+    let e : l.i ≡ c.args.k = omega (arith, c.loop-i-test.false) in
+    rw e at l.invariant.1

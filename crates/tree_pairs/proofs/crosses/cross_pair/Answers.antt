@@ -1,33 +1,29 @@
--- The cells are filled exactly where the pair's number is 0.
+-- The cells are filled exactly where the pair is accepted.
 -- Assumes nothing.
-use mathlib.Core.Path.{◌≡◌, sym, ◌∙◌}
+use mathlib.Core.Path.{sym}
 use lib.ListN.{length}
-use Rattle.tree_check.specs.Refusals.{refusal}
-use Rattle.pair_check.specs.PairOrder.{pair_order, MarkedPair}
-use Rattle.pair_check.specs.theorems.PairCheck.{pair_check}
+use Rattle.std.proofs.lemmas.Result.{err_from_is_err_and}
+use Rattle.pair_check.specs.PairOrder.{MarkedPair}
+use Rattle.pair_check.specs.lemmas.PairOutcomes.{work_says, work_refused}
 use Rattle.tree_pairs.proofs.lemmas.LentTables.{crossings_accepted, crossings_refused}
-use Rattle.tree_pairs.proofs.crosses.cross_pair.Goals.{After-pair_refusal}
+use Rattle.tree_pairs.proofs.crosses.cross_pair.Goals.{In_ok-pair}
 use Rattle.tree_pairs.proofs.crosses.cross_pair.Goals as goal
 
--- the number of the pair
-number : (c : After-pair_refusal)
-    → c.pair_refusal.result ≡ refusal (pair_order c.args.first.now c.args.second.now c.args.marks.now (length c.args.work.now))
-number c = c.pair_refusal.ensures ∙ c.check_work-answer.ensures.1.number_told
-
--- .. is 0, so the two are a pair with cells enough
-pair : (c : After-pair_refusal) → c.pair_refusal.result ≡ 0
-    → MarkedPair c.args.first.now c.args.second.now c.args.marks.now (length c.args.work.now)
-pair c z = (pair_check _ _ _ _).0 (sym (number c) ∙ z)
+-- the two are a pair with marks, and with cells enough
+pair : (c : In_ok-pair) → MarkedPair c.args.first.now c.args.second.now c.args.marks.now (length c.args.work.now)
+pair c = (work_says _ _ _ _ _ (sym c.in_ok-pair.ensures.0)).0
 
 pub fill-requires : goal.fill-requires
-fill-requires c = (pair (goal.at.fill-requires c).After-pair_refusal c.if-pair_refusal-eq0.true).with_cells
+fill-requires c = (pair (goal.at.fill-requires c).In_ok-pair).with_cells
 
-pub returns-then-pair_refusal-eq0 : goal.returns-then-pair_refusal-eq0
-returns-then-pair_refusal-eq0 c =
-    let a = c.check_work-answer.ensures in
-    (a.0, a.1, crossings_accepted _ _ _ _ _ (pair (goal.at.returns-then-pair_refusal-eq0 c).After-pair_refusal c.if-pair_refusal-eq0.true) c.fill.ensures)
+pub returns-in_err-pair : goal.returns-in_err-pair
+returns-in_err-pair c =
+    let p = err_from_is_err_and c.from_residual.result c.from_residual.ensures.1 in
+    let a = c.in_err-pair.ensures in
+    let h = work_refused _ _ _ _ _ a in
+    rw (p.1, p.2) (a.0, a.1, crossings_refused _ _ _ _ _ (sym h.0) h.1)
 
-pub returns-else-pair_refusal-eq0 : goal.returns-else-pair_refusal-eq0
-returns-else-pair_refusal-eq0 c =
-    let a = c.check_work-answer.ensures in
-    (a.0, a.1, crossings_refused _ _ _ _ _ (number (goal.at.returns-else-pair_refusal-eq0 c).After-pair_refusal) c.if-pair_refusal-eq0.false)
+pub returns : goal.returns
+returns c =
+    let a = c.in_ok-pair.ensures in
+    (a.0, a.1, crossings_accepted _ _ _ _ _ (pair (goal.at.returns c).In_ok-pair) c.fill.ensures)

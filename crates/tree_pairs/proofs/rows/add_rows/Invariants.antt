@@ -5,6 +5,3 @@ use Rattle.tree_pairs.proofs.rows.add_rows.Given as goal
 
 abbrev pub invariant-loop-i : goal.invariant-loop-i
 invariant-loop-i l = AddingRows l.parents l.initial.work l.width l.i l.work
-
-abbrev pub decreases-loop-i : goal.decreases-loop-i
-decreases-loop-i l = l.i

@@ -1,11 +1,7 @@
 -- The invariant: the cells before column `j` are filled.
 -- Assumes nothing.
-use Prim.Native.Nat.{◌≤◌, ◌-◌}
 use Rattle.tree_pairs.specs.lemmas.TipRows.{RowFilled, in_spans}
 use Rattle.tree_pairs.proofs.rows_of_tips.tip_row.Given as goal
 
 abbrev pub invariant-loop-j : goal.invariant-loop-j
-invariant-loop-j l = (l.j ≤ l.width) × RowFilled (in_spans l.begin l.end l.at) l.base l.j l.initial.work l.work
-
-abbrev pub decreases-loop-j : goal.decreases-loop-j
-decreases-loop-j l = l.width - l.j
+invariant-loop-j l = RowFilled (in_spans l.begin l.end l.at) l.base l.j l.initial.work l.work

@@ -4,39 +4,39 @@ use mathlib.Core.Path.{refl, sym, ◌∙◌}
 use native.Mathlib.Omega.{arith}
 use Rattle.trees.specs.lemmas.Climbing.{Climbed, first_climbs, second_climbs, third_climbs}
 use Rattle.trees.specs.lemmas.Climbing.{first_second_met, first_third_met, second_third_met}
-use Rattle.trees.proofs.centres.join.Goals.{After-as_index-x, After-as_index-y, After-as_index-z, After-as_index-z-else-z-y}
+use Rattle.trees.proofs.centres.join.Goals.{After-from-x, After-from-y, After-from-z, After-from-z-else-z-y}
 use Rattle.trees.proofs.centres.join.Goals as goal
 
 -- ---- what is known there
 
 -- each arm replaces the largest of the three by its parent
-x-climbs : (c : After-as_index-x)
-    → Climbed c.args.parents.now c.as_index-x.result c.loop-x.y c.loop-x.z
+x-climbs : (c : After-from-x)
+    → Climbed c.args.parents.now c.from-x.result c.loop-x.y c.loop-x.z
     c.loop-x.x c.loop-x.y c.loop-x.z
 x-climbs c =
     let l = c.loop-x in
-    first_climbs _ _ _ _ l.invariant.0 _ c.as_index-x.ensures.0 (omega arith) (omega arith)
+    first_climbs _ _ _ _ l.invariant.0 _ c.from-x.ensures (omega arith) (omega arith)
 
-z-climbs-past-x : (c : After-as_index-z)
-    → Climbed c.args.parents.now c.loop-x.x c.loop-x.y c.as_index-z.result
+z-climbs-past-x : (c : After-from-z)
+    → Climbed c.args.parents.now c.loop-x.x c.loop-x.y c.from-z.result
     c.loop-x.x c.loop-x.y c.loop-x.z
 z-climbs-past-x c =
     let l = c.loop-x in
-    third_climbs _ _ _ _ l.invariant.0 _ c.as_index-z.ensures.0 (omega arith) (omega arith)
+    third_climbs _ _ _ _ l.invariant.0 _ c.from-z.ensures (omega arith) (omega arith)
 
-y-climbs : (c : After-as_index-y)
-    → Climbed c.args.parents.now c.loop-x.x c.as_index-y.result c.loop-x.z
+y-climbs : (c : After-from-y)
+    → Climbed c.args.parents.now c.loop-x.x c.from-y.result c.loop-x.z
     c.loop-x.x c.loop-x.y c.loop-x.z
 y-climbs c =
     let l = c.loop-x in
-    second_climbs _ _ _ _ l.invariant.0 _ c.as_index-y.ensures.0 (omega arith) (omega arith)
+    second_climbs _ _ _ _ l.invariant.0 _ c.from-y.ensures (omega arith) (omega arith)
 
-z-climbs-past-y : (c : After-as_index-z-else-z-y)
-    → Climbed c.args.parents.now c.loop-x.x c.loop-x.y c.as_index-z-else-z-y.result
+z-climbs-past-y : (c : After-from-z-else-z-y)
+    → Climbed c.args.parents.now c.loop-x.x c.loop-x.y c.from-z-else-z-y.result
     c.loop-x.x c.loop-x.y c.loop-x.z
 z-climbs-past-y c =
     let l = c.loop-x in
-    third_climbs _ _ _ _ l.invariant.0 _ c.as_index-z-else-z-y.ensures.0 (omega arith) (omega arith)
+    third_climbs _ _ _ _ l.invariant.0 _ c.from-z-else-z-y.ensures (omega arith) (omega arith)
 
 pub loop-x-init : goal.loop-x-init
 loop-x-init c = (c.requires, refl)

@@ -1,13 +1,10 @@
 -- The invariant: no edge before `i` shows a pairing.
 -- Assumes nothing.
-use Prim.Native.Nat.{ℕ, ◌≤◌, ◌<◌, ◌-◌}
+use Prim.Native.Nat.{ℕ, ◌≤◌, ◌<◌}
 use mathlib.Core.Path.{◌≡◌}
 use Rattle.tree_check.specs.Table.{word}
 use Rattle.trees.specs.lemmas.Sides.{pairing}
 use Rattle.trees.proofs.quartet.shown_pairing.Given as goal
 
 abbrev pub invariant-loop-i : goal.invariant-loop-i
-invariant-loop-i l = (1 ≤ l.i) × ((j : ℕ) → j < l.i → 1 ≤ j → pairing (word l.sides j) ≡ 0)
-
-abbrev pub decreases-loop-i : goal.decreases-loop-i
-decreases-loop-i l = l.m - l.i
+invariant-loop-i l = (j : ℕ) → j < l.i → 1 ≤ j → pairing (word l.sides j) ≡ 0

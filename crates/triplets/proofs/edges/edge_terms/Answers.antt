@@ -12,17 +12,17 @@ use Rattle.triplets.specs.lemmas.EdgeSums.{edge_sum}
 use Rattle.triplets.proofs.lemmas.EdgeSums.{sum-start, edge_term_most}
 use Rattle.triplets.specs.lemmas.EdgeSums.{EdgeSizes}
 use Rattle.triplets.proofs.lemmas.EdgeSums.{edge_sizes, edges_low}
-use Rattle.triplets.proofs.edges.edge_terms.Goals.{After-as_index-above, After-edge_term-total}
+use Rattle.triplets.proofs.edges.edge_terms.Goals.{After-from-above, After-edge_term-total}
 use Rattle.triplets.proofs.edges.edge_terms.Goals as goal
 
 -- ---- what is known there
 
 -- the cells of the edge
-cells : (c : After-as_index-above)
+cells : (c : After-from-above)
     → (let s = c.args in
-    EdgeSizes s.work.now s.step s.parents.now c.loop-i.i (c.as_index-above.result - 1))
+    EdgeSizes s.work.now s.step s.parents.now c.loop-i.i (c.from-above.result - 1))
 cells c =
-    edge_sizes _ _ _ c.requires _ _ c.loop-i-test.true (ap (λ (x : ℕ). x - 1) c.as_index-above.ensures.0)
+    edge_sizes _ _ _ c.requires _ _ c.loop-i-test.true (ap (λ (x : ℕ). x - 1) c.from-above.ensures)
 
 -- the term that is added
 term : (c : After-edge_term-total)
@@ -33,38 +33,21 @@ term : (c : After-edge_term-total)
 term c =
     c.edge_term-total.ensures
     ∙ ap₂ edge_term c.cell_count.ensures.0 c.cell_count-in-loop-i.ensures.0
-    ∙ (cells (goal.at.After-edge_term-total c).After-as_index-above).term
+    ∙ (cells (goal.at.After-edge_term-total c).After-from-above).term
 
 edge-most : (c : After-edge_term-total) → c.edge_term-total.result ≤ 16777216
 edge-most c =
-    let s = (cells (goal.at.After-edge_term-total c).After-as_index-above).sizes in
-    rw (← term c) at (rw (cells (goal.at.After-edge_term-total c).After-as_index-above).term at (edge_term_most _ _ s.0 s.1))
+    let s = (cells (goal.at.After-edge_term-total c).After-from-above).sizes in
+    rw (← term c) at (rw (cells (goal.at.After-edge_term-total c).After-from-above).term at (edge_term_most _ _ s.0 s.1))
 
 -- ---- the needs
 
 pub loop-i-init : goal.loop-i-init
-loop-i-init c = (omega arith, sum-start _)
+loop-i-init c = sum-start _
 
 pub overflow_sub-above : goal.overflow_sub-above
 overflow_sub-above c =
-    omega (arith, c.as_index-above.ensures.0, (parent-word _ c.requires.room.parents _ c.loop-i-test.true).0)
-
-pub overflow_mul-i : goal.overflow_mul-i
-overflow_mul-i c = omega (arith, (cells c).cells.low.0)
-
-pub bounds-work-i : goal.bounds-work-i
-bounds-work-i c = omega (arith, (cells (goal.at.bounds-work-i c).After-as_index-above).cells.inside.0)
-
-pub overflow_mul-above : goal.overflow_mul-above
-overflow_mul-above c = omega (arith, (cells (goal.at.overflow_mul-above c).After-as_index-above).cells.low.1)
-
-pub bounds-work-above : goal.bounds-work-above
-bounds-work-above c = omega (arith, (cells (goal.at.bounds-work-above c).After-as_index-above).cells.inside.1)
-
-pub edge_term-total-requires : goal.edge_term-total-requires
-edge_term-total-requires c =
-    let s = (cells (goal.at.edge_term-total-requires c).After-as_index-above).sizes in
-    (omega (arith, c.cell_count-in-loop-i.ensures.0, c.cell_count.ensures.0, s.0), omega (arith, c.cell_count-in-loop-i.ensures.0, s.1))
+    omega (arith, c.from-above.ensures, (parent-word _ c.requires.room.parents _ c.loop-i-test.true).0)
 
 pub overflow_add-total : goal.overflow_add-total
 overflow_add-total c =
@@ -72,19 +55,19 @@ overflow_add-total c =
     omega (
       arith,
       edge-most c,
-      c.loop-i.invariant.1,
+      c.loop-i.invariant,
       edges_low a.work.now a.step a.parents.now c.requires c.loop-i.i
-          (omega (arith, c.loop-i.invariant.0)),
+          (omega arith),
     )
 
 pub loop-i-preserved : goal.loop-i-preserved
 loop-i-preserved c =
-    (omega (arith, c.loop-i-test.true), sum_step _ _ _ _ c.loop-i.invariant.1 (term c))
+    sum_step _ _ _ _ c.loop-i.invariant (term c)
 
 pub returns : goal.returns
 unfolding edge_sum
 returns c =
     let l = c.loop-i in
     let e : l.i ≡ length c.args.parents.now - 2 =
-    omega (arith, l.invariant.0, c.loop-i-test.false) in
-    rw e at l.invariant.1
+    omega (arith, c.loop-i-test.false) in
+    rw e at l.invariant

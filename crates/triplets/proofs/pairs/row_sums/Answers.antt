@@ -9,7 +9,7 @@ use Rattle.tree_check.specs.Table.{word}
 use Rattle.tree_pairs.specs.lemmas.EdgeRows.{above_in}
 use Rattle.triplets.proofs.lemmas.PairCells.{alike_row_none, apart_row-zero}
 use Rattle.triplets.proofs.lemmas.ListedRows.{row_starts, row_cells_at, row_is}
-use Rattle.triplets.proofs.pairs.row_sums.Goals.{After-as_index, After-shared_slice_known-5-1}
+use Rattle.triplets.proofs.pairs.row_sums.Goals.{After-from, After-shared_slice_known-5-1}
 use Rattle.triplets.proofs.pairs.row_sums.Goals as goal
 
 -- ---- what is known there
@@ -20,11 +20,11 @@ starts : (c : After-shared_slice_known-5-1)
     (s.row * w ≤ work_room) × (above_in s.first_parents.now s.row * w ≤ work_room) × (s.row * w < length s.work.now))
 starts c = row_starts _ _ _ c.requires.0 _ c.requires.2 c.requires.3
 
-up_is : (c : After-as_index)
+up_is : (c : After-from)
     → (let s = c.args in
     let w = length s.second_parents.now - 1 in
-    (c.as_index.result - 1) * w ≡ above_in s.first_parents.now s.row * w)
-up_is c = ap (λ (x : ℕ). (x - 1) * (length c.args.second_parents.now - 1)) c.as_index.ensures.0
+    (c.from.result - 1) * w ≡ above_in s.first_parents.now s.row * w)
+up_is c = ap (λ (x : ℕ). (x - 1) * (length c.args.second_parents.now - 1)) c.from.ensures
 
 -- ---- the needs
 
@@ -44,7 +44,7 @@ returns-then-cell_count-lt2 c =
 
 pub overflow_sub-up : goal.overflow_sub-up
 overflow_sub-up c =
-    omega (arith, c.as_index.ensures.0, (c.requires.0.first.earlier _ c.requires.2 c.requires.3).0)
+    omega (arith, c.from.ensures, (c.requires.0.first.earlier _ c.requires.2 c.requires.3).0)
 
 pub overflow_mul-up : goal.overflow_mul-up
 overflow_mul-up c = omega (arith, up_is c, (starts (goal.at.overflow_mul-up c).After-shared_slice_known-5-1).1)
@@ -55,5 +55,5 @@ row_terms-requires c =
 
 pub returns : goal.returns
 returns c =
-    let r = row_is _ _ _ c.requires.0 _ c.requires.2 c.requires.3 _ _ _ c.requires.1 _ (up_is (goal.at.returns c).After-as_index) in
+    let r = row_is _ _ _ c.requires.0 _ c.requires.2 c.requires.3 _ _ _ c.requires.1 _ (up_is (goal.at.returns c).After-from) in
     (c.row_terms.ensures.0 ∙ r.0, c.row_terms.ensures.1 ∙ r.1)

@@ -14,7 +14,7 @@ use Rattle.levels.specs.theorems.LevelsCheck.{AreLevels}
 use Rattle.levels.specs.lemmas.LevelOutcomes.{levels_say}
 use Rattle.views.proofs.lemmas.Marking.{marks_fit, marks-part, marks_are}
 use Rattle.views.proofs.lemmas.ViewOutcomes.{tables_away, levels_away, room_away, accepted}
-use Rattle.views.proofs.pairs.view.Goals.{After-as_index-n, After-check_levels-told, After-marks_for-marks}
+use Rattle.views.proofs.pairs.view.Goals.{After-from-n, After-check_levels-told, After-marks_for-marks}
 use Rattle.views.proofs.pairs.view.Goals as goal
 
 -- ---- what is known there
@@ -22,10 +22,10 @@ use Rattle.views.proofs.pairs.view.Goals as goal
 -- the tables are a pair, with n as told
 pair : (c : After-check_levels-told)
     → let s = c.args in
-    IsPair s.first.now s.second.now × (c.in-Pair.tips ≡ tips s.first.now)
+    IsPair s.first.now s.second.now × (c.in-Ok.pair.tips ≡ tips s.first.now)
 pair c =
-    let h = check_says _ _ _ _ _ _ (sym c.check_pair-answer.ensures.0 ∙ c.in-Pair.is) in
-    (h.0, h.1)
+    let h = check_says _ _ _ (sym c.in-Ok.ensures.0) in
+    (h.0, h.1.tips)
 
 -- the levels are told
 said : (c : After-check_levels-told)
@@ -44,12 +44,12 @@ few : (c : After-marks_for-marks) → tips c.args.first.now ≤ tips_most
 few c = (pair (goal.at.After-marks_for-marks c).After-check_levels-told).0.first.tips_range.1
 
 -- n, as the marks are lent
-tips-are : (c : After-as_index-n) → c.as_index-n.result ≡ tips c.args.first.now
-tips-are c = c.as_index-n.ensures.0 ∙ (pair (goal.at.After-as_index-n c).After-check_levels-told).1
+tips-are : (c : After-from-n) → c.from-n.result ≡ tips c.args.first.now
+tips-are c = c.from-n.ensures ∙ (pair (goal.at.After-from-n c).After-check_levels-told).1
 
-pub returns-in_default : goal.returns-in_default
-returns-in_default c =
-    let h = pair_passed _ _ _ _ _ c.check_pair-answer.ensures.0 c.in_default.is c.pair_refusal.ensures in
+pub returns-in-Err : goal.returns-in-Err
+returns-in-Err c =
+    let h = pair_passed _ _ _ _ c.in-Err.ensures c.from.ensures in
     rw c.refused.ensures (tables_away _ _ _ _ _ _ h.0 h.1)
 
 pub returns-then-told-ne0 : goal.returns-then-told-ne0
@@ -66,27 +66,27 @@ slice_bounds-marks-end c =
 
 pub slice_bounds-quartet_table-end : goal.slice_bounds-quartet_table-end
 slice_bounds-quartet_table-end c =
-    marks-part c.args.levels.now c.args.viewer _ (right (goal.at.slice_bounds-quartet_table-end c).After-marks_for-marks).long (few (goal.at.slice_bounds-quartet_table-end c).After-marks_for-marks) _ c.marks_for-marks.ensures _ (tips-are (goal.at.slice_bounds-quartet_table-end c).After-as_index-n)
+    marks-part c.args.levels.now c.args.viewer _ (right (goal.at.slice_bounds-quartet_table-end c).After-marks_for-marks).long (few (goal.at.slice_bounds-quartet_table-end c).After-marks_for-marks) _ c.marks_for-marks.ensures _ (tips-are (goal.at.slice_bounds-quartet_table-end c).After-from-n)
 
 pub returns-then-table-ne0 : goal.returns-then-table-ne0
 returns-then-table-ne0 c =
     rw c.refused-then-table-ne0.ensures (room_away _ _ _ _ _ (pair (goal.at.returns-then-table-ne0 c).After-check_levels-told).0 (right (goal.at.returns-then-table-ne0 c).After-marks_for-marks) _
-    (marks_are _ _ _ (right (goal.at.returns-then-table-ne0 c).After-marks_for-marks).long (few (goal.at.returns-then-table-ne0 c).After-marks_for-marks) _ c.marks_for-marks.ensures _ (tips-are (goal.at.returns-then-table-ne0 c).After-as_index-n)) _ c.quartet_table-table.ensures.0
+    (marks_are _ _ _ (right (goal.at.returns-then-table-ne0 c).After-marks_for-marks).long (few (goal.at.returns-then-table-ne0 c).After-marks_for-marks) _ c.marks_for-marks.ensures _ (tips-are (goal.at.returns-then-table-ne0 c).After-from-n)) _ c.quartet_table-table.ensures.0
     c.quartet_table-table.ensures.1.number _ c.quartet_table-table.ensures.2 c.if-table-ne0.true)
 
 pub slice_bounds-marks-end-2 : goal.slice_bounds-marks-end-2
 slice_bounds-marks-end-2 c =
-    marks_fit c.args.levels.now c.args.viewer _ (right (goal.at.slice_bounds-marks-end-2 c).After-marks_for-marks).long (few (goal.at.slice_bounds-marks-end-2 c).After-marks_for-marks) _ c.marks_for-marks.ensures _ (tips-are (goal.at.slice_bounds-marks-end-2 c).After-as_index-n)
+    marks_fit c.args.levels.now c.args.viewer _ (right (goal.at.slice_bounds-marks-end-2 c).After-marks_for-marks).long (few (goal.at.slice_bounds-marks-end-2 c).After-marks_for-marks) _ c.marks_for-marks.ensures _ (tips-are (goal.at.slice_bounds-marks-end-2 c).After-from-n)
 
 pub slice_bounds-split_counts-end : goal.slice_bounds-split_counts-end
 slice_bounds-split_counts-end c =
-    marks-part c.args.levels.now c.args.viewer _ (right (goal.at.slice_bounds-split_counts-end c).After-marks_for-marks).long (few (goal.at.slice_bounds-split_counts-end c).After-marks_for-marks) _ c.marks_for-marks.ensures _ (tips-are (goal.at.slice_bounds-split_counts-end c).After-as_index-n)
+    marks-part c.args.levels.now c.args.viewer _ (right (goal.at.slice_bounds-split_counts-end c).After-marks_for-marks).long (few (goal.at.slice_bounds-split_counts-end c).After-marks_for-marks) _ c.marks_for-marks.ensures _ (tips-are (goal.at.slice_bounds-split_counts-end c).After-from-n)
 
 pub returns : goal.returns
 returns c =
-    let em = marks_are _ _ _ (right (goal.at.returns c).After-marks_for-marks).long (few (goal.at.returns c).After-marks_for-marks) _ c.marks_for-marks.ensures _ (tips-are (goal.at.returns c).After-as_index-n) in
+    let em = marks_are _ _ _ (right (goal.at.returns c).After-marks_for-marks).long (few (goal.at.returns c).After-marks_for-marks) _ c.marks_for-marks.ensures _ (tips-are (goal.at.returns c).After-from-n) in
     accepted _ _ _ _ _ (pair (goal.at.returns c).After-check_levels-told).0 (right (goal.at.returns c).After-marks_for-marks) _ em _ c.quartet_table-table.ensures.0 c.quartet_table-table.ensures.1.number _
     c.quartet_table-table.ensures.2 c.if-table-ne0.false _ c.split_counts-splits.ensures.0 _ c.split_counts-splits.ensures.1
-    _ _ _ _ _ (c.as_count.ensures.0 ∙ ((said (goal.at.returns c).After-check_levels-told).1 c.if-told-ne0.false).1)
-    c.as_count-2.ensures.0 c.as_count-3.ensures.0 c.as_count-4.ensures.0
-    c.as_count-5.ensures.0
+    _ _ _ _ _ (c.from-2.ensures ∙ ((said (goal.at.returns c).After-check_levels-told).1 c.if-told-ne0.false).1)
+    c.from-3.ensures c.from-4.ensures c.from-5.ensures
+    c.from-6.ensures

@@ -11,17 +11,17 @@ pub slice_bounds-result-end : goal.slice_bounds-result-end
 slice_bounds-result-end c =
     omega (
       arith,
-      c.as_index.ensures.0,
-      c.as_index-from.ensures.0,
+      c.from.ensures,
+      c.from-from.ensures,
       place_fits c.args.table.now c.args.edge c.args.walk.now _ c.part_beyond-part.ensures,
     )
 
 pub returns : goal.returns
 returns c =
     let p = c.part_beyond-part in
-    let from = c.as_index-from.ensures.0 in
+    let from = c.from-from.ensures in
     let start = from ∙ ap (λ (x : PartBeyond). x.start) p.ensures in (
       part_cut _ _ _ _ p.ensures _ _ from
-          (ap (λ (x : ℕ). c.as_index-from.result + x) c.as_index.ensures.0),
+          (ap (λ (x : ℕ). c.from-from.result + x) c.from.ensures),
       ap (λ (o : ℕ). (c.args.walk.ref_ptr.0, o)) (omega (arith, start)),
     )

@@ -7,18 +7,18 @@ use Rattle.tree_check.specs.Table.{word}
 use Rattle.walks.specs.lemmas.TreeArrays.{few_nodes, rooted_parents}
 use Rattle.walks.specs.lemmas.Positions.{reached_first, reached_fits, reached_next, reached_all}
 use Rattle.shapes.proofs.theorems.AncestorLaws.{parent-lt}
-use Rattle.walks.proofs.sizes.ends.Goals.{After-as_index-p, After-own_label, In-loop-c}
+use Rattle.walks.proofs.sizes.ends.Goals.{After-from-p, After-own_label, In-loop-c}
 use Rattle.walks.proofs.sizes.ends.Goals as goal
 
 -- ---- what is known there
 
 -- the parent read has a smaller number
-low : (c : After-as_index-p) → c.as_index-p.result < c.loop-c.c
+low : (c : After-from-p) → c.from-p.result < c.loop-c.c
 low c =
     omega (
       arith,
-      c.as_index-p.ensures.0,
-      parent-lt _ (rooted_parents _ _ _ c.requires.0) c.loop-c.c c.loop-c.invariant.0,
+      c.from-p.ensures,
+      parent-lt _ (rooted_parents _ _ _ c.requires.0) c.loop-c.c c.loop-c.auto.c,
     )
 
 few : (c : In-loop-c) → c.loop-c.c < nodes_most
@@ -26,32 +26,20 @@ few c = omega (arith, c.loop-c-test.true, few_nodes _ _ _ c.requires.0)
 
 -- the two positions fit
 fits : (c : After-own_label)
-    → let p = c.as_index-p.result in
+    → let p = c.from-p.result in
     (p < c.loop-c.c) × (word c.loop-c.reach p + c.own_label.result ≤ tips_most)
     × (word c.loop-c.reach p + word c.args.size.now c.loop-c.c ≤ tips_most)
 fits c =
-    reached_fits _ _ _ c.requires.0 _ _ c.requires.1 c.loop-c.c c.as_index-p.result c.own_label.result
-    c.loop-c.invariant.0 c.loop-c-test.true c.as_index-p.ensures.0
-    (c.own_label.ensures ∙ ap (λ (x : ℕ). bit (ltb x c.args.n)) c.as_index.ensures.0) c.loop-c.invariant.2
+    reached_fits _ _ _ c.requires.0 _ _ c.requires.1 c.loop-c.c c.from-p.result c.own_label.result
+    c.loop-c.auto.c c.loop-c-test.true c.from-p.ensures
+    (c.own_label.ensures ∙ ap (λ (x : ℕ). bit (ltb x c.args.n)) c.from.ensures) c.loop-c.invariant
 
 pub loop-c-init : goal.loop-c-init
 loop-c-init c =
-    (omega arith, omega (arith, few_nodes _ _ _ c.requires.0), reached_first _ _ _ c.requires.0 c.args.reach.now c.requires.2)
-
-pub offset_bounds-parents-c : goal.offset_bounds-parents-c
-offset_bounds-parents-c c = omega (arith, few c)
-
-pub offset_bounds-reach-p : goal.offset_bounds-reach-p
-offset_bounds-reach-p c = omega (arith, low c, few (goal.at.offset_bounds-reach-p c).In-loop-c)
+    reached_first _ _ _ c.requires.0 c.args.reach.now c.requires.2
 
 pub bounds-reach-p : goal.bounds-reach-p
-bounds-reach-p c = omega (arith, low (goal.at.bounds-reach-p c).After-as_index-p, few (goal.at.bounds-reach-p c).In-loop-c)
-
-pub offset_bounds-labels-c : goal.offset_bounds-labels-c
-offset_bounds-labels-c c = omega (arith, few (goal.at.offset_bounds-labels-c c).In-loop-c)
-
-pub bounds-labels-c : goal.bounds-labels-c
-bounds-labels-c c = omega (arith, c.requires.0.same)
+bounds-reach-p c = omega (arith, low (goal.at.bounds-reach-p c).After-from-p, few (goal.at.bounds-reach-p c).In-loop-c)
 
 pub overflow_add-reach : goal.overflow_add-reach
 overflow_add-reach c = omega (arith, fits c)
@@ -71,21 +59,15 @@ bounds-size-c c = omega (arith, few (goal.at.bounds-size-c c).In-loop-c)
 pub overflow_add-reach-in-loop-c : goal.overflow_add-reach-in-loop-c
 overflow_add-reach-in-loop-c c = omega (arith, fits (goal.at.overflow_add-reach-in-loop-c c).After-own_label)
 
-pub offset_bounds-reach-p-in-loop-c : goal.offset_bounds-reach-p-in-loop-c
-offset_bounds-reach-p-in-loop-c c = omega (arith, fits (goal.at.offset_bounds-reach-p-in-loop-c c).After-own_label, few (goal.at.offset_bounds-reach-p-in-loop-c c).In-loop-c)
-
 pub bounds-reach-p-in-loop-c : goal.bounds-reach-p-in-loop-c
 bounds-reach-p-in-loop-c c = omega (arith, fits (goal.at.bounds-reach-p-in-loop-c c).After-own_label, few (goal.at.bounds-reach-p-in-loop-c c).In-loop-c)
 
 pub loop-c-preserved : goal.loop-c-preserved
-loop-c-preserved c = (
-  omega arith,
-  omega arith,
-  reached_next _ _ _ c.requires.0 _ _ c.requires.1 c.loop-c.c c.as_index-p.result c.own_label.result
-      c.loop-c.invariant.0 c.loop-c-test.true c.as_index-p.ensures.0
-      (c.own_label.ensures ∙ ap (λ (x : ℕ). bit (ltb x c.args.n)) c.as_index.ensures.0) c.loop-c.invariant.2,
-)
+loop-c-preserved c =
+    reached_next _ _ _ c.requires.0 _ _ c.requires.1 c.loop-c.c c.from-p.result c.own_label.result
+    c.loop-c.auto.c c.loop-c-test.true c.from-p.ensures
+    (c.own_label.ensures ∙ ap (λ (x : ℕ). bit (ltb x c.args.n)) c.from.ensures) c.loop-c.invariant
 
 pub returns : goal.returns
 returns c =
-    reached_all _ _ _ c.requires.0 c.loop-c.c _ c.loop-c-test.false c.loop-c.invariant.1 c.loop-c.invariant.2
+    reached_all _ _ _ c.requires.0 c.loop-c.c _ c.loop-c-test.false (omega (arith, few_nodes _ _ _ c.requires.0)) c.loop-c.invariant

@@ -1,12 +1,8 @@
 -- The invariant: the nodes below `c` have been placed.
 -- Assumes nothing.
-use Rattle.std.proofs.Common.{◌-◌, ◌≤◌, length}
 use Rattle.tree_check.specs.lemmas.TableParts.{table_of}
 use Rattle.walks.specs.lemmas.Positions.{Reached}
 use Rattle.walks.proofs.sizes.ends.Given as goal
 
 abbrev pub invariant-loop-c : goal.invariant-loop-c
-invariant-loop-c l = (1 ≤ l.c) × (l.c ≤ length l.parents) × Reached (table_of l.n l.parents l.labels) l.c l.reach
-
-abbrev pub decreases-loop-c : goal.decreases-loop-c
-decreases-loop-c l = length l.parents - l.c
+invariant-loop-c l = Reached (table_of l.n l.parents l.labels) l.c l.reach

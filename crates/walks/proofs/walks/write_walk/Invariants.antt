@@ -1,12 +1,8 @@
 -- The invariant: the labels of the tips before `v` are in place.
 -- Assumes nothing.
-use Rattle.std.proofs.Common.{◌≡◌, ◌-◌, ◌≤◌, length}
 use Rattle.tree_check.specs.lemmas.TableParts.{table_of}
 use Rattle.walks.specs.lemmas.Writing.{Written}
 use Rattle.walks.proofs.walks.write_walk.Given as goal
 
 abbrev pub invariant-loop-v : goal.invariant-loop-v
-invariant-loop-v l = (l.v ≤ length l.labels) × (length l.cells ≡ length l.initial.cells) × Written (table_of l.n l.parents l.labels) l.initial.cells l.v l.cells
-
-abbrev pub decreases-loop-v : goal.decreases-loop-v
-decreases-loop-v l = length l.labels - l.v
+invariant-loop-v l = Written (table_of l.n l.parents l.labels) l.initial.cells l.v l.cells

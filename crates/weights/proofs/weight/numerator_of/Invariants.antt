@@ -2,13 +2,10 @@
 -- Assumes nothing.
 use mathlib.Core.Path.{◌≡◌}
 use mathlib.Core.Bool.{false}
-use Prim.Native.Nat.{ℕ, ◌-◌, ◌≤◌, ◌<◌}
+use Prim.Native.Nat.{ℕ, ◌<◌}
 use lib.Ieee.{eq}
 use Rattle.weights.specs.Weights.{over256}
 use Rattle.weights.proofs.weight.numerator_of.Given as goal
 
 abbrev pub invariant-loop-k : goal.invariant-loop-k
-invariant-loop-k l = (l.k ≤ 257) × ((j : ℕ) → j < l.k → eq l.p (over256 j) ≡ false)
-
-abbrev pub decreases-loop-k : goal.decreases-loop-k
-decreases-loop-k l = 257 - l.k
+invariant-loop-k l = (j : ℕ) → j < l.k → eq l.p (over256 j) ≡ false
