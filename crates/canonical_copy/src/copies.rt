@@ -12,7 +12,7 @@ use super::words::{parent_numbers, write_words};
 use marks::check_marks;
 use rerooting::reroot;
 use table_words::{NODES, TABLE_WORDS, TIPS, as_word};
-use tree_check::{Refusal, check};
+use tree_check::{Refusal, check, refusal_of};
 
 // The number, and how many words the copy has.
 // No Result: a refused call gives its number, and zeros (docs/SPECIFICATION.md, 7.2).
@@ -95,9 +95,9 @@ pub fn canonical_copy(table: &[u16], marks: &[u8], copy: &mut [u16]) -> CopyAnsw
         × (copy.new ≡ after_copy marks.now table.now copy.old)
         × Copied marks.now table.now copy.old result copy.new }
 {
-    let tree = match check(table) {
-        Ok(tree) => tree,
-        Err(refusal) => return refused(u16::from(refusal)),
+    let answer = check(table);
+    let Ok(tree) = answer else {
+        return refused(refusal_of(answer));
     };
     let kept = match check_marks(marks, tree.tips) {
         Ok(kept) => kept,

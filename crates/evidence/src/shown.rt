@@ -6,6 +6,7 @@ ghost use Rattle.evidence.specs.lemmas.EvidenceFound.{two_butterflies};
 
 use counting::Case;
 use pair_check::check_pair;
+use tree_check::refusal_of;
 use trees::{Topology, Witness, witness_of};
 
 // The number; the case; and for each tree the lowest-numbered edge that parts the four two and two, or the node where all
@@ -63,9 +64,10 @@ pub fn evidence(first: &[u16], second: &[u16], a: u16, b: u16, c: u16, d: u16) -
     ensures { (result ≡ evidence_answer first.now second.now a b c d)
         × EvidenceTold first.now second.now a b c d result }
 {
-    if let Err(refusal) = check_pair(first, second) {
-        return refused(u16::from(refusal));
-    }
+    let answer = check_pair(first, second);
+    let Ok(_) = answer else {
+        return refused(refusal_of(answer));
+    };
     let one = witness_of(first, a, b, c, d);
     if one.refusal != 0 {
         return refused(one.refusal);

@@ -29,10 +29,10 @@ fn rises(four: Four, n: u16) -> bool {
 
 // The tips of a table, or 0 where it is refused.
 pub(crate) fn tips_of(table: &[u16]) -> u16 {
-    match trees::check(table) {
-        Ok(tree) => tree.tips,
-        Err(_) => 0,
-    }
+    let Ok(tree) = trees::check(table) else {
+        return 0;
+    };
+    tree.tips
 }
 
 // The partner of the smallest label, or 0 for a star: the smallest label is nobody's partner.

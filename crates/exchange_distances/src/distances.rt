@@ -9,7 +9,7 @@ use super::arrays::arrays_of;
 use super::pairs::whole_of;
 use super::paths::costs_from;
 use table_words::{NODES, TIPS};
-use trees::{asked_refusal, check};
+use trees::{asked_refusal, check, refusal_of};
 
 // The number of the refusal with 0, or 0 with the distance.
 // No Result: a refused call gives its number, and zeros (docs/SPECIFICATION.md, 7.2).
@@ -47,14 +47,12 @@ fn distance_of(table: &[u16], n: usize, m: usize, x: usize, y: usize) -> usize
 pub fn exchange_distance(table: &[u16], x: u16, y: u16) -> ExchangeDistance
     ensures { result ≡ distance_answer table.now x y }
 {
-    let tree = match check(table) {
-        Ok(tree) => tree,
-        Err(refusal) => {
-            return ExchangeDistance {
-                refusal: u16::from(refusal),
-                distance: 0,
-            };
-        }
+    let answer = check(table);
+    let Ok(tree) = answer else {
+        return ExchangeDistance {
+            refusal: refusal_of(answer),
+            distance: 0,
+        };
     };
     let asked = [x, y];
     let number = asked_refusal(&asked, usize::from(tree.tips));

@@ -9,7 +9,7 @@ ghost use Rattle.exchange_distances.specs.lemmas.FirstTally.{all_first};
 use super::arrays::arrays_of;
 use super::pairs::tally_pairs;
 use table_words::{NODES, TIPS};
-use tree_check::check;
+use tree_check::{check, refusal_of};
 
 // From so many tips on every exchange falls in tally 0: a distance grows as the third power of n, the sets of four as the fourth.
 const LARGE: u16 = 82;
@@ -48,14 +48,12 @@ fn tallies_of(table: &[u16], n: usize, m: usize) -> [u64; 11]
 pub fn tally_exchanges(table: &[u16]) -> ExchangeAnswer
     ensures { result ≡ tallies_answer table.now }
 {
-    let tree = match check(table) {
-        Ok(tree) => tree,
-        Err(refusal) => {
-            return ExchangeAnswer {
-                refusal: u16::from(refusal),
-                tallies: [0; 11],
-            };
-        }
+    let answer = check(table);
+    let Ok(tree) = answer else {
+        return ExchangeAnswer {
+            refusal: refusal_of(answer),
+            tallies: [0; 11],
+        };
     };
     if tree.tips < 4 {
         return ExchangeAnswer {

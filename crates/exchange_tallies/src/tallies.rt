@@ -5,7 +5,7 @@ ghost use Rattle.exchange_tallies.specs.ExchangeTallies.{exchange_answer, after_
 use exchange_distances::{ExchangeAnswer, tally_exchanges};
 use pair_check::clear;
 use table_words::Cell;
-use tree_check::{Refusal, check};
+use tree_check::{Refusal, check, refusal_of};
 
 // A refusal has no tallies.
 fn refused(number: u16) -> ExchangeAnswer
@@ -23,9 +23,9 @@ pub fn exchange_tallies(table: &[u16], work: &mut [Cell]) -> ExchangeAnswer
     ensures { (result ≡ exchange_answer table.now (length work.old))
         × (work.new ≡ after_exchanges table.now work.old) }
 {
-    let tree = match check(table) {
-        Ok(tree) => tree,
-        Err(refusal) => return refused(u16::from(refusal)),
+    let answer = check(table);
+    let Ok(tree) = answer else {
+        return refused(refusal_of(answer));
     };
     let edges = usize::from(tree.nodes) - 1;
     let cells = edges * edges;

@@ -8,6 +8,7 @@ use super::totals::kept_sums;
 use counting::sets_of_three;
 use marks::check_marks;
 use pair_check::check_pair;
+use tree_check::refusal_of;
 use triplets::TripletTable;
 
 // The five counts, from the sums over edges and over pairs of edges.
@@ -52,9 +53,9 @@ fn refused(number: u16) -> TripletTable
 pub fn kept_triplets(first: &[u16], second: &[u16], marks: &[u8]) -> TripletTable
     ensures { result ≡ kept_answer first.now second.now marks.now }
 {
-    let pair = match check_pair(first, second) {
-        Ok(pair) => pair,
-        Err(refusal) => return refused(u16::from(refusal)),
+    let answer = check_pair(first, second);
+    let Ok(pair) = answer else {
+        return refused(refusal_of(answer));
     };
     if let Err(refusal) = check_marks(marks, pair.tips) {
         return refused(u16::from(refusal));

@@ -4,7 +4,7 @@ ghost use Rattle.trees.specs.declared.quartet.Topology.TheVariants.{Star as Topo
 ghost use Rattle.levels.specs.ViewTopology.{view_topology, ViewTold};
 
 use super::levels::{check_levels, some_hidden};
-use trees::{Refusal, Topology, TopologyAnswer, check, topology_of};
+use trees::{Refusal, Topology, TopologyAnswer, check, refusal_of, topology_of};
 
 // A refusal tells a star.
 fn refused(number: u16) -> TopologyAnswer
@@ -30,9 +30,9 @@ pub fn view_topology(
     ensures { (result ≡ view_topology table.now levels.now viewer a b c d)
         × ViewTold table.now levels.now viewer a b c d result }
 {
-    let tree = match check(table) {
-        Ok(tree) => tree,
-        Err(refusal) => return refused(u16::from(refusal)),
+    let answer = check(table);
+    let Ok(tree) = answer else {
+        return refused(refusal_of(answer));
     };
     let told = check_levels(levels, viewer, tree.tips);
     if told.refusal != 0 {

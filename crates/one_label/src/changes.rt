@@ -10,7 +10,7 @@ use super::checks::check_label;
 use super::held::held_counts;
 use counting::sets_of_four;
 use marks::is_kept;
-use tree_check::Refusal;
+use tree_check::{Refusal, refusal_of};
 
 // Whether five counts add up to `all`. None is above it if they do, so no sum wraps.
 fn adds_up(counts: FiveCounts, all: u64) -> bool
@@ -106,9 +106,9 @@ pub fn change_mark(
     ensures { (result ≡ change_answer first.now second.now marks.old counts label wish)
         × (marks.new ≡ marks_after first.now second.now marks.old counts label wish) }
 {
-    let sizes = match check_label(first, second, marks, label) {
-        Ok(sizes) => sizes,
-        Err(refusal) => return refused(u16::from(refusal)),
+    let answer = check_label(first, second, marks, label);
+    let Ok(sizes) = answer else {
+        return refused(refusal_of(answer));
     };
     let restore = restores(wish);
     let x = usize::from(label);

@@ -7,7 +7,7 @@ ghost use Rattle.pair_file.specs.lemmas.PairFigures.{pair_figures, word_figures,
 use super::words::decode;
 use listings::{Claims, Figures, Quartets, Splits, Triplets};
 use pair_check::check_cells;
-use quartets::{Refusal, claim_sums, quartet_table, split_counts, triplet_table};
+use quartets::{Refusal, claim_sums, quartet_table, refusal_of, split_counts, triplet_table};
 use table_words::{Cell, TIPS, table_length};
 
 // The most bytes of a file, and the most words.
@@ -101,9 +101,9 @@ fn figures_of(first: &[u16], second: &[u16], marks: &[u8], tips: u16) -> Figures
 fn compare_tables(first: &[u16], second: &[u16]) -> Figures
     ensures { result ≡ pair_figures first.now second.now }
 {
-    let pair = match check_cells(first, second, CELLS) {
-        Ok(pair) => pair,
-        Err(refusal) => return refused(u16::from(refusal)),
+    let answer = check_cells(first, second, CELLS);
+    let Ok(pair) = answer else {
+        return refused(refusal_of(answer));
     };
     let marks = [1u8; TIPS];
     let n = usize::from(pair.tips);

@@ -9,6 +9,6 @@ pub use evidence::{Case, EvidenceAnswer, evidence};
 pub use pair_check::{Pair, check_cells, check_pair, check_work};
 pub use splits::{SplitCounts, split_counts};
 pub use tables::{QuartetTable, quartet_table};
-pub use tree_check::{Refusal, refusal_of};
+pub use tree_check::{Refusal, TableRefusal, refusal_of};
 pub use tree_pairs::crossings;
 pub use triplets::{TripletTable, triplet_table};

@@ -9,7 +9,7 @@ ghost use Rattle.rerooting.specs.lemmas.Writing.{TableNumbered, NodesWritten, pa
 
 use super::numbers::new_numbers;
 use table_words::{NODES, as_word};
-use tree_check::{Refusal, check};
+use tree_check::{Refusal, check, refusal_of};
 use trees::node_of;
 
 // 0 for x, x for 0, and any other label as it is.
@@ -72,9 +72,9 @@ pub fn reroot(table: &[u16], label: u16, out: &mut [u16]) -> u16
     ensures { (result ≡ refusal (reroot_order table.now label (length out.old)))
         × (out.new ≡ after_reroot table.now label out.old) }
 {
-    let tree = match check(table) {
-        Ok(tree) => tree,
-        Err(refusal) => return u16::from(refusal),
+    let answer = check(table);
+    let Ok(tree) = answer else {
+        return refusal_of(answer);
     };
     if tree.tips <= label {
         return u16::from(Refusal::TooLarge);

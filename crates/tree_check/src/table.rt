@@ -1,6 +1,5 @@
 // The tree check: whether a table keeps the rules of a tree table, or the number of the first one broken.
-ghost use Rattle.std.specs.Prelude.{◌≡◌, ◌≤◌, ◌==◌, eqb, length, take};
-ghost use Rattle.std.specs.List.{list_all};
+ghost use Rattle.std.specs.Prelude.{◌≡◌, ◌≤◌, eqb, length};
 ghost use Rattle.table_words.specs.Sizes.{node_room, tips_most};
 ghost use Rattle.sums.specs.Tests.{some, every};
 ghost use Rattle.tree_check.specs.Table.{word};
@@ -57,21 +56,29 @@ fn label_fits(n: usize, l: usize) -> bool
     l < n
 }
 
-// Whether every label is 65535 or below n.
+// Whether every label is 65535 or below n. A loop, as the next: `all` takes a step more for each element.
 fn labels_in_range(labels: &[u16], n: usize) -> bool
-    ensures { result ≡ list_all (label_fits n) labels.now }
+    ensures { result ≡ every (length labels.now) (λ i. label_fits n (word labels.now i)) }
 {
-    labels
-        .iter()
-        .all(|label| label_fits(n, usize::from(*label)))
+    for label in labels {
+        if !label_fits(n, usize::from(*label)) {
+            return false;
+        }
+    }
+    true
 }
 
 // Whether the first n counts are all 1.
 fn all_one(counts: &[u16], n: usize) -> bool
     requires { n ≤ length counts.now }
-    ensures { result ≡ list_all (λ k. k == 1) (take n counts.now) }
+    ensures { result ≡ every n (λ x. eqb (word counts.now x) 1) }
 {
-    counts[..n].iter().all(|count| *count == 1)
+    for x in 0..n {
+        if counts[x] != 1 {
+            return false;
+        }
+    }
+    true
 }
 
 // Whether node 0's label is 0, and every label 65535 or below n.

@@ -51,10 +51,11 @@ fn is_few(k: usize) -> bool
 fn is_wrong(table: &[u16], n: u16) -> bool
     ensures { result ≡ (not (eqb (refusals_refusal (tree_order table.now)) 0) || not (eqb (table_tips table.now) n)) }
 {
-    match check(table) {
-        Ok(tree) => tree.tips != n,
-        Err(_) => true,
-    }
+    let answer = check(table);
+    let Ok(tree) = answer else {
+        return true;
+    };
+    tree.tips != n
 }
 
 // Whether one of the first k tables is.

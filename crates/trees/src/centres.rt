@@ -9,7 +9,7 @@ ghost use Rattle.trees.specs.lemmas.Climbing.{Climbable};
 
 use asked_labels::{asked_refusal, node_of};
 use table_words::as_word;
-use tree_check::check;
+use tree_check::{check, refusal_of};
 
 // The number of the refusal with node 0, or 0 with the centre.
 // No Result: a refused call gives its number, and zeros (docs/SPECIFICATION.md, 7.2).
@@ -59,14 +59,12 @@ fn join(parents: &[u16], a: usize, b: usize, c: usize) -> usize
 pub fn centre(table: &[u16], a: u16, b: u16, c: u16) -> CentreAnswer
     ensures { result ≡ centre_answer table.now a b c }
 {
-    let tree = match check(table) {
-        Ok(tree) => tree,
-        Err(refusal) => {
-            return CentreAnswer {
-                refusal: u16::from(refusal),
-                node: 0,
-            };
-        }
+    let answer = check(table);
+    let Ok(tree) = answer else {
+        return CentreAnswer {
+            refusal: refusal_of(answer),
+            node: 0,
+        };
     };
     let asked = [a, b, c];
     let number = asked_refusal(&asked, usize::from(tree.tips));

@@ -7,7 +7,7 @@ ghost use Rattle.trees.specs.lemmas.Sides.{pairing, SidesAre, Shown, topology_sh
 
 use asked_labels::{asked_refusal, node_of};
 use table_words::NODES;
-use tree_check::check;
+use tree_check::{check, refusal_of};
 use walks::add_up;
 
 // A butterfly names the partner of the smallest label; a star names nobody.
@@ -139,14 +139,12 @@ pub(crate) fn named_pairing(k: usize, a: u16, b: u16, c: u16, d: u16) -> Topolog
 pub fn topology_of(table: &[u16], a: u16, b: u16, c: u16, d: u16) -> TopologyAnswer
     ensures { (result ≡ topology_answer table.now a b c d) × Told table.now a b c d result }
 {
-    let tree = match check(table) {
-        Ok(tree) => tree,
-        Err(refusal) => {
-            return TopologyAnswer {
-                refusal: u16::from(refusal),
-                topology: Topology::Star,
-            };
-        }
+    let answer = check(table);
+    let Ok(tree) = answer else {
+        return TopologyAnswer {
+            refusal: refusal_of(answer),
+            topology: Topology::Star,
+        };
     };
     let asked = [a, b, c, d];
     let number = asked_refusal(&asked, usize::from(tree.tips));

@@ -10,7 +10,7 @@ use super::centres::centre_node;
 use super::quartet::{Topology, named_pairing, pairing_of, sides_of};
 use asked_labels::asked_refusal;
 use table_words::{NODES, as_word};
-use tree_check::check;
+use tree_check::{check, refusal_of};
 
 // The lowest-numbered edge that parts four labels two and two, or the node where all their paths meet.
 // An enum of its own: its form is asked for (docs/SPECIFICATION.md, 12).
@@ -72,15 +72,13 @@ fn seen(parents: &[u16], labels: &[u16], a: u16, b: u16, c: u16, d: u16) -> Witn
 pub fn witness_of(table: &[u16], a: u16, b: u16, c: u16, d: u16) -> WitnessAnswer
     ensures { (result ≡ witness_answer table.now a b c d) × WitnessTold table.now a b c d result }
 {
-    let tree = match check(table) {
-        Ok(tree) => tree,
-        Err(refusal) => {
-            return WitnessAnswer {
-                refusal: u16::from(refusal),
-                topology: Topology::Star,
-                witness: Witness::Meet(0),
-            };
-        }
+    let answer = check(table);
+    let Ok(tree) = answer else {
+        return WitnessAnswer {
+            refusal: refusal_of(answer),
+            topology: Topology::Star,
+            witness: Witness::Meet(0),
+        };
     };
     let asked = [a, b, c, d];
     let number = asked_refusal(&asked, usize::from(tree.tips));

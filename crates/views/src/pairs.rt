@@ -4,7 +4,7 @@ ghost use Rattle.views.specs.View.{refused_view, view_answer, after_view};
 
 use super::marking::marks_for;
 use levels::check_levels;
-use quartets::{check_pair, quartet_table, split_counts};
+use quartets::{check_pair, quartet_table, refusal_of, split_counts};
 use table_words::Cell;
 
 // The number; how many labels are visible; A to E and B + C + D over them; their splits in the first tree, in the second and in
@@ -59,9 +59,9 @@ pub fn view(
         × (work.new
         ≡ after_view first.now second.now levels.now viewer work.old) }
 {
-    let pair = match check_pair(first, second) {
-        Ok(pair) => pair,
-        Err(refusal) => return refused(u16::from(refusal)),
+    let answer = check_pair(first, second);
+    let Ok(pair) = answer else {
+        return refused(refusal_of(answer));
     };
     let told = check_levels(levels, viewer, pair.tips);
     if told.refusal != 0 {

@@ -9,7 +9,7 @@ ghost use Rattle.walks.specs.lemmas.Positions.{placed};
 
 use super::sizes::{ends, sizes};
 use table_words::{NODES, as_word};
-use tree_check::{Refusal, check};
+use tree_check::{Refusal, check, refusal_of};
 
 // Whether a table of that many nodes has no such edge.
 fn no_edge(edge: u16, nodes: u16) -> bool
@@ -52,15 +52,13 @@ fn part_of(parents: &[u16], labels: &[u16], n: usize, i: usize) -> PartBeyond
 pub fn part_beyond(table: &[u16], edge: u16, cells: usize) -> PartBeyond
     ensures { result ≡ place_beyond table.now edge cells }
 {
-    let tree = match check(table) {
-        Ok(tree) => tree,
-        Err(refusal) => {
-            return PartBeyond {
-                refusal: u16::from(refusal),
-                start: 0,
-                count: 0,
-            };
-        }
+    let answer = check(table);
+    let Ok(tree) = answer else {
+        return PartBeyond {
+            refusal: refusal_of(answer),
+            start: 0,
+            count: 0,
+        };
     };
     if no_edge(edge, tree.nodes) {
         return PartBeyond {

@@ -13,7 +13,7 @@ ghost use Rattle.walks.specs.lemmas.SpanLists.{NodesListed};
 
 use super::sizes::{ends, sizes};
 use table_words::{Cell, NODES, as_cell, as_word};
-use tree_check::{Refusal, check};
+use tree_check::{Refusal, check, refusal_of};
 
 // The node of each label below n: the last one that has it.
 fn list_nodes(labels: &[u16], n: usize, labelled: &mut [u16])
@@ -88,9 +88,9 @@ pub fn spans(table: &[u16], labelled: &mut [u16], begin: &mut [Cell], end: &mut 
         × (end.new
         ≡ filled result (table_nodes table.now) (span_end table.now) end.old) }
 {
-    let tree = match check(table) {
-        Ok(tree) => tree,
-        Err(refusal) => return u16::from(refusal),
+    let answer = check(table);
+    let Ok(tree) = answer else {
+        return refusal_of(answer);
     };
     let n = usize::from(tree.tips);
     let m = usize::from(tree.nodes);

@@ -9,7 +9,7 @@ ghost use Rattle.walks.specs.lemmas.TreeArrays.{TreeArrays};
 
 use super::sizes::{ends, sizes};
 use table_words::NODES;
-use tree_check::{Refusal, check};
+use tree_check::{Refusal, check, refusal_of};
 
 // Each tip's label is written where its node starts in the walk.
 fn write_walk(parents: &[u16], labels: &[u16], n: usize, cells: &mut [u16])
@@ -45,9 +45,9 @@ pub fn walk(table: &[u16], cells: &mut [u16]) -> u16
     ensures { (result ≡ refusal (walk_order table.now (length cells.old)))
         × (cells.new ≡ after_walk table.now cells.old) }
 {
-    let tree = match check(table) {
-        Ok(tree) => tree,
-        Err(refusal) => return u16::from(refusal),
+    let answer = check(table);
+    let Ok(tree) = answer else {
+        return refusal_of(answer);
     };
     let n = usize::from(tree.tips);
     if let Err(refusal) = has_room(cells.len(), n) {

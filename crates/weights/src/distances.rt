@@ -13,7 +13,7 @@ ghost use Rattle.weights.specs.WeightedAnswer.{fraction_order, refused_weight, w
 
 use super::weight::{Weight, fraction_of, numerator_of, weigh};
 use pair_check::check_work;
-use quartets::{Refusal, quartet_table};
+use quartets::{Refusal, quartet_table, refusal_of};
 use table_words::Cell;
 
 // The number; and B + p(C + D).
@@ -74,9 +74,13 @@ pub fn weighted_distance(
         ≡ after_weighted first.now second.now marks.now weight work.old)
         × WeightTold first.now second.now marks.now (length work.old) weight result }
 {
-    if let Err(refusal) = check_work(first, second, marks, work.len()) {
-        return refused(u16::from(refusal));
-    }
+    let answer = check_work(first, second, marks, work.len());
+    let Ok(_) = answer else {
+        return WeightedDistance {
+            refusal: refusal_of(answer),
+            distance: 0.0,
+        };
+    };
     let p = fraction_of(weight);
     if let Err(refusal) = check_fraction(p) {
         return refused(u16::from(refusal));

@@ -1,17 +1,20 @@
 -- The number of marks, as code finds it.
 -- Assumes nothing.
-use Rattle.std.specs.Prelude.{◌≡◌, ◌≢◌, Bool, true, false, List, [], ◌∷◌, ℕ, Ok, Err, eqb, length}
-use Rattle.std.specs.List.{list_any, count_by}
+use Rattle.std.specs.Prelude.{◌≡◌, ◌≢◌, Bool, true, false, List, [], ◌∷◌, ℕ, Ok, Err, ◌≤◌, ◌<◌, eqb, length}
 use Rattle.std.proofs.Math.Path.{refl}
-use Rattle.std.proofs.Common.{sym, ◌∙◌, ap, eq-eqb, ne_eqb}
+use Rattle.std.proofs.Common.{sym, ◌∙◌, ap, arith, eq-eqb, ne_eqb}
 use Rattle.std.proofs.Math.Bool.{not}
 use Rattle.std.proofs.Math.Dec.{ltb}
+use Rattle.std.proofs.Math.Decide.{dec_le}
+use Rattle.sums.specs.Counts.{count}
 use Rattle.sums.specs.Tests.{some}
-use Rattle.sums.specs.theorems.Listed.{some_listed, count_listed}
+use Rattle.sums.specs.theorems.CountLaws.{count_none}
+use Rattle.sums.specs.theorems.CountSteps.{count_found}
+use Rattle.sums.specs.theorems.TestLaws.{lt_iff}
 use Rattle.tree_check.specs.Table.{word}
 use Rattle.tree_check.specs.Refusals.{refusal}
 use Rattle.tree_check.specs.theorems.RefusalLaws.{refusal_here, refusal_next, refusal_none}
-use Rattle.marks.specs.Marks.{is_kept, kept_of, marks_order, AreMarks, checked_marks}
+use Rattle.marks.specs.Marks.{kept_of, marks_order, AreMarks, checked_marks}
 use Rattle.tree_check.specs.declared.refusals.Refusal.{Refusal}
 use Rattle.tree_check.specs.declared.refusals.Refusal.TheVariants.{Marks}
 use Rattle.tree_check.specs.Numbers.{refusal_number, refusal_named}
@@ -27,21 +30,25 @@ module _ (marks : List ℕ) (n : ℕ) where
   unfolding marks_order
   marks_short d = refused_by (refusal_here 32 _ _ (ap not (ne_eqb (length marks) n d)))
 
-  module _ (e : length marks ≡ n) where
-    wrong_is : list_any (ltb 1) marks ≡ some n (λ x. ltb 1 (word marks x))
-    wrong_is = some_listed (ltb 1) marks ∙ ap (λ (k : ℕ). some k (λ x. ltb 1 (word marks x))) e
-
-    pub marks_wrong : list_any (ltb 1) marks ≡ true → Err Marks ≡ checked_marks marks n
+  module _ (e : length marks ≡ n) (k : ℕ) (c : k ≡ count (length marks) (λ x. ltb 1 (word marks x))) where
+    pub marks_wrong : k ≢ 0 → Err Marks ≡ checked_marks marks n
     unfolding marks_order
-    marks_wrong w =
-        refused_by (refusal_next 32 _ _ (ap not (eq-eqb (length marks) n e)) ∙ refusal_here 32 _ _ (sym wrong_is ∙ w))
+    marks_wrong d =
+        refused_by (refusal_next 32 _ _ (ap not (eq-eqb (length marks) n e))
+        ∙ refusal_here 32 _ _ (sym (count_found n (λ x. ltb 1 (word marks x)) k (rw e at c) d)))
 
-    pub marks_right : list_any (ltb 1) marks ≡ false → (k : ℕ) → k ≡ count_by (λ mark. eqb mark 1) marks
-        → Ok k ≡ checked_marks marks n
-    unfolding checked_marks marks_order is_kept
-    marks_right w k c =
-        answer_ok _ _ _ (refusal_next 32 _ _ (ap not (eq-eqb (length marks) n e)) ∙ refusal_next 32 _ [] (sym wrong_is ∙ w) ∙ refusal_none)
-        (c ∙ count_listed (λ mark. eqb mark 1) marks ∙ ap (λ (m : ℕ). kept_of marks m) e)
+    pub marks_right : k ≡ 0 → (j : ℕ) → j ≡ kept_of marks (length marks) → Ok j ≡ checked_marks marks n
+    unfolding checked_marks
+    marks_right z j q = answer_ok _ _ _ accepted (q ∙ ap (λ (m : ℕ). kept_of marks m) e)
+      where
+        low : (x : ℕ) → (1 < word marks x → ⊥) → word marks x ≤ 1
+        low x f = elim (dec_le (word marks x) 1) [ yes l ↦ l | no d ↦ absurd (f (omega (arith, d))) ]
+
+        accepted : refusal (marks_order marks n) ≡ 0
+        accepted = (marks_check marks n).1 (record {
+          long = e;
+          low = λ x l. low x (λ m. (count_none (length marks) (λ y. ltb 1 (word marks y))).0 (sym c ∙ z) x (rw e l) ((lt_iff 1 (word marks x)).1 m));
+        })
 
 -- the marks' order tells 32 and nothing else
 only_32 : (marks : List ℕ) (n : ℕ) → refusal (marks_order marks n) ≢ 0 → refusal (marks_order marks n) ≡ 32

@@ -1,6 +1,6 @@
 -- Two tables, the marks and a label, as code checks them.
 -- Assumes nothing.
-use Rattle.std.specs.Prelude.{◌≡◌, refl, ◌≢◌, List, [], ◌∷◌, ℕ, ◌+◌, ◌-◌, ◌≤◌, ◌<◌, Ok, Err, leb}
+use Rattle.std.specs.Prelude.{◌≡◌, refl, ◌≢◌, List, [], ◌∷◌, ℕ, ◌+◌, ◌-◌, ◌≤◌, ◌<◌, Result, Ok, Err, MatchResult, leb}
 use Rattle.std.proofs.Math.Path.{sym}
 use Rattle.std.proofs.Common.{◌∙◌, subst, arith, le-leb}
 use Rattle.std.proofs.lemmas.Bool.{lt-leb}
@@ -9,7 +9,7 @@ use Rattle.tree_check.specs.Refusals.{refusal}
 use Rattle.tree_check.specs.declared.refusals.Refusal.{Refusal}
 use Rattle.tree_check.specs.declared.refusals.Refusal.TheVariants.{TooLarge}
 use Rattle.tree_check.specs.Numbers.{refusal_number}
-use Rattle.tree_check.specs.theorems.NumberLaws.{refusal_numbered, passed_on}
+use Rattle.tree_check.specs.theorems.NumberLaws.{refusal_numbered, number_is, passed_on}
 use Rattle.tree_check.specs.theorems.RefusalLaws.{refusal-first, refusal-kept, refusal_here, refusal_next, refusal_none, if_accepted_lem, if_refused}
 use Rattle.marks.specs.Marks.{kept_of, marks_order, AreMarks}
 use Rattle.marks.proofs.theorems.MarksCheck.{marks-kept}
@@ -68,6 +68,12 @@ module _ (t u : Table) (marks : List ℕ) (x : ℕ) where
   pub label_passed : (r : Refusal) (number : ℕ) → LabelTold t u marks x (Err r) → number ≡ refusal_number r
       → (refusal (holding_order t u marks x) ≡ number) × (number ≢ 0)
   label_passed r number h = passed_on (sym h.number, λ z. absurd (omega (arith, refusal_numbered r, z)))
+
+  -- .. as `refusal_of` tells it
+  pub label_told : (answer : Result Sizes Refusal) (r : Refusal) (number : ℕ) → LabelTold t u marks x answer → answer ≡ Err r
+      → MatchResult answer (λ _. number ≡ 0) (λ e. number ≡ refusal_number e)
+      → (refusal (holding_order t u marks x) ≡ number) × (number ≢ 0)
+  label_told answer r number h e m = label_passed r number (rw e at h) (rw e at (number_is answer number m))
 
   -- ---- what the call that counts them answers
 

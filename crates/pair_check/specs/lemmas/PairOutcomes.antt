@@ -2,20 +2,20 @@
 -- Assumes nothing.
 use Rattle.std.proofs.Math.Path.{◌≡◌, refl, sym, ap}
 use Rattle.std.proofs.Common.{◌∙◌, subst, mul-le-mul, lt_of_le_of_lt, arith, lt-ltb, le-ltb, ne_eqb}
-use Rattle.std.specs.Prelude.{true, false, ◌≢◌, List, ltb, Result, Ok, Err, MatchResult}
+use Rattle.std.specs.Prelude.{true, false, ◌≢◌, List, ◌++◌, ltb, Result, Ok, Err, MatchResult}
 use Rattle.std.proofs.Math.Bool.{not}
 use Prim.Native.Nat.{ℕ, zero, suc, ◌+◌, ◌*◌, ◌-◌, ◌≤◌, ◌<◌}
 use Rattle.std.proofs.Math.Decide.{dec_le}
 use Rattle.table_words.specs.Sizes.{nodes_most}
 use Rattle.tree_check.specs.Table.{Table, tips, nodes}
 use Rattle.tree_check.specs.Refusals.{refusal, if_accepted}
-use Rattle.tree_check.specs.theorems.RefusalLaws.{refusal_here, refusal-first, refusal-kept}
+use Rattle.tree_check.specs.theorems.RefusalLaws.{refusal_here, refusal-first, refusal-kept, Named, named_refusal, named_append}
 use Rattle.tree_check.specs.IsTree.{IsTree}
-use Rattle.tree_check.specs.TreeOrder.{tree_order}
+use Rattle.tree_check.specs.TreeOrder.{arrays_order, tree_order}
 use Rattle.tree_check.specs.declared.table.Tree.{Tree}
 use Rattle.tree_check.specs.Check.{Checked}
-use Rattle.tree_check.specs.Numbers.{refusal_number, answer_by}
-use Rattle.tree_check.specs.theorems.NumberLaws.{refusal_numbered, answer_err, answered_ok, number_is}
+use Rattle.tree_check.specs.Numbers.{refusal_number, table_named, refusal_named, answer_by}
+use Rattle.tree_check.specs.theorems.NumberLaws.{refusal_numbered, answer_err, answered_ok, answered_err, answer_number, number_is, passed_on}
 use Rattle.tree_check.specs.theorems.TreeCheck.{tree_kept}
 use Rattle.marks.specs.Marks.{kept_of, marks_order, AreMarks}
 use Rattle.tree_check.specs.declared.refusals.TableRefusal.{TableRefusal}
@@ -85,6 +85,44 @@ module _ (t u : Table) where
           ∙ refusal-first (marks_order marks (tips t)) _ (λ z. d (e ∙ z))
           ∙ sym e
 
+-- ---- the numbers of these orders are those of rules
+
+-- the number of the rule that a number is read as
+abbrev rule_number : ℕ → ℕ
+rule_number k = refusal_number (refusal_named k)
+
+first_named : (t : Table) → Named rule_number (tree_order t)
+first_named t = unfold tree_order in unfold arrays_order in unfold refusal_named in unfold table_named in
+    (refl, (refl, (refl, (refl, (refl, (refl, (refl, (refl, tt))))))))
+
+second_named : (u : Table) → Named rule_number (plus 100 (tree_order u))
+second_named u = unfold tree_order in unfold arrays_order in unfold plus in unfold refusal_named in unfold table_named in
+    (refl, (refl, (refl, (refl, (refl, (refl, (refl, (refl, tt))))))))
+
+tips_named : (t u : Table) → Named rule_number (tips_order t u)
+tips_named t u = unfold tips_order in unfold refusal_named in (refl, tt)
+
+tables_named : (t u : Table) → Named rule_number (tables_order t u)
+tables_named t u = unfold tables_order in
+    named_append rule_number (tree_order t) (plus 100 (tree_order u) ++ tips_order t u) (first_named t)
+    (named_append rule_number (plus 100 (tree_order u)) (tips_order t u) (second_named u) (tips_named t u))
+
+work_named : (t u : Table) (cells : ℕ) → Named rule_number (work_order t u cells)
+work_named t u cells = unfold work_order in unfold refusal_named in (refl, tt)
+
+cells_named : (t u : Table) (cells : ℕ) → Named rule_number (cells_order t u cells)
+cells_named t u cells = unfold cells_order in
+    named_append rule_number (tables_order t u) (work_order t u cells) (tables_named t u) (work_named t u cells)
+
+marks_named : (marks : List ℕ) (n : ℕ) → Named rule_number (marks_order marks n)
+marks_named marks n = unfold marks_order in unfold refusal_named in (refl, (refl, tt))
+
+pair_named : (t u : Table) (marks : List ℕ) (cells : ℕ) → Named rule_number (pair_order t u marks cells)
+pair_named t u marks cells = unfold pair_order in
+    named_append rule_number (tables_order t u) (marks_order marks (tips t) ++ work_order t u cells) (tables_named t u)
+    (named_append rule_number (marks_order marks (tips t)) (work_order t u cells) (marks_named marks (tips t))
+    (work_named t u cells))
+
 -- ---- the answers
 
 -- the second table's answer, with its refusals as the second's
@@ -110,6 +148,11 @@ pub second_refusal : (answer : Checked) (p : Refusal) → Err p ≡ told_second 
 unfolding broken
 second_refusal (Ok t) p e = absurd (let z : ◌≡◌ {A = ℕ} 0 1 = cc in omega arith)
 second_refusal (Err r) p e = (r, refl, ap broken e)
+
+-- an answer's number is the pair's
+told_number : (answer : CheckedPair) → answer_number answer ≡ pair_number answer
+told_number (Ok pair) = refl
+told_number (Err r) = refl
 
 -- a pair that needs no more cells than there are, or 9
 unfoldable pub measured_pair : Pair → ℕ → CheckedPair
@@ -177,9 +220,30 @@ module _ (t u : Table) where
           },
         )
 
-    -- what a refused answer says
-    refused_says : (k : ℕ) (r : Refusal) → PairTold k t u c (Err r) → (k ≡ refusal_number r) × (refusal_number r ≢ 0)
-    refused_says k r h = (sym h.number_told, λ z. absurd (omega (arith, refusal_numbered r, z)))
+    -- what an answer by a rule's number tells
+    verdict_told : (k : ℕ) → (k ≢ 0 → rule_number k ≡ k) → PairTold k t u c (pair_verdict k t u c)
+    unfolding pair_verdict answer_by if_accepted
+    verdict_told zero h =
+        record { number_told = refl; tips_told = refl; counted_told = refl; rows_told = refl; columns_told = refl }
+    verdict_told (suc k) h = record {
+      number_told = h (λ z. absurd (omega (arith, z)));
+      tips_told = refl;
+      counted_told = refl;
+      rows_told = refl;
+      columns_told = refl;
+    }
+
+    -- what a refusal says
+    refused_says : (k : ℕ) (r : Refusal) → (k ≢ 0 → rule_number k ≡ k) → pair_verdict k t u c ≡ Err r
+        → (k ≡ refusal_number r) × (refusal_number r ≢ 0)
+    unfolding pair_verdict
+    refused_says k r h e = answered_err k r _ h (sym e)
+
+    -- the number that is passed on from a refused answer
+    refusal_passed : (k : ℕ) (r : Refusal) (number : ℕ) (answer : CheckedPair) → (k ≢ 0 → rule_number k ≡ k)
+        → answer ≡ pair_verdict k t u c → answer ≡ Err r → number ≡ pair_number answer → (number ≡ k) × (number ≢ 0)
+    refusal_passed k r number answer h a e n =
+        let p = passed_on (refused_says k r h (sym a ∙ e)) (n ∙ ap pair_number e) in (sym p.0, p.1)
 
   -- what `check_pair` returns, and what it tells
   abbrev pub PairAnswered : CheckedPair → Type 0
@@ -237,44 +301,91 @@ module _ (t u : Table) where
   work_measured marks cells p h pair w r q =
       rw q (measured_answer cells (kept_of marks (tips t)) _ p (order_kept t u marks cells h) pair w)
 
+  -- ---- the numbers of two tables, with the cells, and with the marks too, are those of rules
+
+  tables_number : refusal (tables_order t u) ≢ 0 → rule_number (refusal (tables_order t u)) ≡ refusal (tables_order t u)
+  tables_number = named_refusal rule_number (tables_order t u) (tables_named t u)
+
+  cells_number : (cells : ℕ) → refusal (cells_order t u cells) ≢ 0
+      → rule_number (refusal (cells_order t u cells)) ≡ refusal (cells_order t u cells)
+  cells_number cells = named_refusal rule_number (cells_order t u cells) (cells_named t u cells)
+
+  work_number : (marks : List ℕ) (cells : ℕ) → refusal (pair_order t u marks cells) ≢ 0
+      → rule_number (refusal (pair_order t u marks cells)) ≡ refusal (pair_order t u marks cells)
+  work_number marks cells = named_refusal rule_number (pair_order t u marks cells) (pair_named t u marks cells)
+
+  -- each answer tells its order's number
+  pub pair_answered : (r : CheckedPair) → r ≡ checked_pair t u → PairAnswered r
+  unfolding checked_pair
+  pair_answered r e =
+      (e, subst (PairTold (refusal (tables_order t u)) t u (tips t)) (sym e) (verdict_told (tips t) _ tables_number))
+
+  pub cells_answered : (cells : ℕ) (r : CheckedPair) → r ≡ checked_cells t u cells → CellsAnswered cells r
+  unfolding checked_cells
+  cells_answered cells r e =
+      (e, subst (PairTold (refusal (cells_order t u cells)) t u (tips t)) (sym e) (verdict_told (tips t) _ (cells_number cells)))
+
+  pub work_answered : (marks : List ℕ) (cells : ℕ) (r : CheckedPair) → r ≡ checked_work t u marks cells
+      → WorkAnswered marks cells r
+  unfolding checked_work
+  work_answered marks cells r e = (
+    e,
+    subst (PairTold (refusal (pair_order t u marks cells)) t u (kept_of marks (tips t))) (sym e)
+        (verdict_told (kept_of marks (tips t)) _ (work_number marks cells)),
+  )
+
   -- what a refused answer says
-  pub pair_refused : (r : Refusal) → PairAnswered (Err r)
+  pub pair_refused : (r : Refusal) → Err r ≡ checked_pair t u
       → (refusal (tables_order t u) ≡ refusal_number r) × (refusal_number r ≢ 0)
-  pair_refused r a = refused_says (tips t) _ r a.1
+  unfolding checked_pair
+  pair_refused r e = refused_says (tips t) _ r tables_number (sym e)
 
-  pub cells_refused : (cells : ℕ) (r : Refusal) → CellsAnswered cells (Err r)
+  pub cells_refused : (cells : ℕ) (r : Refusal) → Err r ≡ checked_cells t u cells
       → (refusal (cells_order t u cells) ≡ refusal_number r) × (refusal_number r ≢ 0)
-  cells_refused cells r a = refused_says (tips t) _ r a.1
+  unfolding checked_cells
+  cells_refused cells r e = refused_says (tips t) _ r (cells_number cells) (sym e)
 
-  pub work_refused : (marks : List ℕ) (cells : ℕ) (r : Refusal) → WorkAnswered marks cells (Err r)
+  pub work_refused : (marks : List ℕ) (cells : ℕ) (r : Refusal) → Err r ≡ checked_work t u marks cells
       → (refusal (pair_order t u marks cells) ≡ refusal_number r) × (refusal_number r ≢ 0)
-  work_refused marks cells r a = refused_says (kept_of marks (tips t)) _ r a.1
+  unfolding checked_work
+  work_refused marks cells r e = refused_says (kept_of marks (tips t)) _ r (work_number marks cells) (sym e)
 
   -- the number that is passed on from a refused answer
-  pub pair_passed : (r : Refusal) (number : ℕ) → PairAnswered (Err r) → number ≡ refusal_number r
-      → (number ≡ refusal (tables_order t u)) × (number ≢ 0)
-  pair_passed r number a n = let h = pair_refused r a in (n ∙ sym h.0, λ z. h.1 (sym n ∙ z))
+  pub pair_passed : (r : Refusal) (number : ℕ) (answer : CheckedPair) → answer ≡ checked_pair t u → answer ≡ Err r
+      → number ≡ pair_number answer → (number ≡ refusal (tables_order t u)) × (number ≢ 0)
+  unfolding checked_pair
+  pair_passed r number answer a e n = refusal_passed (tips t) _ r number answer tables_number a e n
 
-  pub cells_passed : (cells : ℕ) (r : Refusal) (number : ℕ) → CellsAnswered cells (Err r) → number ≡ refusal_number r
-      → (number ≡ refusal (cells_order t u cells)) × (number ≢ 0)
-  cells_passed cells r number a n = let h = cells_refused cells r a in (n ∙ sym h.0, λ z. h.1 (sym n ∙ z))
+  pub cells_passed : (cells : ℕ) (r : Refusal) (number : ℕ) (answer : CheckedPair) → answer ≡ checked_cells t u cells
+      → answer ≡ Err r → number ≡ pair_number answer → (number ≡ refusal (cells_order t u cells)) × (number ≢ 0)
+  unfolding checked_cells
+  cells_passed cells r number answer a e n = refusal_passed (tips t) _ r number answer (cells_number cells) a e n
 
-  pub work_passed : (marks : List ℕ) (cells : ℕ) (r : Refusal) (number : ℕ) → WorkAnswered marks cells (Err r)
-      → number ≡ refusal_number r → (number ≡ refusal (pair_order t u marks cells)) × (number ≢ 0)
-  work_passed marks cells r number a n = let h = work_refused marks cells r a in (n ∙ sym h.0, λ z. h.1 (sym n ∙ z))
+  pub work_passed : (marks : List ℕ) (cells : ℕ) (r : Refusal) (number : ℕ) (answer : CheckedPair)
+      → answer ≡ checked_work t u marks cells → answer ≡ Err r → number ≡ pair_number answer
+      → (number ≡ refusal (pair_order t u marks cells)) × (number ≢ 0)
+  unfolding checked_work
+  work_passed marks cells r number answer a e n =
+      refusal_passed (kept_of marks (tips t)) _ r number answer (work_number marks cells) a e n
 
   -- .. as `refusal_of` tells it
-  pub cells_told : (cells : ℕ) (answer : CheckedPair) (r : Refusal) (number : ℕ) → CellsAnswered cells answer → answer ≡ Err r
+  pub pair_told : (answer : CheckedPair) (r : Refusal) (number : ℕ) → answer ≡ checked_pair t u → answer ≡ Err r
       → MatchResult answer (λ _. number ≡ 0) (λ e. number ≡ refusal_number e)
+      → (number ≡ refusal (tables_order t u)) × (number ≢ 0)
+  pair_told answer r number a e m = pair_passed r number answer a e (number_is answer number m ∙ told_number answer)
+
+  pub cells_told : (cells : ℕ) (answer : CheckedPair) (r : Refusal) (number : ℕ) → answer ≡ checked_cells t u cells
+      → answer ≡ Err r → MatchResult answer (λ _. number ≡ 0) (λ e. number ≡ refusal_number e)
       → (number ≡ refusal (cells_order t u cells)) × (number ≢ 0)
   cells_told cells answer r number a e m =
-      cells_passed cells r number (rw e at a) (number_is answer number m ∙ ap pair_number e)
+      cells_passed cells r number answer a e (number_is answer number m ∙ told_number answer)
 
-  pub work_told : (marks : List ℕ) (cells : ℕ) (answer : CheckedPair) (r : Refusal) (number : ℕ) → WorkAnswered marks cells answer
-      → answer ≡ Err r → MatchResult answer (λ _. number ≡ 0) (λ e. number ≡ refusal_number e)
+  pub work_told : (marks : List ℕ) (cells : ℕ) (answer : CheckedPair) (r : Refusal) (number : ℕ)
+      → answer ≡ checked_work t u marks cells → answer ≡ Err r
+      → MatchResult answer (λ _. number ≡ 0) (λ e. number ≡ refusal_number e)
       → (number ≡ refusal (pair_order t u marks cells)) × (number ≢ 0)
   work_told marks cells answer r number a e m =
-      work_passed marks cells r number (rw e at a) (number_is answer number m ∙ ap pair_number e)
+      work_passed marks cells r number answer a e (number_is answer number m ∙ told_number answer)
 
 -- a tree table has an edge, and at most `nodes_most` nodes
 pub edges_some : (t : Table) → IsTree t → (2 ≤ nodes t) × (nodes t ≤ nodes_most)

@@ -1,6 +1,6 @@
 -- What the tree check's answer says of the table, and what it tells.
 -- Assumes nothing.
-use Rattle.std.specs.Prelude.{◌≡◌, refl, ◌≢◌, ℕ, zero, suc, Result, Ok, Err}
+use Rattle.std.specs.Prelude.{◌≡◌, refl, ◌≢◌, ℕ, zero, suc, Result, Ok, Err, MatchResult}
 use Rattle.std.proofs.Common.{sym, ◌∙◌, ap, subst, arith}
 use Rattle.tree_check.specs.declared.refusals.TableRefusal.{TableRefusal}
 use Rattle.tree_check.specs.declared.table.Tree.{Tree}
@@ -106,3 +106,14 @@ number_passed t r number e n = let h = checked-refusal t r (sym e) in (h.0 ∙ s
 pub refusal_passed : (t : Table) (answer : Checked) (r : TableRefusal) (number : ℕ) → answer ≡ checked t → answer ≡ Err r
     → number ≡ number_of answer → (refusal (tree_order t) ≡ number) × (number ≢ 0)
 refusal_passed t answer r number a e n = number_passed t r number (sym e ∙ a) (n ∙ ap number_of e)
+
+-- .. as `refusal_of` tells it
+pub number_told : (answer : Checked) (number : ℕ) → MatchResult answer (λ _. number ≡ 0) (λ r. number ≡ table_number r)
+    → number ≡ number_of answer
+number_told (Ok tree) number m = m
+number_told (Err r) number m = m
+
+pub table_told : (t : Table) (answer : Checked) (r : TableRefusal) (number : ℕ) → answer ≡ checked t → answer ≡ Err r
+    → MatchResult answer (λ _. number ≡ 0) (λ e. number ≡ table_number e)
+    → (refusal (tree_order t) ≡ number) × (number ≢ 0)
+table_told t answer r number a e m = refusal_passed t answer r number a e (number_told answer number m)

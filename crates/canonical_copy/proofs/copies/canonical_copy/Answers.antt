@@ -7,7 +7,7 @@ use Rattle.canonical_copy.proofs.lemmas.Outcomes.{tree_away, marks_away, few_awa
 use Rattle.canonical_copy.specs.lemmas.KeptCopy.{KeptTable}
 use Rattle.tree_check.specs.Table.{tips, nodes}
 use Rattle.tree_check.specs.IsTree.{IsTree}
-use Rattle.tree_check.specs.theorems.CheckLaws.{checked_accepted, number_passed}
+use Rattle.tree_check.specs.theorems.CheckLaws.{checked_accepted, table_told}
 use Rattle.tree_check.specs.theorems.NumberLaws.{passed_on}
 use Rattle.marks.specs.Marks.{kept_of, AreMarks}
 use Rattle.canonical_copy.proofs.copies.canonical_copy.Goals.{After-kept_copy-arg-1, In-Ok, In-Ok-check_marks}
@@ -19,7 +19,7 @@ use Rattle.canonical_copy.proofs.copies.canonical_copy.Goals as goal
 tree : (c : In-Ok)
     → let t = c.args.table.now in
     IsTree t × (c.in-Ok.tree.tips ≡ tips t) × (c.in-Ok.tree.nodes ≡ nodes t)
-tree c = checked_accepted _ _ (sym c.in-Ok.ensures.0)
+tree c = checked_accepted _ _ (sym c.check-answer.ensures.0 ∙ c.in-Ok.is)
 
 -- the marks are marks of its labels, and k of them are kept
 marked : (c : In-Ok-check_marks)
@@ -41,16 +41,16 @@ kept_table c =
       two = omega (arith, c.if-kept-lt2.false);
     }
 
-pub returns-in-Err : goal.returns-in-Err
-returns-in-Err c =
-    let h = number_passed _ _ _ c.in-Err.ensures.0 c.from.ensures in
+pub returns-in_default : goal.returns-in_default
+returns-in_default c =
+    let h = table_told _ _ _ _ c.check-answer.ensures.0 c.in_default.is c.refusal_of.ensures in
     rw c.refused.ensures (tree_away _ _ _ _ h.0 h.1)
 
-pub returns-in-Err-check_marks : goal.returns-in-Err-check_marks
-returns-in-Err-check_marks c =
-    let t = tree (goal.at.returns-in-Err-check_marks c).In-Ok in
-    let h = passed_on (marks_refused_by _ _ _ _ t.1 c.in-Err-check_marks.ensures) c.from-in-Err-check_marks.ensures in
-    rw c.refused-in-Err-check_marks.ensures (marks_away _ _ _ t.0 _ (sym h.0) h.1)
+pub returns-in-Err : goal.returns-in-Err
+returns-in-Err c =
+    let t = tree (goal.at.returns-in-Err c).In-Ok in
+    let h = passed_on (marks_refused_by _ _ _ _ t.1 c.in-Err.ensures) c.from.ensures in
+    rw c.refused-in-Err.ensures (marks_away _ _ _ t.0 _ (sym h.0) h.1)
 
 pub returns-then-kept-lt2 : goal.returns-then-kept-lt2
 returns-then-kept-lt2 c =

@@ -10,6 +10,10 @@ use Rattle.claims.specs.lemmas.SizeTerms.{size_low, next_term, node_is}
 use Rattle.claims.proofs.node_sums.node_term.Goals.{After-from-s, After-loop-size}
 use Rattle.claims.proofs.node_sums.node_term.Goals as goal
 
+-- all sizes are read
+all_read : (c : After-loop-size) → c.loop-size.size-index ≡ c.args.codes
+all_read c = prefix_read-all _ _ _ c.requires.inside c.loop-size.auto.size-index-end c.loop-size-test.false
+
 -- the size that is read
 read : (c : After-from-s)
     → (c.loop-size.size-index < c.args.codes)
@@ -17,10 +21,6 @@ read : (c : After-from-s)
 read c =
     let r = prefix_read _ _ _ c.requires.inside c.loop-size-test.true in
     (r.0, c.from-s.ensures ∙ r.1)
-
--- all sizes are read
-all_read : (c : After-loop-size) → c.loop-size.size-index ≡ c.args.codes
-all_read c = prefix_read-all _ _ _ c.requires.inside c.loop-size.auto.size-index-end c.loop-size-test.false
 
 pub line_sum-whole-requires : goal.line_sum-whole-requires
 line_sum-whole-requires c = sizes_line _ _ c.requires

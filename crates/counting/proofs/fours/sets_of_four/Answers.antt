@@ -1,11 +1,10 @@
--- No product wraps, and below four the formula is 0.
+-- No product wraps.
 -- Assumes nothing.
-use mathlib.Core.Path.{sym, ◌∙◌, ap}
+use mathlib.Core.Path.{ap}
 use Prim.Native.Nat.{ℕ, ◌*◌, ◌-◌, ◌≤◌}
 use native.Mathlib.Nat.{mul-le-mul}
 use native.Mathlib.Omega.{arith}
 use Rattle.sums.specs.Fours.{fours}
-use Rattle.sums.specs.theorems.FoursLaws.{fours_none}
 use Rattle.counting.proofs.fours.sets_of_four.Goals as goal
 
 -- the products of two, three and four numbers below 2^16
@@ -17,9 +16,6 @@ of_three n h = mul-le-mul {m₂ = 65533} (of_two n h) (omega (arith, h))
 
 of_four : (n : ℕ) → n ≤ 65535 → n * (n - 1) * (n - 2) * (n - 3) ≤ 18443929474263023640
 of_four n h = mul-le-mul {m₂ = 65532} (of_three n h) (omega (arith, h))
-
-pub returns-then-k-lt4 : goal.returns-then-k-lt4
-returns-then-k-lt4 c = sym (fours_none _ c.if-k-lt4.true)
 
 pub overflow_mul-result : goal.overflow_mul-result
 overflow_mul-result c = omega (arith, of_two c.from-n.result (omega (arith, c.from-n.ensures)))

@@ -4,7 +4,7 @@ use mathlib.Core.Path.{◌≡◌, sym, ◌∙◌}
 use native.Mathlib.Omega.{arith}
 use Rattle.tree_check.specs.Table.{tips, nodes}
 use Rattle.tree_check.specs.IsTree.{IsTree}
-use Rattle.tree_check.specs.theorems.CheckLaws.{checked_accepted, number_passed}
+use Rattle.tree_check.specs.theorems.CheckLaws.{checked_accepted, table_told}
 use Rattle.exchange_distances.specs.lemmas.FirstTally.{few_first, many_first}
 use Rattle.exchange_distances.specs.lemmas.Outcomes.{tallies_refused, tallies_told}
 use Rattle.exchange_distances.proofs.tallies.tally_exchanges.Goals.{In-Ok}
@@ -16,23 +16,23 @@ use Rattle.exchange_distances.proofs.tallies.tally_exchanges.Goals as goal
 tree : (c : In-Ok)
     → let t = c.args.table.now in
     IsTree t × (c.in-Ok.tree.tips ≡ tips t) × (c.in-Ok.tree.nodes ≡ nodes t)
-tree c = checked_accepted _ _ (sym c.in-Ok.ensures.0)
+tree c = checked_accepted _ _ (sym c.check-answer.ensures.0 ∙ c.in-Ok.is)
 
-pub returns-in-Err : goal.returns-in-Err
-returns-in-Err c =
-    let h = number_passed _ _ _ c.in-Err.ensures.0 c.from.ensures in
+pub returns-in_default : goal.returns-in_default
+returns-in_default c =
+    let h = table_told _ _ _ _ c.check-answer.ensures.0 c.in_default.is c.refusal_of.ensures in
     tallies_refused _ _ h.0 h.1
 
 pub all_first-requires : goal.all_first-requires
 all_first-requires c =
     let t = tree (goal.at.all_first-requires c).In-Ok in
-    omega (arith, c.from-then-tree-lt4.ensures, t.1, t.0.tips_range)
+    omega (arith, c.from.ensures, t.1, t.0.tips_range)
 
 pub returns-then-tree-lt4 : goal.returns-then-tree-lt4
 returns-then-tree-lt4 c =
     let t = tree (goal.at.returns-then-tree-lt4 c).In-Ok in
     tallies_told _ t.0 _ (c.all_first.ensures
-    ∙ few_first _ _ (c.from-then-tree-lt4.ensures ∙ t.1) (omega (arith, c.from-then-tree-lt4.ensures, c.if-tree-lt4.true)))
+    ∙ few_first _ _ (c.from.ensures ∙ t.1) (omega (arith, c.from.ensures, c.if-tree-lt4.true)))
 
 pub all_first-requires-then-tree-ge-LARGE : goal.all_first-requires-then-tree-ge-LARGE
 all_first-requires-then-tree-ge-LARGE c =

@@ -7,7 +7,7 @@ use Rattle.tree_check.specs.Table.{tips}
 use Rattle.marks.proofs.theorems.MarksCheck.{marks_check}
 use Rattle.marks.proofs.lemmas.MarkOutcomes.{marks_say, marks_refused_by}
 use Rattle.pair_check.specs.PairOrder.{IsPair}
-use Rattle.pair_check.specs.lemmas.PairOutcomes.{Tells, check_says, pair_passed}
+use Rattle.pair_check.specs.lemmas.PairOutcomes.{Tells, check_says, pair_told}
 use Rattle.kept_triplets.specs.lemmas.Formed.{sums_fit, counts_formed, tables_turned_away, marks_turned_away, counted, sized_of}
 use Rattle.kept_triplets.proofs.tables.kept_triplets.Goals.{In-Ok}
 use Rattle.kept_triplets.proofs.tables.kept_triplets.Goals as goal
@@ -17,18 +17,18 @@ use Rattle.kept_triplets.proofs.tables.kept_triplets.Goals as goal
 -- the tables are a pair
 told : (c : In-Ok) → let a = c.args in
     IsPair a.first.now a.second.now × Tells c.in-Ok.pair a.first.now a.second.now (tips a.first.now)
-told c = check_says _ _ _ (sym c.in-Ok.ensures.0)
+told c = check_says _ _ _ (sym c.check_pair-answer.ensures.0 ∙ c.in-Ok.is)
+
+pub returns-in_default : goal.returns-in_default
+returns-in_default c =
+    let h = pair_told _ _ _ _ _ c.check_pair-answer.ensures.0 c.in_default.is c.refusal_of.ensures in
+    c.refused.ensures ∙ tables_turned_away _ _ _ _ (sym h.0) h.1
 
 pub returns-in-Err : goal.returns-in-Err
 returns-in-Err c =
-    let h = pair_passed _ _ _ _ c.in-Err.ensures c.from.ensures in
-    c.refused.ensures ∙ tables_turned_away _ _ _ _ (sym h.0) h.1
-
-pub returns-in-Err-check_marks : goal.returns-in-Err-check_marks
-returns-in-Err-check_marks c =
-    let a = told (goal.at.returns-in-Err-check_marks c).In-Ok in
-    let h = passed_on (marks_refused_by _ _ _ _ a.1.tips c.in-Err-check_marks.ensures) c.from-in-Err-check_marks.ensures in
-    c.refused-in-Err-check_marks.ensures ∙ marks_turned_away _ _ _ a.0 _ (sym h.0) h.1
+    let a = told (goal.at.returns-in-Err c).In-Ok in
+    let h = passed_on (marks_refused_by _ _ _ _ a.1.tips c.in-Err.ensures) c.from.ensures in
+    c.refused-in-Err.ensures ∙ marks_turned_away _ _ _ a.0 _ (sym h.0) h.1
 
 pub overflow_add-m : goal.overflow_add-m
 overflow_add-m c = let a = told (goal.at.overflow_add-m c).In-Ok in omega (arith, a.1.rows, a.0.first.tips_range, a.0.first.nodes_range)
@@ -57,4 +57,4 @@ pub returns : goal.returns
 returns c =
     let a = told (goal.at.returns c).In-Ok in
     c.form_table.ensures ∙ counts_formed _ _ _ _ _ _ _ _ c.kept_sums-sums.ensures
-    ∙ counted _ _ _ a.0 ((marks_check _ _).1 (marks_say _ _ _ _ a.1.tips c.in_default.ensures).0)
+    ∙ counted _ _ _ a.0 ((marks_check _ _).1 (marks_say _ _ _ _ a.1.tips c.in_default-check_marks.ensures).0)

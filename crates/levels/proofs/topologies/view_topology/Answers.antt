@@ -1,10 +1,10 @@
 -- Each return is an outcome of the order: the tree, the levels, the labels.
 -- Assumes nothing.
-use mathlib.Core.Path.{◌≡◌, sym}
+use mathlib.Core.Path.{◌≡◌, sym, ◌∙◌}
 use Rattle.tree_check.specs.Table.{tips}
 use Rattle.tree_check.specs.Refusals.{refusal}
 use Rattle.tree_check.specs.IsTree.{IsTree}
-use Rattle.tree_check.specs.theorems.CheckLaws.{checked_accepted, number_passed}
+use Rattle.tree_check.specs.theorems.CheckLaws.{checked_accepted, table_told}
 use Rattle.levels.specs.Levels.{levels_order}
 use Rattle.levels.specs.lemmas.LevelOutcomes.{levels_say}
 use Rattle.levels.specs.lemmas.ViewOutcomes.{tree_away, levels_away, hidden_away, topology_passed}
@@ -18,7 +18,7 @@ use Rattle.levels.proofs.topologies.view_topology.Goals as goal
 tree : (c : After-check_levels-told)
     → let t = c.args.table.now in IsTree t × (c.in-Ok.tree.tips ≡ tips t)
 tree c =
-    let h = checked_accepted _ _ (sym c.in-Ok.ensures.0) in
+    let h = checked_accepted _ _ (sym c.check-answer.ensures.0 ∙ c.in-Ok.is) in
     (h.0, h.1)
 
 -- the levels are told
@@ -28,9 +28,9 @@ said : (c : After-check_levels-told)
     × (c.check_levels-told.result.refusal ≡ 0 → AreLevels s.levels.now s.viewer (tips s.table.now))
 said c = let h = levels_say _ _ _ _ (tree c).1 _ c.check_levels-told.ensures in (h.0, λ z. (h.1 z).0)
 
-pub returns-in-Err : goal.returns-in-Err
-returns-in-Err c =
-    let h = number_passed _ _ _ c.in-Err.ensures.0 c.from.ensures in
+pub returns-in_default : goal.returns-in_default
+returns-in_default c =
+    let h = table_told _ _ _ _ c.check-answer.ensures.0 c.in_default.is c.refusal_of.ensures in
     rw c.refused.ensures (tree_away _ _ _ _ _ _ _ _ h.0 h.1)
 
 pub returns-then-told-ne0 : goal.returns-then-told-ne0
@@ -39,7 +39,7 @@ returns-then-told-ne0 c =
 
 pub returns-then-some_hidden : goal.returns-then-some_hidden
 returns-then-some_hidden c =
-    rw (c.refused-then-some_hidden.ensures, c.from-then-some_hidden.ensures) (hidden_away _ _ _ _ _ _ _ (tree (goal.at.returns-then-some_hidden c).After-check_levels-told).0 ((said (goal.at.returns-then-some_hidden c).After-check_levels-told).1 c.if-told-ne0.false) _ c.some_hidden.ensures
+    rw (c.refused-then-some_hidden.ensures, c.from.ensures) (hidden_away _ _ _ _ _ _ _ (tree (goal.at.returns-then-some_hidden c).After-check_levels-told).0 ((said (goal.at.returns-then-some_hidden c).After-check_levels-told).1 c.if-told-ne0.false) _ c.some_hidden.ensures
     c.if-some_hidden.true)
 
 pub returns : goal.returns

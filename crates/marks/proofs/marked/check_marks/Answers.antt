@@ -7,11 +7,11 @@ use Rattle.marks.proofs.marked.check_marks.Goals as goal
 pub returns-then-marks-from : goal.returns-then-marks-from
 returns-then-marks-from c = marks_short _ _ (λ e. c.if-marks-from.true (e ∙ sym c.from.ensures))
 
-pub returns-then-has_wrong : goal.returns-then-has_wrong
-returns-then-has_wrong c =
-    marks_wrong _ _ (c.if-marks-from.false ∙ c.from.ensures) (sym c.has_wrong.ensures ∙ c.if-has_wrong.true)
+pub returns-then-wrong_marks-ne0 : goal.returns-then-wrong_marks-ne0
+returns-then-wrong_marks-ne0 c =
+    marks_wrong _ _ (c.if-marks-from.false ∙ c.from.ensures) _ c.wrong_marks.ensures c.if-wrong_marks-ne0.true
 
 pub returns : goal.returns
 returns c =
-    marks_right _ _ (c.if-marks-from.false ∙ c.from.ensures) (sym c.has_wrong.ensures ∙ c.if-has_wrong.false) _
+    marks_right _ _ (c.if-marks-from.false ∙ c.from.ensures) _ c.wrong_marks.ensures c.if-wrong_marks-ne0.false _
     c.kept_marks.ensures

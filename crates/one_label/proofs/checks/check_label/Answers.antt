@@ -27,7 +27,7 @@ marked c = marks_say _ _ _ _ (tables (goal.at.In_ok-kept c).In_ok-pair).1.tips c
 pub returns-in_err-pair : goal.returns-in_err-pair
 returns-in_err-pair c =
     let p = err_from_is_err_and c.from_residual.result c.from_residual.ensures.1 in
-    rw (p.1, p.2) (tables_turned _ _ _ _ _ (pair_refused _ _ _ c.in_err-pair.ensures))
+    rw (p.1, p.2) (tables_turned _ _ _ _ _ (pair_refused _ _ _ c.in_err-pair.ensures.0))
 
 pub returns-in_err-kept : goal.returns-in_err-kept
 returns-in_err-kept c =

@@ -19,7 +19,7 @@ tables c = check_says _ _ _ (sym c.in_ok-pair.ensures.0)
 pub returns-in_err-pair : goal.returns-in_err-pair
 returns-in_err-pair c =
     let p = err_from_is_err_and c.from_residual.result c.from_residual.ensures.1 in
-    let h = pair_refused _ _ _ c.in_err-pair.ensures in
+    let h = pair_refused _ _ _ c.in_err-pair.ensures.0 in
     rw (p.1, p.2) (cells_turned_away _ _ _ _ (tables_refused _ _ _ _ h.0 h.1))
 
 pub measured-requires : goal.measured-requires

@@ -7,7 +7,7 @@ use Rattle.table_words.specs.Sizes.{tips_most}
 use Rattle.tree_check.specs.Table.{tips}
 use Rattle.marks.proofs.theorems.Ones.{ones}
 use Rattle.pair_check.specs.PairOrder.{PairWithCells}
-use Rattle.pair_check.specs.lemmas.PairOutcomes.{cells_says, cells_passed}
+use Rattle.pair_check.specs.lemmas.PairOutcomes.{cells_says, cells_told}
 use Rattle.pair_file.specs.PairFile.{cells_lent}
 use Rattle.pair_file.specs.lemmas.PairFigures.{marks_lent, pair_refused, pair_accepted}
 use Rattle.pair_file.proofs.comparison.compare_tables.Goals.{After-from-n, In-Ok}
@@ -20,7 +20,7 @@ pair : (c : In-Ok)
     → let s = c.args in
     PairWithCells s.first.now s.second.now cells_lent × (c.in-Ok.pair.tips ≡ tips s.first.now)
 pair c =
-    let p = cells_says _ _ _ _ (sym c.in-Ok.ensures.0) in
+    let p = cells_says _ _ _ _ (sym c.check_cells-answer.ensures.0 ∙ c.in-Ok.is) in
     (p.0, p.1.tips)
 
 tips-few : (c : After-from-n) → c.from-n.result ≤ tips_most
@@ -30,9 +30,9 @@ tips-few c =
 
 -- ---- the needs
 
-pub returns-in-Err : goal.returns-in-Err
-returns-in-Err c =
-    let h = cells_passed _ _ _ _ _ c.in-Err.ensures c.from.ensures in
+pub returns-in_default : goal.returns-in_default
+returns-in_default c =
+    let h = cells_told _ _ _ _ _ _ c.check_cells-answer.ensures.0 c.in_default.is c.refusal_of.ensures in
     c.refused.ensures ∙ pair_refused _ _ _ h.0 h.1
 
 pub slice_bounds-marks-end : goal.slice_bounds-marks-end

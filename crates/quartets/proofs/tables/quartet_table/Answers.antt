@@ -24,7 +24,7 @@ pair c =
 
 pub returns-in_default : goal.returns-in_default
 returns-in_default c =
-    let h = work_told _ _ _ _ _ _ _ c.check_work-answer.ensures c.in_default.is c.refusal_of.ensures in
+    let h = work_told _ _ _ _ _ _ _ c.check_work-answer.ensures.0 c.in_default.is c.refusal_of.ensures in
     let r = table_refused _ _ _ _ _ h.0 h.1 in
     (r, answer_has _ _ _ _ _ r, crossings_refused _ _ _ _ _ h.0 h.1)
 

@@ -42,7 +42,7 @@ few c =
 pub returns-in_default : goal.returns-in_default
 returns-in_default c =
     let x = c.cross_pair-answer.ensures in
-    let h = work_told _ _ _ _ _ _ _ (x.0, x.1) c.in_default.is c.refusal_of.ensures in
+    let h = work_told _ _ _ _ _ _ _ x.0 c.in_default.is c.refusal_of.ensures in
     (split_refused _ _ _ _ _ h.0 h.1, x.2)
 
 pub overflow_add-m : goal.overflow_add-m

@@ -1,12 +1,12 @@
 -- The number of the tree, then its n.
 -- Assumes nothing.
-use mathlib.Core.Path.{sym}
+use mathlib.Core.Path.{sym, ◌∙◌}
 use Rattle.tree_check.specs.theorems.CheckLaws.{checked_accepted, checked-refusal}
 use Rattle.tree_lists.proofs.lemmas.Starts.{refused_wrong, tips_wrong}
 use Rattle.tree_lists.proofs.checked.is_wrong.Goals as goal
 
-pub returns-in-Ok : goal.returns-in-Ok
-returns-in-Ok c = let g = checked_accepted _ _ (sym c.in-Ok.ensures.0) in tips_wrong _ g.0 _ _ g.1
+pub returns-in_default : goal.returns-in_default
+returns-in_default c = let r = checked-refusal _ _ (sym c.check-answer.ensures.0 ∙ c.in_default.is) in refused_wrong _ _ _ r.0 r.1
 
-pub returns-in-Err : goal.returns-in-Err
-returns-in-Err c = let r = checked-refusal _ _ (sym c.in-Err.ensures.0) in refused_wrong _ _ _ r.0 r.1
+pub returns : goal.returns
+returns c = let g = checked_accepted _ _ (sym c.check-answer.ensures.0 ∙ c.in-Ok.is) in tips_wrong _ g.0 _ _ g.1

@@ -20,7 +20,7 @@ pub returns-in_err-pair : goal.returns-in_err-pair
 returns-in_err-pair c =
     let p = err_from_is_err_and c.from_residual.result c.from_residual.ensures.1 in
     let a = c.in_err-pair.ensures in
-    let h = cells_refused _ _ _ _ a in
+    let h = cells_refused _ _ _ _ a.0 in
     rw (p.1, p.2) (a.0, a.1, all_refused _ _ _ _ (sym h.0) h.1)
 
 pub returns : goal.returns

@@ -9,19 +9,19 @@ use Rattle.tree_pairs.proofs.lemmas.LentTables.{crossings_accepted, crossings_re
 use Rattle.tree_pairs.proofs.crosses.cross_pair.Goals.{In_ok-pair}
 use Rattle.tree_pairs.proofs.crosses.cross_pair.Goals as goal
 
+pub returns-in_err-pair : goal.returns-in_err-pair
+returns-in_err-pair c =
+    let p = err_from_is_err_and c.from_residual.result c.from_residual.ensures.1 in
+    let a = c.in_err-pair.ensures in
+    let h = work_refused _ _ _ _ _ a.0 in
+    rw (p.1, p.2) (a.0, a.1, crossings_refused _ _ _ _ _ (sym h.0) h.1)
+
 -- the two are a pair with marks, and with cells enough
 pair : (c : In_ok-pair) → MarkedPair c.args.first.now c.args.second.now c.args.marks.now (length c.args.work.now)
 pair c = (work_says _ _ _ _ _ (sym c.in_ok-pair.ensures.0)).0
 
 pub fill-requires : goal.fill-requires
 fill-requires c = (pair (goal.at.fill-requires c).In_ok-pair).with_cells
-
-pub returns-in_err-pair : goal.returns-in_err-pair
-returns-in_err-pair c =
-    let p = err_from_is_err_and c.from_residual.result c.from_residual.ensures.1 in
-    let a = c.in_err-pair.ensures in
-    let h = work_refused _ _ _ _ _ a in
-    rw (p.1, p.2) (a.0, a.1, crossings_refused _ _ _ _ _ (sym h.0) h.1)
 
 pub returns : goal.returns
 returns c =

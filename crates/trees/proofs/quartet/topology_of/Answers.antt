@@ -12,7 +12,7 @@ use Rattle.trees.specs.lemmas.Sides.{SidesAre}
 use Rattle.trees.specs.lemmas.RootedArrays.{RootedArrays, rooted_arrays}
 use Rattle.trees.specs.lemmas.TopologyOutcomes.{topology_refused, topology_asked_refused, topology_found}
 use Rattle.trees.specs.lemmas.TopologyOutcomes.{topology_told}
-use Rattle.tree_check.specs.theorems.CheckLaws.{checked_accepted, number_passed}
+use Rattle.tree_check.specs.theorems.CheckLaws.{checked_accepted, table_told}
 use Rattle.trees.proofs.quartet.topology_of.Goals.{After-from-m, In-Ok, After-asked_refusal-number}
 use Rattle.trees.proofs.quartet.topology_of.Goals as goal
 
@@ -22,14 +22,14 @@ use Rattle.trees.proofs.quartet.topology_of.Goals as goal
 tree : (c : In-Ok)
     → let t = c.args.table.now in
     IsTree t × (c.in-Ok.tree.tips ≡ tips t) × (c.in-Ok.tree.nodes ≡ nodes t)
-tree c = checked_accepted _ _ (sym c.in-Ok.ensures.0)
+tree c = checked_accepted _ _ (sym c.check-answer.ensures.0 ∙ c.in-Ok.is)
 
 -- what is known of the labels
 asked : (c : After-asked_refusal-number)
     → let s = c.args in
     refusal (asked_order (tips s.table.now) (s.a ∷ s.b ∷ s.c ∷ s.d ∷ [])) ≡ c.asked_refusal-number.result
 asked c =
-    let e = c.from-2.ensures ∙ (tree (goal.at.After-asked_refusal-number c).In-Ok).1 in
+    let e = c.from.ensures ∙ (tree (goal.at.After-asked_refusal-number c).In-Ok).1 in
     sym (rw e at c.asked_refusal-number.ensures)
 
 -- the same, with m as an as-index
@@ -40,9 +40,9 @@ table c =
     let g = tree (goal.at.After-from-m c).In-Ok in
     (g.0, c.from-m.ensures ∙ g.2)
 
-pub returns-in-Err : goal.returns-in-Err
-returns-in-Err c =
-    let r = number_passed _ _ _ c.in-Err.ensures.0 c.from.ensures in
+pub returns-in_default : goal.returns-in_default
+returns-in_default c =
+    let r = table_told _ _ _ _ c.check-answer.ensures.0 c.in_default.is c.refusal_of.ensures in
     topology_told _ _ _ _ _ _
     (sym (topology_refused _ _ _ _ _ _ r.0 r.1))
 

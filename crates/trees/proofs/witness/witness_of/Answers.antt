@@ -7,7 +7,7 @@ use Rattle.tree_check.specs.Table.{tips, nodes}
 use Rattle.tree_check.specs.lemmas.TableParts.{to_parts, of_parts}
 use Rattle.tree_check.specs.Refusals.{refusal}
 use Rattle.tree_check.specs.IsTree.{IsTree}
-use Rattle.tree_check.specs.theorems.CheckLaws.{checked_accepted, number_passed}
+use Rattle.tree_check.specs.theorems.CheckLaws.{checked_accepted, table_told}
 use Rattle.asked_labels.specs.LabelOrder.{asked_order}
 use Rattle.trees.specs.lemmas.RootedArrays.{RootedArrays, rooted_arrays}
 use Rattle.trees.specs.lemmas.Seen.{Seen, witness_refused, witness_asked_refused, witness_found, witness_told}
@@ -20,14 +20,14 @@ use Rattle.trees.proofs.witness.witness_of.Goals as goal
 tree : (c : In-Ok)
     → let t = c.args.table.now in
     IsTree t × (c.in-Ok.tree.tips ≡ tips t) × (c.in-Ok.tree.nodes ≡ nodes t)
-tree c = checked_accepted _ _ (sym c.in-Ok.ensures.0)
+tree c = checked_accepted _ _ (sym c.check-answer.ensures.0 ∙ c.in-Ok.is)
 
 -- what is known of the labels
 asked : (c : After-asked_refusal-number)
     → let s = c.args in
     refusal (asked_order (tips s.table.now) (s.a ∷ s.b ∷ s.c ∷ s.d ∷ [])) ≡ c.asked_refusal-number.result
 asked c =
-    let e = c.from-2.ensures ∙ (tree (goal.at.After-asked_refusal-number c).In-Ok).1 in
+    let e = c.from.ensures ∙ (tree (goal.at.After-asked_refusal-number c).In-Ok).1 in
     sym (rw e at c.asked_refusal-number.ensures)
 
 -- the same, with m as an as-index
@@ -38,9 +38,9 @@ table c =
     let g = tree (goal.at.After-from-m c).In-Ok in
     (g.0, c.from-m.ensures ∙ g.2)
 
-pub returns-in-Err : goal.returns-in-Err
-returns-in-Err c =
-    let r = number_passed _ _ _ c.in-Err.ensures.0 c.from.ensures in
+pub returns-in_default : goal.returns-in_default
+returns-in_default c =
+    let r = table_told _ _ _ _ c.check-answer.ensures.0 c.in_default.is c.refusal_of.ensures in
     witness_told _ _ _ _ _ _ (sym (witness_refused _ _ _ _ _ _ r.0 r.1))
 
 pub returns-then-number-ne0 : goal.returns-then-number-ne0

@@ -8,7 +8,7 @@ use Rattle.table_words.specs.Sizes.{tips_most}
 use Rattle.tree_check.specs.Table.{tips}
 use Rattle.tree_check.specs.Refusals.{refusal}
 use Rattle.pair_check.specs.PairOrder.{IsPair}
-use Rattle.pair_check.specs.lemmas.PairOutcomes.{pair_passed, check_says}
+use Rattle.pair_check.specs.lemmas.PairOutcomes.{pair_told, check_says}
 use Rattle.levels.specs.Levels.{is_visible, levels_order}
 use Rattle.levels.specs.theorems.LevelsCheck.{AreLevels}
 use Rattle.levels.specs.lemmas.LevelOutcomes.{levels_say}
@@ -24,7 +24,7 @@ pair : (c : After-check_levels-told)
     → let s = c.args in
     IsPair s.first.now s.second.now × (c.in-Ok.pair.tips ≡ tips s.first.now)
 pair c =
-    let h = check_says _ _ _ (sym c.in-Ok.ensures.0) in
+    let h = check_says _ _ _ (sym c.check_pair-answer.ensures.0 ∙ c.in-Ok.is) in
     (h.0, h.1.tips)
 
 -- the levels are told
@@ -47,9 +47,9 @@ few c = (pair (goal.at.After-marks_for-marks c).After-check_levels-told).0.first
 tips-are : (c : After-from-n) → c.from-n.result ≡ tips c.args.first.now
 tips-are c = c.from-n.ensures ∙ (pair (goal.at.After-from-n c).After-check_levels-told).1
 
-pub returns-in-Err : goal.returns-in-Err
-returns-in-Err c =
-    let h = pair_passed _ _ _ _ c.in-Err.ensures c.from.ensures in
+pub returns-in_default : goal.returns-in_default
+returns-in_default c =
+    let h = pair_told _ _ _ _ _ c.check_pair-answer.ensures.0 c.in_default.is c.refusal_of.ensures in
     rw c.refused.ensures (tables_away _ _ _ _ _ _ h.0 h.1)
 
 pub returns-then-told-ne0 : goal.returns-then-told-ne0
@@ -87,6 +87,6 @@ returns c =
     let em = marks_are _ _ _ (right (goal.at.returns c).After-marks_for-marks).long (few (goal.at.returns c).After-marks_for-marks) _ c.marks_for-marks.ensures _ (tips-are (goal.at.returns c).After-from-n) in
     accepted _ _ _ _ _ (pair (goal.at.returns c).After-check_levels-told).0 (right (goal.at.returns c).After-marks_for-marks) _ em _ c.quartet_table-table.ensures.0 c.quartet_table-table.ensures.1.number _
     c.quartet_table-table.ensures.2 c.if-table-ne0.false _ c.split_counts-splits.ensures.0 _ c.split_counts-splits.ensures.1
-    _ _ _ _ _ (c.from-2.ensures ∙ ((said (goal.at.returns c).After-check_levels-told).1 c.if-told-ne0.false).1)
-    c.from-3.ensures c.from-4.ensures c.from-5.ensures
-    c.from-6.ensures
+    _ _ _ _ _ (c.from.ensures ∙ ((said (goal.at.returns c).After-check_levels-told).1 c.if-told-ne0.false).1)
+    c.from-2.ensures c.from-3.ensures c.from-4.ensures
+    c.from-5.ensures

@@ -10,7 +10,7 @@ use Rattle.walks.specs.lemmas.TreeArrays.{TreeArrays, tree_arrays}
 use Rattle.walks.specs.lemmas.Positions.{placed}
 use Rattle.walks.specs.lemmas.WalkOutcomes.{edge_tree_refused, edge_missing, edge-walk_short, edge_accepted}
 use Rattle.walks.specs.lemmas.WalkOutcomes.{place_refused, place_accepted}
-use Rattle.tree_check.specs.theorems.CheckLaws.{checked_accepted, number_passed}
+use Rattle.tree_check.specs.theorems.CheckLaws.{checked_accepted, table_told}
 use Rattle.tree_check.specs.Refusals.{refusal}
 use Rattle.walks.proofs.edges.part_beyond.Goals.{After-from-m, After-no_edge, In-Ok}
 use Rattle.walks.proofs.edges.part_beyond.Goals as goal
@@ -21,7 +21,7 @@ use Rattle.walks.proofs.edges.part_beyond.Goals as goal
 accepted : (c : In-Ok)
     → let t = c.args.table.now in
     IsTree t × (c.in-Ok.tree.tips ≡ tips t) × (c.in-Ok.tree.nodes ≡ nodes t)
-accepted c = checked_accepted _ _ (sym c.in-Ok.ensures.0)
+accepted c = checked_accepted _ _ (sym c.check-answer.ensures.0 ∙ c.in-Ok.is)
 
 -- what the test of the edge tells
 told : (c : After-no_edge)
@@ -47,14 +47,14 @@ ready c =
       edge_accepted _ _ _ a.0 (told (goal.at.After-from-m c).After-no_edge ∙ c.if-no_edge.false) (omega (arith, c.if-cells-n.false, n)),
     )
 
-pub returns-in-Err : goal.returns-in-Err
-returns-in-Err c =
-    let h = number_passed _ _ _ c.in-Err.ensures.0 c.from.ensures in
+pub returns-in_default : goal.returns-in_default
+returns-in_default c =
+    let h = table_told _ _ _ _ c.check-answer.ensures.0 c.in_default.is c.refusal_of.ensures in
     place_refused _ _ _ _ (edge_tree_refused _ _ _ _ h.0 h.1) h.1
 
 pub returns-then-no_edge : goal.returns-then-no_edge
 returns-then-no_edge c =
-    rw c.from-then-no_edge.ensures
+    rw c.from.ensures
     (place_refused _ _ _ _ (edge_missing _ _ _ (accepted (goal.at.returns-then-no_edge c).In-Ok).0 (told (goal.at.returns-then-no_edge c).After-no_edge ∙ c.if-no_edge.true))
     (λ z. omega arith))
 

@@ -7,13 +7,13 @@ use Rattle.tree_check.specs.Table.{Table, tips, nodes, node_of}
 use Rattle.tree_check.specs.lemmas.TableParts.{table_of, rest, to_parts, of_parts, table_of-parts}
 use Rattle.tree_check.specs.lemmas.TableParts.{parents-length, labels_length}
 use Rattle.tree_check.specs.IsTree.{IsTree}
-use Rattle.tree_check.specs.theorems.CheckLaws.{checked_accepted, number_passed}
+use Rattle.tree_check.specs.theorems.CheckLaws.{checked_accepted, table_told}
 use Rattle.tree_check.specs.Refusals.{refusal}
 use Rattle.tree_check.specs.theorems.NumberLaws.{answered_ok}
 use Rattle.walks.specs.Spans.{lists_order, span_begin, span_end}
 use Rattle.walks.specs.lemmas.TreeArrays.{TreeArrays, tree_arrays}
 use Rattle.walks.specs.lemmas.SpanLists.{lists_passed, listed-all, spans_tree_refused, spans_too_short, spans_room, spans_filled}
-use Rattle.walks.proofs.span_lists.spans.Goals.{After-from-m, In_default}
+use Rattle.walks.proofs.span_lists.spans.Goals.{After-from-m, In_default-have_room}
 use Rattle.walks.proofs.span_lists.spans.Goals as goal
 
 -- ---- what is known there
@@ -26,20 +26,20 @@ record Known (c : After-from-m) : Type 0 where
 
 known : (c : After-from-m) → Known c
 known c =
-    let a = checked_accepted _ _ (sym c.in-Ok.ensures.0) in
+    let a = checked_accepted _ _ (sym c.check-answer.ensures.0 ∙ c.in-Ok.is) in
     record { tree = a.0; n_is = c.from-n.ensures ∙ a.1; m_is = c.from-m.ensures ∙ a.2 }
 
 -- the lists are long enough
-kept : (c : In_default)
+kept : (c : In_default-have_room)
     → 0 ≡ refusal (lists_order (length c.args.labelled.now) (length c.args.begin.now) (length c.args.end.now) c.from-n.result c.from-m.result)
-kept c = sym (answered_ok _ _ _ c.in_default.ensures).0
+kept c = sym (answered_ok _ _ _ c.in_default-have_room.ensures).0
 
-room : (c : In_default)
+room : (c : In_default-have_room)
     → (c.from-n.result ≤ length c.args.labelled.now)
     × (c.from-m.result ≤ length c.args.begin.now)
     × (c.from-m.result ≤ length c.args.end.now)
 room c =
-    let k = known (goal.at.In_default c).After-from-m in
+    let k = known (goal.at.In_default-have_room c).After-from-m in
     spans_room c.args.table.now c.args.labelled.now c.args.begin.now c.args.end.now _ k.tree _ _
     k.n_is k.m_is (kept c) refl
 
@@ -52,15 +52,15 @@ arrays c = let k = known c in to_parts TreeArrays _ _ _ k.tree.words k.n_is k.m_
 
 -- ---- the needs
 
-pub returns-in-Err-have_room : goal.returns-in-Err-have_room
-returns-in-Err-have_room c =
-    let k = known (goal.at.returns-in-Err-have_room c).After-from-m in
-    let h = lists_passed _ _ _ _ _ _ _ c.in-Err-have_room.ensures c.from-in-Err-have_room.ensures in
-    spans_too_short _ _ _ _ _ k.tree _ _ k.n_is k.m_is (sym h.0) h.1
-
 pub returns-in-Err : goal.returns-in-Err
 returns-in-Err c =
-    let h = number_passed _ _ _ c.in-Err.ensures.0 c.from.ensures in
+    let k = known (goal.at.returns-in-Err c).After-from-m in
+    let h = lists_passed _ _ _ _ _ _ _ c.in-Err.ensures c.from.ensures in
+    spans_too_short _ _ _ _ _ k.tree _ _ k.n_is k.m_is (sym h.0) h.1
+
+pub returns-in_default : goal.returns-in_default
+returns-in_default c =
+    let h = table_told _ _ _ _ c.check-answer.ensures.0 c.in_default.is c.refusal_of.ensures in
     spans_tree_refused _ _ _ _ _ h.0 h.1
 
 pub slice_bounds-list_nodes-count : goal.slice_bounds-list_nodes-count
@@ -74,7 +74,7 @@ list_nodes-requires c =
     let k = known (goal.at.list_nodes-requires c).After-from-m in (
       to_parts (λ n ps ls. length ls ≤ node_room) _ _ _ k.tree.words k.n_is k.m_is
           (let g = k.tree in omega (arith, labels_length _ g.words, g.tips_range, g.nodes_range)),
-      (room (goal.at.list_nodes-requires c).In_default).0,
+      (room (goal.at.list_nodes-requires c).In_default-have_room).0,
     )
 
 pub slice_bounds-list_spans-end : goal.slice_bounds-list_spans-end
@@ -89,7 +89,7 @@ slice_bounds-list_spans-start-2 c = let k = known (goal.at.slice_bounds-list_spa
 pub list_spans-requires : goal.list_spans-requires
 list_spans-requires c =
     let k = known (goal.at.list_spans-requires c).After-from-m in
-    let q = room (goal.at.list_spans-requires c).In_default in (
+    let q = room (goal.at.list_spans-requires c).In_default-have_room in (
       arrays (goal.at.list_spans-requires c).After-from-m,
       to_parts (λ n ps ls. length ps ≤ length c.args.begin.now) _ _ _ k.tree.words k.n_is k.m_is
           (omega (arith, parents-length _ k.tree.words, k.m_is, q.1)),
@@ -101,9 +101,9 @@ pub returns : goal.returns
 returns c =
     let k = known (goal.at.returns c).After-from-m in
     let parts = table_of-parts _ k.tree.words in
-    spans_filled _ _ _ _ _ k.tree _ _ k.n_is k.m_is (kept (goal.at.returns c).In_default) refl _ _ _
+    spans_filled _ _ _ _ _ k.tree _ _ k.n_is k.m_is (kept (goal.at.returns c).In_default-have_room) refl _ _ _
     (of_parts (λ n ps ls. c.list_nodes.new.labelled ≡ in_front n (node_of (table_of n ps ls)) c.args.labelled.now)
-    _ _ _ k.tree.words k.n_is k.m_is (listed-all _ _ _ (arrays (goal.at.returns c).After-from-m) _ _ (room (goal.at.returns c).In_default).0 c.list_nodes.ensures)
+    _ _ _ k.tree.words k.n_is k.m_is (listed-all _ _ _ (arrays (goal.at.returns c).After-from-m) _ _ (room (goal.at.returns c).In_default-have_room).0 c.list_nodes.ensures)
     ∙ ap (λ (t : Table). in_front (tips c.args.table.now) (node_of t) c.args.labelled.now) parts)
     (of_parts (λ n ps ls. c.list_spans.new.begin ≡ in_front (length ps) (span_begin (table_of n ps ls)) c.args.begin.now)
     _ _ _ k.tree.words k.n_is k.m_is c.list_spans.ensures.0

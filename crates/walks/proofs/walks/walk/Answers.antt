@@ -4,7 +4,7 @@ use Rattle.std.proofs.Common.{◌≡◌, sym, ap, ◌∙◌, arith}
 use Rattle.tree_check.specs.Table.{Table, tips, nodes}
 use Rattle.tree_check.specs.lemmas.TableParts.{table_of, to_parts, of_parts, table_of-parts}
 use Rattle.tree_check.specs.IsTree.{IsTree}
-use Rattle.tree_check.specs.theorems.CheckLaws.{checked_accepted, number_passed}
+use Rattle.tree_check.specs.theorems.CheckLaws.{checked_accepted, table_told}
 use Rattle.walks.specs.Walk.{walked}
 use Rattle.walks.specs.lemmas.TreeArrays.{TreeArrays, tree_arrays}
 use Rattle.walks.specs.lemmas.WalkOutcomes.{room_kept, room_passed, walk_tree_refused, walk_too_short, walk_accepted}
@@ -21,18 +21,18 @@ record Known (c : After-from-n) : Type 0 where
 
 known : (c : After-from-n) → Known c
 known c =
-    let a = checked_accepted _ _ (sym c.in-Ok.ensures.0) in
+    let a = checked_accepted _ _ (sym c.check-answer.ensures.0 ∙ c.in-Ok.is) in
     record { tree = a.0; n_is = c.from-n.ensures ∙ a.1; m_is = a.2 }
+
+pub returns-in_default : goal.returns-in_default
+returns-in_default c =
+    let h = table_told _ _ _ _ c.check-answer.ensures.0 c.in_default.is c.refusal_of.ensures in
+    walk_tree_refused _ _ _ h.0 h.1
 
 pub returns-in-Err : goal.returns-in-Err
 returns-in-Err c =
-    let h = number_passed _ _ _ c.in-Err.ensures.0 c.from.ensures in
-    walk_tree_refused _ _ _ h.0 h.1
-
-pub returns-in-Err-has_room : goal.returns-in-Err-has_room
-returns-in-Err-has_room c =
-    let k = known (goal.at.returns-in-Err-has_room c).After-from-n in
-    let h = room_passed _ _ _ _ (rw k.n_is at c.in-Err-has_room.ensures) c.from-in-Err-has_room.ensures in
+    let k = known (goal.at.returns-in-Err c).After-from-n in
+    let h = room_passed _ _ _ _ (rw k.n_is at c.in-Err.ensures) c.from.ensures in
     walk_too_short _ _ k.tree _ (sym h.0) h.1
 
 pub slice_bounds-write_walk-end : goal.slice_bounds-write_walk-end
@@ -48,14 +48,14 @@ pub write_walk-requires : goal.write_walk-requires
 write_walk-requires c =
     let k = known (goal.at.write_walk-requires c).After-from-n in (
       to_parts TreeArrays _ _ _ k.tree.words k.n_is (c.from-m.ensures ∙ k.m_is) (tree_arrays _ k.tree),
-      room_kept _ _ c.in_default.ensures,
+      room_kept _ _ c.in_default-has_room.ensures,
     )
 
 pub returns : goal.returns
 returns c =
     let k = known (goal.at.returns c).After-from-n in
     let cells = c.args.cells.now in
-    let w = walk_accepted _ cells k.tree (omega (arith, k.n_is, room_kept _ _ c.in_default.ensures)) in (
+    let w = walk_accepted _ cells k.tree (omega (arith, k.n_is, room_kept _ _ c.in_default-has_room.ensures)) in (
       w.0,
       of_parts (λ n ps ls. c.write_walk.new.cells ≡ walked (table_of n ps ls) cells)
           _ _ _ k.tree.words k.n_is (c.from-m.ensures ∙ k.m_is) c.write_walk.ensures
